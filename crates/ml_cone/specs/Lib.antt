@@ -1,0 +1,11 @@
+pub mod Plane
+pub mod Order
+pub mod Label
+pub mod View
+pub mod Overlap
+pub mod Range
+pub mod Choice
+pub mod Rivals
+pub mod Slots
+pub mod Sound
+pub mod Shown

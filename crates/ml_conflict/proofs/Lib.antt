@@ -1,0 +1,11 @@
+pub mod HalfLines
+pub mod Openness
+pub mod Beginnings
+pub mod Unions
+pub mod Greedy
+pub mod Limits
+pub mod Own
+pub mod Carried
+pub mod OwnSlots
+pub mod RivalLemmas
+pub mod Evaluating

@@ -1,0 +1,136 @@
+-- Limits: that they exist, and that the other label covers from them on.
+use Rattle.std.proofs.Common.{◌*◌, ◌↔◌, arith, inl, inr, Some}
+use Rattle.std.proofs.lemmas.Bool.{cases_lt}
+use Rattle.ml_ratio.specs.Fraction.{Fraction, value_of, IsLess, IsAtMost, IsSame}
+use Rattle.ml_cone.specs.Overlap.{Overlap}
+use Rattle.ml_cone.specs.Choice.{IsEnd, Allows, IsLimit, CoversFrom}
+use Rattle.ml_conflict.specs.Begin.{Begins, Clear, Covers, IsBlock}
+use Rattle.ml_cone.specs.declared.label.Label.{Label}
+use Rattle.ml_ratio.proofs.Fractions.{less_at_most, at_most_less, at_most_trans, middle, middle_above, middle_below}
+use Rattle.ml_ratio.proofs.Fractions.{greater_of, scale_above}
+use Rattle.ml_conflict.proofs.Greedy.{Allows-smaller}
+use Rattle.ml_conflict.proofs.Openness.{under_both, HasBeginning, overlap_begins}
+
+-- an end that is allowed, and from which on the other label covers, is the limit
+pub limit_of_covers : (low high : Label) (u f : Fraction) → IsEnd low f → Allows low high u f → (IsLess f (value_of low.max) → CoversFrom low high u f) → IsLimit low high u f
+unfolding Allows CoversFrom
+limit_of_covers low high u f is_end allowed covers =
+    record {
+      is_end = is_end;
+      allowed = allowed;
+      greatest = λ e e_end e_allowed.
+          elim (cases_lt (f.num * e.den) (e.num * f.den)) [
+            | inl less ↦
+                let w = covers (less_at_most f e (value_of low.max) less e_end.1) in
+                let m = under_both w.0 (Some e) in
+                let up : IsLess f m.0 = m.2 f w.1 less in
+                let s : Fraction = middle f m.0 in
+                let above : IsLess f s = middle_above f m.0 up in
+                let under = m.1 s (middle_below f m.0 up) in
+                let both = w.2 s above under.0 in
+                let from : IsAtMost (value_of low.min) s = (let k : IsLess (value_of low.min) s = at_most_less (value_of low.min) f s is_end.0 above in omega arith) in
+                absurd (e_allowed s (scale_above f s above) (from, under.1) both.0 both.1)
+            | inr more ↦ more
+          ];
+    }
+
+-- where both ranges begin at or above the bound, the bound is allowed
+pub apart_allows : (low high : Label) (u start bound : Fraction) → ((s : Fraction) → IsAtMost start s ↔ (IsAtMost (value_of low.min) s × IsAtMost (value_of high.min) s)) → IsAtMost bound start → Allows low high u bound
+unfolding Allows
+apart_allows low high u start bound from apart s scale a b o =
+    let m : IsAtMost start s = (from s).1 (a.0, b.0) in
+    let n : IsLess s start = less_at_most s bound start a.1 apart in
+    omega arith
+
+-- where the overlap begins, below a bound, is the limit; else the bound is allowed
+module _ (low high : Label) (u start bound f : Fraction) (from : (s : Fraction) → IsAtMost start s ↔ (IsAtMost (value_of low.min) s × IsAtMost (value_of high.min) s)) (within : IsAtMost bound (value_of low.max)) (b : Begins (λ s. Overlap low high s) start u bound f) where
+  pub begins_is_end : IsEnd low f
+  begins_is_end =
+      let k = (from start).0 (omega arith) in
+      (at_most_trans (value_of low.min) start f k.0 b.from, at_most_trans f bound (value_of low.max) b.to within)
+
+  pub begins_allows : Allows low high u f
+  unfolding Allows Clear
+  begins_allows s scale a c o = b.clear s scale ((from s).1 (a.0, c.0)) a.1 c.1 o
+
+  pub begins_covers : IsLess f bound → CoversFrom low high u f
+  unfolding CoversFrom Covers
+  begins_covers h =
+      let k = (from start).0 (omega arith) in
+      let w = b.covers h in (
+        w.0,
+        w.1,
+        λ s p q.
+            let r = w.2 s p q in
+            let from : IsAtMost (value_of high.min) f = at_most_trans (value_of high.min) start f k.1 b.from in
+            let less : IsLess (value_of high.min) s = at_most_less (value_of high.min) f s from p in
+            ((omega arith, r.0), r.1),
+      )
+
+  pub begins_block : IsBlock low high u bound f
+  begins_block =
+      record {
+        to = b.to;
+        limit = λ below. limit_of_covers low high u f begins_is_end begins_allows (λ _. begins_covers below);
+        allowed = λ le. Allows-smaller low high u u bound f (omega arith) le begins_allows;
+      }
+
+-- there is such an end
+pub limit_exists : (low high : Label) (u : Fraction) → (f : Fraction) × IsEnd low f × Allows low high u f × (IsLess f (value_of low.max) → CoversFrom low high u f)
+unfolding HasBeginning
+limit_exists low high u =
+    let start = greater_of (value_of low.min) (value_of high.min) in
+    let from : (s : Fraction) → IsAtMost start.0 s ↔ (IsAtMost (value_of low.min) s × IsAtMost (value_of high.min) s) =
+    λ s. (λ h. (at_most_trans (value_of low.min) start.0 s start.1 h, at_most_trans (value_of high.min) start.0 s start.2 h), λ h. start.3 s h.0 h.1) in
+    let range : IsLess (value_of low.min) (value_of low.max) = low.range in
+    elim (cases_lt ((value_of low.max).num * start.0.den) (start.0.num * (value_of low.max).den)) [
+      | inl apart ↦ (value_of low.max, (omega arith, omega arith), apart_allows low high u start.0 (value_of low.max) from (omega arith), λ h. absurd (omega arith))
+      | inr near ↦
+          let b = overlap_begins low high start.0 u (value_of low.max) near in
+          let within : IsAtMost (value_of low.max) (value_of low.max) = omega arith in
+          (b.0, begins_is_end low high u start.0 (value_of low.max) b.0 from within b.1, begins_allows low high u start.0 (value_of low.max) b.0 from within b.1, begins_covers low high u start.0 (value_of low.max) b.0 from within b.1)
+    ]
+
+-- just above a limit that lies below the maximum, the other label is active and overlaps
+pub covers_of_limit : (low high : Label) (u f : Fraction) → IsLimit low high u f → IsLess f (value_of low.max) → CoversFrom low high u f
+unfolding CoversFrom
+covers_of_limit low high u f limit below =
+    let g = limit_exists low high u in
+    let other = limit_of_covers low high u g.0 g.1 g.2 g.3 in
+    let one : IsAtMost f g.0 = other.greatest f limit.is_end limit.allowed in
+    let two : IsAtMost g.0 f = limit.greatest g.0 g.1 g.2 in
+    let w = g.3 (at_most_less g.0 f (value_of low.max) two below) in
+    (w.0, at_most_less f g.0 w.0 one w.1, λ s p q. w.2 s (at_most_less g.0 f s two p) q)
+
+-- a limit exists
+pub has_limit : (low high : Label) (u : Fraction) → (f : Fraction) × IsLimit low high u f
+has_limit low high u =
+    let g = limit_exists low high u in
+    (g.0, limit_of_covers low high u g.0 g.1 g.2 g.3)
+
+-- the same limit by another fraction of its value, and for another end of the other label of its value
+pub limit_same : (low high : Label) (u v f g : Fraction) → IsSame u v → IsSame f g → IsLimit low high u f → IsLimit low high v g
+limit_same low high u v f g same_u same_f limit =
+    record {
+      is_end = (at_most_trans (value_of low.min) f g limit.is_end.0 (omega arith), at_most_trans g f (value_of low.max) (omega arith) limit.is_end.1);
+      allowed = Allows-smaller low high u v g f (omega arith) (omega arith) limit.allowed;
+      greatest = λ e e_end e_allowed.
+          at_most_trans e f g (limit.greatest e e_end (Allows-smaller low high v u e e (omega arith) (omega arith) e_allowed)) (omega arith);
+    }
+
+pub block_same : (low high : Label) (u v bound f : Fraction) → IsSame u v → IsBlock low high u bound f → IsBlock low high v bound f
+block_same low high u v bound f same block =
+    record {
+      to = block.to;
+      limit = λ below. limit_same low high u v f f same (omega arith) (block.limit below);
+      allowed = λ le. Allows-smaller low high u v bound bound (omega arith) (omega arith) (block.allowed le);
+    }
+
+-- both ranges have begun, by other fractions of the same values
+pub start_from : (p q a b start : Fraction) → ((s : Fraction) → IsAtMost start s ↔ (IsAtMost a s × IsAtMost b s)) → ((s : Fraction) → IsAtMost a s ↔ IsAtMost p s) → ((s : Fraction) → IsAtMost b s ↔ IsAtMost q s) → (s : Fraction) → IsAtMost start s ↔ (IsAtMost p s × IsAtMost q s)
+start_from p q a b start both one two s =
+    (λ h. let k = (both s).0 h in ((one s).0 k.0, (two s).0 k.1), λ h. (both s).1 ((one s).1 h.0, (two s).1 h.1))
+
+-- the bound itself is the block
+pub block_none : (low high : Label) (u bound : Fraction) → Allows low high u bound → IsBlock low high u bound bound
+block_none low high u bound allowed = record { to = omega arith; limit = λ h. absurd (omega arith); allowed = λ _. allowed }

@@ -1,0 +1,47 @@
+-- The steps of the pass: each label in turn gets its own slot among the labels before it.
+use Rattle.std.proofs.Common.{◌≡◌, ℕ, ◌+◌, ◌<◌, ◌≤◌, List, [], ◌∷◌, ◌++◌, length, get_or, take, arith, refl, ap, ◌∙◌, sym, subst, inl, inr, length-append}
+use Rattle.std.proofs.lemmas.Bool.{cases_lt}
+use Rattle.std.proofs.lemmas.List.{take-append-le, take_all, get_or_default, get_or_push}
+use Rattle.std.proofs.Math.ListN.{get_or-append}
+use Rattle.ml_cone.specs.Slots.{Rival, IsOwnSlot, IsSlotAmong, AreSlots, rival_at, row, no_slot}
+use Rattle.ml_cone.specs.declared.label.Label.{Label}
+use Rattle.ml_cone.specs.declared.slot.Slot.{Slot}
+use Rattle.ml_conflict.proofs.Carried.{own_like}
+use Rattle.ml_conflict.proofs.OwnSlots.{AllOwn, slots_of_own}
+use Rattle.ml_pass.specs.Before.{rivals_from}
+use Rattle.ml_pass.proofs.RivalLemmas.{length-rivals, rival_is}
+
+-- the first i labels have their own slots
+pub record Assigned (labels : List Label) (i : ℕ) (slots : List Slot) : Type 0 where
+  pub one_each : length slots ≡ i
+  pub own : (d : Label) (k : ℕ) → k < i → IsOwnSlot (row (λ j. j) labels slots d) (λ j. j < k) (get_or labels k d) (get_or slots k no_slot)
+
+pub assigned_none : (labels : List Label) → Assigned labels 0 []
+assigned_none labels = record { one_each = refl; own = λ d k h. absurd (omega arith) }
+
+pub assigned_more : (labels : List Label) (i : ℕ) (slots : List Slot) (s : Slot) (b : Label) → i < length labels → Assigned labels i slots → IsSlotAmong (get_or labels i b) (rivals_from 0 labels slots) s → Assigned labels (i + 1) (slots ++ s ∷ [])
+assigned_more labels i slots s b in' so_far among =
+    let n : length slots ≡ i = so_far.one_each in
+    let count : length (rivals_from 0 labels slots) ≡ i = length-rivals 0 labels slots (omega arith) ∙ n in
+    let same_row : (d : Label) (j : ℕ) → j < i → row (λ j. j) labels slots d j ≡ row (λ j. j) labels (slots ++ s ∷ []) d j =
+    λ d j lt. ap (λ (t : Slot). let r : Rival = record { number = j; label = get_or labels j d; until = t.until } in r) (sym (get_or-append slots (s ∷ []) no_slot j (omega arith))) in
+    let last : get_or (slots ++ s ∷ []) i no_slot ≡ s = get_or_push slots s no_slot i n in
+    record {
+      one_each = length-append slots (s ∷ []) ∙ omega arith;
+      own = λ d k lt.
+          elim (cases_lt k i) [
+            | inl less ↦
+                rw (get_or-append slots (s ∷ []) no_slot k (omega arith))
+                (own_like (get_or labels k d) (row (λ j. j) labels slots d) (row (λ j. j) labels (slots ++ s ∷ []) d) (λ j. j < k) (λ j. j < k) (λ j h. (h, same_row d j (omega arith))) (λ j h. h) (get_or slots k no_slot) (so_far.own d k less))
+            | inr more ↦
+                let same : k ≡ i = omega arith in
+                rw (same, last, get_or_default labels i d b in')
+                (own_like (get_or labels i b) (rival_at (get_or labels i b) (rivals_from 0 labels slots)) (row (λ j. j) labels (slots ++ s ∷ []) d) (λ j. j < length (rivals_from 0 labels slots)) (λ j. j < i)
+                (λ j h. let l : j < i = omega arith in (l, rival_is 0 labels slots j _ d no_slot (omega arith) (omega arith) ∙ ap (λ (m : ℕ). let r : Rival = record { number = m; label = get_or labels j d; until = (get_or slots j no_slot).until } in r) (omega arith) ∙ same_row d j l))
+                (λ j h. omega arith) s among)
+          ];
+    }
+
+pub assigned_all : (labels : List Label) (i : ℕ) (slots : List Slot) → i ≡ length labels → Assigned labels i slots → AreSlots (λ j. j) labels slots
+assigned_all labels i slots e done =
+    slots_of_own (λ j. j) labels slots (record { one_slot = done.one_each ∙ e; own = λ d k in'. done.own d k (omega arith) })

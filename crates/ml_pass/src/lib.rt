@@ -1,0 +1,11 @@
+//! The choice of a whole list of labels in one pass, and the text files of labels and slots.
+//!
+//! - [`pass`]: the longest choice with its blockers ([`assign`]);
+//! - [`table`]: label tables ([`read_table`]), over [`row`]: one line of a table;
+//! - [`slots_text`]: the text of a choice ([`write_slots`]).
+#![tactic(auto)]
+
+pub mod before;
+pub mod pass;
+
+pub use pass::assign;

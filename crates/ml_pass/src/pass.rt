@@ -1,0 +1,48 @@
+//! The choice in one pass over the labels.
+ghost use Rattle.std.specs.Prelude.{◌≡◌, ◌≤◌, ◌<◌, length, IfOk};
+ghost use Rattle.ml_cone.specs.Slots.{AreSlots};
+
+use crate::before::Before;
+use ml_cone::{Label, Slot};
+use ml_conflict::evaluate;
+use ml_ratio::{Seq, Steps};
+use std::alloc::{AllocError, Global};
+use std::marker::Brand;
+use std::sync::ledger::{Blank, Ledger};
+
+/// The lexicographically longest conflict-free choice in the order of the labels, and each label's
+/// blocker; a blocker is given by its place.
+///
+/// # Errors
+/// Want of memory.
+pub fn assign(alloc: Global, labels: &[Label]) -> Result<Seq<Slot>, AllocError>
+    requires { length labels.now ≤ 32768 }
+    ensures { IfOk result (λ slots. AreSlots (λ j. j) labels.now slots) }
+{
+    assign_counted::<Brand>(alloc, labels, Blank::new(1))
+}
+
+// The same, with a counter of its own.
+fn assign_counted<L: Ledger>(
+    alloc: Global,
+    labels: &[Label],
+    blank: Blank,
+) -> Result<Seq<Slot>, AllocError>
+    requires few { length labels.now ≤ 32768 }
+    requires name { blank.name ≡ L.name }
+    requires parts { blank.parts ≡ L.parts }
+    requires some { 0 < blank.parts }
+    ensures { IfOk result (λ slots. AreSlots (λ j. j) labels.now slots) }
+{
+    let mut steps: Steps<L> = Steps::new(blank);
+    let mut slots = Vec::with_capacity(alloc, labels.len())?;
+    for label in labels {
+        let before = Before {
+            labels,
+            slots: &slots,
+        };
+        let slot = evaluate(label, &before, &mut steps);
+        slots.push(slot)?;
+    }
+    Ok(Seq::of_vec(slots))
+}

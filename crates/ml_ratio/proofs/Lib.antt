@@ -1,0 +1,4 @@
+pub mod Fractions
+pub mod Gauss
+pub mod LineLemmas
+pub mod Numbers
