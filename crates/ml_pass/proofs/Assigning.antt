@@ -1,13 +1,13 @@
 -- The steps of the pass: each label in turn gets its own slot among the labels before it.
-use Rattle.std.proofs.Common.{◌≡◌, ℕ, ◌+◌, ◌<◌, ◌≤◌, List, [], ◌∷◌, ◌++◌, length, get_or, take, arith, refl, ap, ◌∙◌, sym, subst, inl, inr, length-append}
+use Rattle.std.proofs.Common.{◌≡◌, ℕ, ◌+◌, ◌<◌, List, [], ◌∷◌, ◌++◌, length, get_or, arith, refl, ap, ◌∙◌, sym, inl, inr, length-append}
 use Rattle.std.proofs.lemmas.Bool.{cases_lt}
-use Rattle.std.proofs.lemmas.List.{take-append-le, take_all, get_or_default, get_or_push}
+use Rattle.std.proofs.lemmas.List.{get_or_default, get_or_push}
 use Rattle.std.proofs.Math.ListN.{get_or-append}
 use Rattle.ml_cone.specs.Slots.{Rival, IsOwnSlot, IsSlotAmong, AreSlots, rival_at, row, no_slot}
 use Rattle.ml_cone.specs.declared.label.Label.{Label}
 use Rattle.ml_cone.specs.declared.slot.Slot.{Slot}
 use Rattle.ml_conflict.proofs.Carried.{own_like}
-use Rattle.ml_conflict.proofs.OwnSlots.{AllOwn, slots_of_own}
+use Rattle.ml_conflict.proofs.OwnSlots.{slots_of_own}
 use Rattle.ml_pass.specs.Before.{rivals_from}
 use Rattle.ml_pass.proofs.RivalLemmas.{length-rivals, rival_is}
 

@@ -1,2 +1,5 @@
 pub mod RivalLemmas
 pub mod Assigning
+pub mod RowLemmas
+pub mod TableLemmas
+pub mod SlotLines

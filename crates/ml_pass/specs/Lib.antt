@@ -1,1 +1,4 @@
 pub mod Before
+pub mod Row
+pub mod Table
+pub mod SlotsText

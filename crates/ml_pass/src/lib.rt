@@ -6,6 +6,13 @@
 #![tactic(auto)]
 
 pub mod before;
+pub mod fault;
 pub mod pass;
+pub mod row;
+pub mod slots_text;
+pub mod table;
 
+pub use fault::TableFault;
 pub use pass::assign;
+pub use slots_text::write_slots;
+pub use table::read_table;

@@ -1,5 +1,5 @@
 use Rattle.std.proofs.Common.{arith}
-use Rattle.ml_pass.proofs.Assigning.{assigned_none, assigned_more, assigned_all}
+use Rattle.ml_pass.proofs.Assigning.{assigned_more, assigned_all}
 use Rattle.ml_pass.proofs.pass.assign_counted.Goals as goal
 
 pub loop-label-preserved : goal.loop-label-preserved
