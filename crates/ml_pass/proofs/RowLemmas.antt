@@ -11,6 +11,7 @@ use Rattle.ml_ratio.specs.Fraction.{Fraction, value_of, IsLess, IsAtMost, IsSame
 use Rattle.ml_ratio.specs.Lines.{parts}
 use Rattle.ml_ratio.specs.Number.{numeral, whole_number}
 use Rattle.ml_ratio.proofs.Numbers.{numeral_small}
+use Rattle.ml_ratio.proofs.Reading.{ratio_same}
 use Rattle.ml_ratio.specs.Ratio.{IsRatioOf, ReadsRatio}
 use Rattle.ml_ratio.specs.RatioText.{ratio_parts}
 use Rattle.ml_ratio.specs.declared.ratio.Ratio.{Ratio}
@@ -91,19 +92,6 @@ module _ {A B : Type 0} (R : A → B → Type 0) where
       let first : y ≡ z = one x y z h.0 k.0 in
       let rest : ys ≡ zs = zip_unique one xs ys zs h.1 k.1 in
       ap (λ (b : B). b ∷ ys) first ∙ ap (λ (bs : List B). z ∷ bs) rest
-
--- a text writes one fraction at most, by value
-same_by : (o : Option (ℕ × ℕ)) (r s : Ratio) → MatchOption o (Some r ≡ None) (λ p. IsRatioOf p.0 p.1 (Some r)) → MatchOption o (Some s ≡ None) (λ p. IsRatioOf p.0 p.1 (Some s)) → IsSame (value_of r) (value_of s)
-same_by None r s h k = absurd (cc)
-same_by (Some p) r s h k =
-    let one : r.num * p.1 ≡ p.0 * r.den = h.1 in
-    let two : s.num * p.1 ≡ p.0 * s.den = k.1 in
-    let left : r.num * p.1 * s.den ≡ p.0 * r.den * s.den = ap (λ (n : ℕ). n * s.den) one in
-    let right : s.num * p.1 * r.den ≡ p.0 * s.den * r.den = ap (λ (n : ℕ). n * r.den) two in
-    eq_of_mul-eq-mul_right p.1 h.0.positive (r.num * s.den) (s.num * r.den) (omega arith)
-
-pub ratio_same : (text : List ℕ) (r s : Ratio) → ReadsRatio text (Some r) → ReadsRatio text (Some s) → IsSame (value_of r) (value_of s)
-ratio_same text r s h k = same_by (ratio_parts text) r s h k
 
 -- a whole number that a text writes fits 64 bits
 minus_fits : (o : Option ℕ) (z : ℤ) → ((n : ℕ) → o ≡ Some n → n < 10 ^ 10) → option_map (λ n. neg_ℤ (pos n)) o ≡ Some z → FitsSigned w64 z

@@ -2,3 +2,4 @@ pub mod Fractions
 pub mod Gauss
 pub mod LineLemmas
 pub mod Numbers
+pub mod Reading
