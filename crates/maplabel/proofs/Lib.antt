@@ -1,0 +1,4 @@
+pub mod Answering
+pub mod Chosen
+pub mod NoFloats
+pub mod WordLemmas

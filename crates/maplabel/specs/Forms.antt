@@ -1,0 +1,33 @@
+-- The forms of words that the program takes.
+use Rattle.std.specs.Prelude.{◌≡◌, List, [], ◌∷◌, codes, Option, MatchOption, ◌⊎◌, ℕ}
+use Rattle.ml_cone.specs.declared.view.View.{View}
+use Rattle.ml_view.specs.Words.{WritesView}
+use Rattle.maplabel.specs.declared.command.Command.{Command}
+use Rattle.maplabel.specs.declared.command.Command.TheVariants.{Show, Slots}
+
+-- `show`, the name of a table, and the five words of a view
+pub record IsShow (words : List (List ℕ)) (table : List ℕ) (view : View) : Type 0 where
+  pub cx : List ℕ
+  pub cy : List ℕ
+  pub w : List ℕ
+  pub h : List ℕ
+  pub scale : List ℕ
+  pub are : words ≡ codes "show" ∷ table ∷ cx ∷ cy ∷ w ∷ h ∷ scale ∷ []
+  pub writes : WritesView cx cy w h scale view
+
+-- `slots` and the name of a table
+abbrev pub IsSlots : List (List ℕ) → List ℕ → Type 0
+IsSlots words table = words ≡ codes "slots" ∷ table ∷ []
+
+-- the words have one of the forms
+abbrev pub IsForm : List (List ℕ) → Type 0
+IsForm words = ((table : List ℕ) × (view : View) × IsShow words table view) ⊎ ((table : List ℕ) × IsSlots words table)
+
+-- the words give the command
+abbrev pub GiveCommand : List (List ℕ) → Command → Type 0
+GiveCommand words (Show table view) = IsShow words table.now view
+GiveCommand words (Slots table) = IsSlots words table.now
+
+-- the answer is the command that the words give, or none where they have none of the forms
+abbrev pub IsCommandOf : List (List ℕ) → Option Command → Type 0
+IsCommandOf words answer = MatchOption answer (¬ (IsForm words)) (GiveCommand words)

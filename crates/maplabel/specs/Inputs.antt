@@ -1,0 +1,54 @@
+-- The inputs of a command, and what stops it before they are read.
+use Rattle.std.specs.Prelude.{◌≡◌, ℕ, ◌++◌, List, Option, Some, codes, decimal}
+use Rattle.ml_io.specs.Causes.{Rose}
+use Rattle.ml_io.specs.Files.{FileSet, IsLoaded, IsTooLong}
+use Rattle.ml_cone.specs.declared.label.Label.{Label}
+use Rattle.ml_pass.specs.Table.{IsTable, IsTableFault}
+use Rattle.ml_pass.specs.declared.fault.TableFault.{TableFault}
+use Rattle.ml_pass.specs.declared.fault.TableFault.TheVariants.{BadLine, SameId, Full, Memory}
+use Rattle.maplabel.specs.declared.stop.Stop.{Stop}
+use Rattle.maplabel.specs.declared.stop.Stop.TheVariants as stop
+
+-- a file has at most 64 MiB
+abbrev pub most_bytes : ℕ
+most_bytes = 67108864
+
+-- the named file is a table of these labels
+abbrev pub HasTable : Option FileSet → List ℕ → List Label → Type 0
+HasTable told name labels = (bytes : List ℕ) × IsLoaded told name most_bytes bytes × IsTable bytes labels
+
+-- the line that says why a table is refused; there is none for want of memory
+abbrev pub IsTableLine : TableFault → List ℕ → Type 0
+IsTableLine (BadLine k) line = line ≡ codes "table refused: 1 BadLine " ++ (decimal k ++ codes "\n")
+IsTableLine (SameId k) line = line ≡ codes "table refused: 2 SameId " ++ (decimal k ++ codes "\n")
+IsTableLine Full line = line ≡ codes "table refused: 3 Full\n"
+IsTableLine Memory line = ⊥
+
+-- the stop tells a table's fault by its line, or want of memory
+abbrev pub IsTableRefusal : TableFault → Stop → Type 0
+IsTableRefusal fault stop.Usage = ⊥
+IsTableRefusal fault (stop.Refused line) = IsTableLine fault line
+IsTableRefusal fault stop.FileFault = ⊥
+IsTableRefusal fault stop.TooLong = ⊥
+IsTableRefusal fault stop.Memory = Unit {0}
+
+-- the named file is no table, as the line says
+abbrev pub IsNoTable : Option FileSet → List ℕ → List ℕ → Type 0
+IsNoTable told name line =
+    (bytes : List ℕ) × (fault : TableFault) × IsLoaded told name most_bytes bytes × IsTableFault bytes fault × IsTableLine fault line
+
+-- why the named file was not loaded, with the count of faults before and after and the name that failed last
+abbrev pub IsLoadStop : Option FileSet → ℕ → ℕ → Option (List ℕ) → List ℕ → Stop → Type 0
+IsLoadStop told before now failed name stop.Usage = ⊥
+IsLoadStop told before now failed name (stop.Refused line) = ⊥
+IsLoadStop told before now failed name stop.FileFault = Rose before now × (failed ≡ Some name)
+IsLoadStop told before now failed name stop.TooLong = IsTooLong told name most_bytes
+IsLoadStop told before now failed name stop.Memory = Unit {0}
+
+-- why the named table was not read
+abbrev pub IsTableStop : Option FileSet → ℕ → ℕ → Option (List ℕ) → List ℕ → Stop → Type 0
+IsTableStop told before now failed name stop.Usage = ⊥
+IsTableStop told before now failed name (stop.Refused line) = IsNoTable told name line
+IsTableStop told before now failed name stop.FileFault = Rose before now × (failed ≡ Some name)
+IsTableStop told before now failed name stop.TooLong = IsTooLong told name most_bytes
+IsTableStop told before now failed name stop.Memory = Unit {0}

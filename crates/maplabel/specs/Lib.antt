@@ -1,0 +1,6 @@
+pub mod Answers
+pub mod Codes
+pub mod Forms
+pub mod Inputs
+pub mod Outcome
+pub mod ViewText

@@ -1,0 +1,66 @@
+//! What the words after the program's name ask for.
+ghost use Rattle.std.specs.Prelude.{◌∷◌, [], map, string_bytes};
+ghost use Rattle.maplabel.specs.Forms.{IsCommandOf};
+
+use ml_cone::View;
+use ml_view::read_view;
+
+/// A command with its arguments.
+#[derive(Clone, Copy)]
+pub enum Command<'a> {
+    /// The view of a table's labels.
+    Show(&'a str, View),
+    /// The choice of a table's labels.
+    Slots(&'a str),
+}
+
+/// The command that the words give; none where they have none of the forms.
+pub fn read_command(words: &[String]) -> Option<Command<'_>>
+    ensures { IsCommandOf (map string_bytes words.now) result }
+{
+    match words {
+        [name, table] => slots_command(name.as_str(), table.as_str()),
+        [name, table, cx, cy, w, h, scale] => show_command(
+            name.as_str(),
+            table.as_str(),
+            cx.as_str(),
+            cy.as_str(),
+            w.as_str(),
+            h.as_str(),
+            scale.as_str(),
+        ),
+        _ => None,
+    }
+}
+
+// The command of two words.
+fn slots_command<'a>(name: &str, table: &'a str) -> Option<Command<'a>>
+    ensures { IsCommandOf (name.now ∷ table.now ∷ []) result }
+{
+    if name == "slots" {
+        Some(Command::Slots(table))
+    } else {
+        None
+    }
+}
+
+// The command of seven words.
+fn show_command<'a>(
+    name: &str,
+    table: &'a str,
+    cx: &str,
+    cy: &str,
+    w: &str,
+    h: &str,
+    scale: &str,
+) -> Option<Command<'a>>
+    ensures { IsCommandOf (name.now ∷ table.now ∷ cx.now ∷ cy.now ∷ w.now ∷ h.now ∷ scale.now ∷ []) result }
+{
+    if name != "show" {
+        return None;
+    }
+    match read_view(cx, cy, w, h, scale) {
+        Ok(view) => Some(Command::Show(table, view)),
+        Err(_place) => None,
+    }
+}

@@ -1,0 +1,69 @@
+//! The inputs of a command, loaded and read.
+ghost use Rattle.std.specs.Prelude.{◌≡◌, ◌≤◌, IfOk, IfErr, MatchResult, string_bytes};
+ghost use Rattle.ml_io.specs.Files.{IsLoaded};
+ghost use Rattle.maplabel.specs.declared.stop.Stop.TheVariants as stop;
+ghost use Rattle.maplabel.specs.Inputs.{most_bytes, HasTable, IsLoadStop, IsTableStop, IsTableRefusal};
+
+use crate::stop::Stop;
+use ml_cone::Label;
+use ml_io::{FileFault, Files};
+use ml_pass::{TableFault, read_table};
+use ml_ratio::Seq;
+use std::alloc::{AllocError, Global};
+
+// How many bytes a file may have: 64 MiB.
+const MOST_BYTES: u64 = 67_108_864;
+
+/// The labels of the table of this name.
+///
+/// # Errors
+/// `FileFault` and `TooLong` where its file is not loaded; `Refused` where it is no table; `Memory`.
+pub fn load_table<F: Files>(alloc: Global, files: &mut F, name: &str) -> Result<Seq<Label>, Stop>
+    ensures ok { IfOk result (λ labels. HasTable (F.told files.old) name.now labels) }
+    ensures stop { IfErr result (IsTableStop (F.told files.old) (F.faults files.old) (F.faults files.new) (F.failed_name files.new) name.now) }
+    ensures same { F.told files.new ≡ F.told files.old }
+    ensures later { F.faults files.old ≤ F.faults files.new }
+{
+    let bytes = load(alloc, files, name)?;
+    match read_table(alloc, &bytes) {
+        Ok(labels) => Ok(labels),
+        Err(fault) => Err(table_refusal(alloc, fault)),
+    }
+}
+
+// The bytes of the file of this name.
+fn load<F: Files>(alloc: Global, files: &mut F, name: &str) -> Result<Vec<u8>, Stop>
+    ensures ok { IfOk result (λ bytes. IsLoaded (F.told files.old) name.now most_bytes bytes.items) }
+    ensures stop { IfErr result (IsLoadStop (F.told files.old) (F.faults files.old) (F.faults files.new) (F.failed_name files.new) name.now) }
+    ensures same { F.told files.new ≡ F.told files.old }
+    ensures later { F.faults files.old ≤ F.faults files.new }
+{
+    match files.load(alloc, name, MOST_BYTES) {
+        Ok(bytes) => Ok(bytes),
+        Err(FileFault::Failed) => Err(Stop::FileFault),
+        Err(FileFault::TooLong) => Err(Stop::TooLong),
+        Err(FileFault::Memory) => Err(Stop::Memory),
+    }
+}
+
+// Why a table is refused, as a line.
+fn table_refusal(alloc: Global, fault: TableFault) -> Stop
+    ensures { IsTableRefusal fault result }
+{
+    match fault {
+        TableFault::BadLine(k) => refusal(format!(in alloc; "table refused: 1 BadLine {k}\n")),
+        TableFault::SameId(k) => refusal(format!(in alloc; "table refused: 2 SameId {k}\n")),
+        TableFault::Full => refusal(format!(in alloc; "table refused: 3 Full\n")),
+        TableFault::Memory => Stop::Memory,
+    }
+}
+
+// The line that refuses, if there was memory for it.
+fn refusal(line: Result<String, AllocError>) -> Stop
+    ensures { MatchResult line (λ line. result ≡ stop.Refused (string_bytes line)) (λ _. result ≡ stop.Memory) }
+{
+    match line {
+        Ok(line) => Stop::Refused(Seq::of_vec(line.into_bytes())),
+        Err(_error) => Stop::Memory,
+    }
+}

@@ -1,0 +1,47 @@
+//! The program `maplabel`: which names a zoomable map shows.
+//!
+//! - [`run`]: the top call ([`run`](run::run)); [`status`]: how it ends;
+//! - [`command`]: what the words ask for; [`answer`]: what they come to;
+//! - [`show`], [`slots`]: one module a command;
+//! - [`inputs`]: the files that a command needs; [`stop`]: what ends a command early;
+//! - [`view_text`]: the JSON text of a view.
+#![tactic(auto)]
+
+pub mod answer;
+pub mod command;
+pub mod inputs;
+pub mod run;
+pub mod show;
+pub mod slots;
+pub mod status;
+pub mod stop;
+pub mod view_text;
+
+use crate::run::run;
+use ml_io::{RealFiles, RealOutput};
+use std::process::ExitCode;
+use std::{env, io};
+
+// The words after the program's name.
+fn words_of(rt: &HostRuntime) -> io::Result<Vec<String>> {
+    let mut words = Vec::new(rt.alloc());
+    for word in env::args(rt)?.skip(1) {
+        words.push(word)?;
+    }
+    Ok(words)
+}
+
+fn main(rt: HostRuntime) -> ExitCode {
+    // Words that are no text are words of no form, and so are words that the runtime cannot give.
+    let words = match words_of(&rt) {
+        Ok(words) => words,
+        Err(_error) => Vec::new(rt.alloc()),
+    };
+    let mut files = RealFiles::new(&rt);
+    let mut out = RealOutput::new(rt.stdout());
+    let status = run(rt.alloc(), &words, &mut files, &mut out);
+    ExitCode::from(status.code())
+}
+
+#[cfg(test)]
+mod tests;

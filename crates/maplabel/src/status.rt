@@ -1,0 +1,40 @@
+//! How a run of the program ends.
+
+/// What a run came to.
+#[derive(Clone, Copy, Debug, PartialEq, Eq)]
+pub enum Status {
+    /// The command was done.
+    Done,
+    /// The words are none of the forms.
+    Usage,
+    /// The table is refused.
+    InputRefused,
+    /// A file is missing, or its reading failed.
+    FileFault,
+    /// Not all could be printed.
+    WriteFault,
+    /// Want of memory.
+    Memory,
+    /// A file is longer than 67,108,864 bytes.
+    TooLong,
+}
+
+impl Status {
+    ghost use Rattle.std.specs.Prelude.{◌≡◌};
+    ghost use Rattle.maplabel.specs.Codes.{code_of};
+
+    /// The exit code of the program.
+    pub fn code(&self) -> u8
+        ensures { result ≡ code_of self.now }
+    {
+        match self {
+            Status::Done => 0,
+            Status::Usage => 2,
+            Status::InputRefused => 4,
+            Status::FileFault => 5,
+            Status::WriteFault => 7,
+            Status::Memory => 9,
+            Status::TooLong => 10,
+        }
+    }
+}

@@ -1,0 +1,14 @@
+-- One more byte of a character.
+use Rattle.std.proofs.Common.{◌≡◌, ℕ, List, [], ◌∷◌, ◌++◌, true, Option, Some, None, sym, ◌∙◌, ap, subst, append_assoc, append-nil}
+use Rattle.std.specs.Str.{is_utf8, IsUtf8}
+use Rattle.std.proofs.lemmas.Str.{IsUtf8-from_is_utf8}
+use Rattle.ml_json.specs.Characters.{Tail, low, high, later, is_between, Follows, end, next}
+
+pub partial_more : (got new : List ℕ) (b : ℕ) (t : Tail) (o : Option Tail) → new ≡ got ++ b ∷ [] → is_between (low t) (high t) b ≡ true → later t ≡ o
+    → ((cs : List ℕ) → Follows (Some t) cs → is_utf8 (got ++ cs) ≡ true) → (cs : List ℕ) → Follows o cs → is_utf8 (new ++ cs) ≡ true
+partial_more got new b t o e h l whole cs f =
+    ap (λ x. is_utf8 (x ++ cs)) e ∙ ap is_utf8 (append_assoc got (b ∷ []) cs) ∙ whole (b ∷ cs) (next h (subst (λ q. Follows q cs) (sym l) f))
+
+pub partial_done : (got new : List ℕ) (b : ℕ) (t : Tail) → new ≡ got ++ b ∷ [] → is_between (low t) (high t) b ≡ true → later t ≡ None
+    → ((cs : List ℕ) → Follows (Some t) cs → is_utf8 (got ++ cs) ≡ true) → IsUtf8 new
+partial_done got new b t e h l whole = IsUtf8-from_is_utf8 new (ap is_utf8 (sym (append-nil new)) ∙ partial_more got new b t None e h l whole [] end)

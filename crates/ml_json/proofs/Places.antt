@@ -1,0 +1,86 @@
+-- What the reader knows behind each byte.
+use Rattle.std.proofs.Common.{◌≡◌, ℕ, ◌+◌, ◌<◌, ◌≤◌, inl, inr, List, [], ◌∷◌, length, take, get_or, Option, Some, None, refl, sym, ◌∙◌, ap, subst, arith, append-nil}
+use Rattle.std.proofs.lemmas.List.{take_more}
+use Rattle.std.proofs.Math.Seq.{take-length}
+use Rattle.std.proofs.lemmas.Bool.{cases_lt}
+use Rattle.ml_json.specs.Tree.{Tree}
+use Rattle.ml_json.specs.Grammar.{IsGood}
+use Rattle.ml_json.specs.Machine as m
+use Rattle.ml_json.specs.Machine.{Mode, Frame, State, step, finish, open_of}
+use Rattle.ml_json.proofs.Runs.{reach}
+use Rattle.ml_json.proofs.Runs.{reaches}
+use Rattle.ml_json.proofs.Runs.{run}
+use Rattle.ml_json.proofs.Runs.{goes}
+use Rattle.ml_json.specs.Depth.{depth, seen, IsShallow}
+use Rattle.ml_json.specs.Answer.{IsDeep, IsNotJson, IsText}
+use Rattle.ml_json.proofs.ValueRuns.{reads_runs}
+use Rattle.ml_json.proofs.RunsRead.{runs_reads}
+use Rattle.ml_json.proofs.Completions.{run_append, reach_append, reach_prefix, dead_prefix}
+use Rattle.ml_json.proofs.DepthRuns.{reach_depth}
+
+-- the bytes before the place lead to the state, and no 65th bracket was opened
+pub record Reached (bytes : List ℕ) (at : ℕ) (x : State) : Type 0 where
+  pub within : at ≤ length bytes
+  pub leads : reach (take at bytes) m.begin [] ≡ Some x
+  pub shallow : IsShallow bytes at
+
+then_none : (o : Option State) → reaches (λ n st. Some (n, st)) o ≡ o
+then_none None = refl
+then_none (Some x) = refl
+
+one_step : (b : ℕ) (o : Option State) → reaches (reach (b ∷ [])) o ≡ reaches (λ n st. step n st b) o
+unfolding reach
+one_step b None = refl
+one_step b (Some x) = then_none (step x.0 x.1 b)
+
+next_leads : (bytes : List ℕ) (at : ℕ) (x : State) → at < length bytes → reach (take at bytes) m.begin [] ≡ Some x → reach (take (at + 1) bytes) m.begin [] ≡ step x.0 x.1 (get_or bytes at 0)
+next_leads bytes at x h e =
+    ap (λ p. reach p m.begin []) (take_more bytes at 0 h) ∙ reach_append (take at bytes) (get_or bytes at 0 ∷ []) m.begin [] ∙ ap (reaches (reach (get_or bytes at 0 ∷ []))) e ∙ one_step (get_or bytes at 0) (Some x)
+
+shallow_more : (bytes : List ℕ) (at : ℕ) → IsShallow bytes at → depth (take (at + 1) bytes) ≤ 64 → IsShallow bytes (at + 1)
+shallow_more bytes at h d k le = elim (cases_lt k (at + 1)) [ inl less ↦ h k (omega arith) | inr more ↦ (let e : at + 1 ≡ k = omega arith in subst (λ n. depth (take n bytes) ≤ 64) e d) ]
+
+pub reached_start : (bytes : List ℕ) → Reached bytes 0 (m.begin, [])
+unfolding reach seen
+reached_start bytes = record { within = omega arith; leads = refl; shallow = λ k le. (let e : 0 ≡ k = omega arith in subst (λ n. depth (take n bytes) ≤ 64) e (omega arith)) }
+
+pub reached_more : (bytes : List ℕ) (at : ℕ) (x y : State) → at < length bytes → Reached bytes at x → step x.0 x.1 (get_or bytes at 0) ≡ Some y → open_of y.0 y.1 ≤ 64 → Reached bytes (at + 1) y
+reached_more bytes at x y h r s d =
+    let leads : reach (take (at + 1) bytes) m.begin [] ≡ Some y = next_leads bytes at x h r.leads ∙ s in
+    record { within = omega arith; leads = leads; shallow = shallow_more bytes at r.shallow (subst (λ n. n ≤ 64) (sym (reach_depth (take (at + 1) bytes) y leads)) d) }
+
+pub stops_here : (bytes : List ℕ) (at : ℕ) (x : State) → at < length bytes → Reached bytes at x → step x.0 x.1 (get_or bytes at 0) ≡ None → IsNotJson bytes at
+stops_here bytes at x h r s = record {
+  within = omega arith;
+  shallow = r.shallow;
+  begins = reach_prefix (take at bytes) x r.leads;
+  stops = inl (h, dead_prefix (take (at + 1) bytes) (next_leads bytes at x h r.leads ∙ s));
+}
+
+pub too_deep : (bytes : List ℕ) (at : ℕ) (x y : State) → at < length bytes → Reached bytes at x → step x.0 x.1 (get_or bytes at 0) ≡ Some y → open_of y.0 y.1 ≡ 65 → IsDeep bytes at
+too_deep bytes at x y h r s d =
+    let leads : reach (take (at + 1) bytes) m.begin [] ≡ Some y = next_leads bytes at x h r.leads ∙ s in
+    record { within = h; shallow = r.shallow; begins = reach_prefix (take (at + 1) bytes) y leads; opens = reach_depth (take (at + 1) bytes) y leads ∙ d }
+
+whole_run : (bytes : List ℕ) (x : State) → Reached bytes (length bytes) x → run bytes m.begin [] ≡ finish x.0 x.1
+unfolding run
+whole_run bytes x r =
+    let leads : reach bytes m.begin [] ≡ Some x = ap (λ p. reach p m.begin []) (sym (take-length bytes)) ∙ r.leads in
+    ap (λ p. run p m.begin []) (sym (append-nil bytes)) ∙ run_append bytes [] m.begin [] ∙ ap (goes (run [])) leads
+
+pub is_text : (bytes : List ℕ) (x : State) (t : Tree) → Reached bytes (length bytes) x → finish x.0 x.1 ≡ Some t → IsText bytes t
+is_text bytes x t r f = record { reads = runs_reads bytes t (whole_run bytes x r ∙ f); shallow = r.shallow }
+
+no_tree : (bytes : List ℕ) (x : State) → Reached bytes (length bytes) x → finish x.0 x.1 ≡ None → IsGood bytes → ⊥
+no_tree bytes x r f (v, reads) = let e = sym (reads_runs reads) ∙ whole_run bytes x r ∙ f in absurd (cc)
+
+pub ends_early : (bytes : List ℕ) (x : State) → Reached bytes (length bytes) x → finish x.0 x.1 ≡ None → IsNotJson bytes (length bytes)
+ends_early bytes x r f = record {
+  within = omega arith;
+  shallow = r.shallow;
+  begins = reach_prefix (take (length bytes) bytes) x r.leads;
+  stops = inr (refl, no_tree bytes x r f);
+}
+
+pub all_read : (bytes : List ℕ) (at : ℕ) (x : State) → Reached bytes at x → length bytes ≤ at → Reached bytes (length bytes) x
+all_read bytes at x r h = let within = r.within in let e : at ≡ length bytes = omega arith in subst (λ n. Reached bytes n x) e r

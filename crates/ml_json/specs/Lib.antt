@@ -1,0 +1,14 @@
+pub mod Tree
+pub mod Characters
+pub mod Numbers
+pub mod Strings
+pub mod Grammar
+pub mod Depth
+pub mod View
+pub mod Answer
+pub mod Decimal
+pub mod Fixed
+pub mod Canonical
+pub mod Machine
+pub mod Partial
+pub mod State

@@ -1,0 +1,68 @@
+-- A string as it is written, and the text that it stands for.
+use Rattle.std.specs.Prelude.{◌≡◌, ℕ, suc, ◌+◌, ◌-◌, ◌*◌, List, [], ◌∷◌, ◌++◌, Bool, true, false, cond, nat_lt, nat_le, ◌==◌, ◌&&◌, Option, Some, None}
+use Rattle.std.specs.Char.{encode_utf8}
+use Rattle.ml_json.specs.Characters.{is_between, Tail, lead, Follows}
+use Rattle.ml_json.specs.Numbers.{is_digit}
+
+-- a piece of a string: a character's bytes, or a 16-bit unit that was written as \u and four digits
+pub data Piece : Type 0 where
+  char : List ℕ → Piece
+  unit : ℕ → Piece
+
+-- the character that a byte behind a backslash stands for
+abbrev pub escaped : ℕ → Option ℕ
+escaped b = cond (b == 34) (Some 34) (cond (b == 92) (Some 92) (cond (b == 47) (Some 47) (cond (b == 98) (Some 8)
+    (cond (b == 102) (Some 12) (cond (b == 110) (Some 10) (cond (b == 114) (Some 13) (cond (b == 116) (Some 9) None)))))))
+
+-- the value of a hexadecimal digit
+abbrev pub hex_digit : ℕ → Option ℕ
+hex_digit b = cond (is_digit b) (Some (b - 48)) (cond (is_between 65 70 b) (Some (b - 55)) (cond (is_between 97 102 b) (Some (b - 87)) None))
+
+-- whether an ASCII byte stands for itself in a string: no control character, no quote, no backslash
+abbrev pub is_plain : ℕ → Bool
+is_plain b = nat_le 32 b && (nat_lt b 128 && (cond (b == 34) false (cond (b == 92) false true)))
+
+-- so many more hexadecimal digits behind the number so far make the unit
+pub data Hex : ℕ → ℕ → ℕ → List ℕ → List ℕ → Type 0 where
+  no_hex : {a : ℕ} {r : List ℕ} → Hex 0 a a r r
+  hex : {n a b d u : ℕ} {s r : List ℕ} → hex_digit b ≡ Some d → Hex n (16 * a + d) u s r → Hex (suc n) a u (b ∷ s) r
+
+-- the bytes behind an opening quote begin with these pieces and a closing quote, and the rest follows
+pub data Written : List Piece → List ℕ → List ℕ → Type 0 where
+  quote : {r : List ℕ} → Written [] (34 ∷ r) r
+  plain : {b : ℕ} {us : List Piece} {s r : List ℕ} → is_plain b ≡ true → Written us s r → Written (char (b ∷ []) ∷ us) (b ∷ s) r
+  longer : {a : ℕ} {t : Tail} {bs : List ℕ} {us : List Piece} {s x r : List ℕ} → lead a ≡ Some t → Follows (Some t) bs → x ≡ bs ++ s → Written us s r → Written (char (a ∷ bs) ∷ us) (a ∷ x) r
+  short : {e b : ℕ} {us : List Piece} {s r : List ℕ} → escaped e ≡ Some b → Written us s r → Written (char (b ∷ []) ∷ us) (92 ∷ e ∷ s) r
+  code : {u : ℕ} {us : List Piece} {x s r : List ℕ} → Hex 4 0 u x s → Written us s r → Written (unit u ∷ us) (92 ∷ 117 ∷ x) r
+
+-- the first half of a surrogate pair
+abbrev pub is_high : ℕ → Bool
+is_high u = is_between 0xD800 0xDBFF u
+
+-- the second half of a surrogate pair
+abbrev pub is_low : ℕ → Bool
+is_low u = is_between 0xDC00 0xDFFF u
+
+-- U+FFFD, which stands for half a pair
+abbrev pub replacement : List ℕ
+replacement = 0xEF ∷ 0xBF ∷ 0xBD ∷ []
+
+-- the text of a unit that is no first half
+abbrev pub single : ℕ → List ℕ
+single u = cond (is_low u) replacement (encode_utf8 u)
+
+-- the character of a surrogate pair
+abbrev pub both : ℕ → ℕ → List ℕ
+both h l = encode_utf8 (0x10000 + ((h - 0xD800) * 1024 + (l - 0xDC00)))
+
+-- the text of a first half that no second half follows
+abbrev pub lone : Option ℕ → List ℕ
+lone None = []
+lone (Some h) = replacement
+
+-- the text of the pieces, where a first half stands just before them or not
+abbrev pub text_of : Option ℕ → List Piece → List ℕ
+text_of p [] = lone p
+text_of p (char bs ∷ us) = lone p ++ (bs ++ text_of None us)
+text_of None (unit u ∷ us) = cond (is_high u) (text_of (Some u) us) (single u ++ text_of None us)
+text_of (Some h) (unit u ∷ us) = cond (is_high u) (replacement ++ text_of (Some u) us) (cond (is_low u) (both h u ++ text_of None us) (replacement ++ (single u ++ text_of None us)))

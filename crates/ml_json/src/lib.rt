@@ -1,0 +1,36 @@
+//! JSON (RFC 8259) as exact texts: a reader that says where a text stops being one, a writer of the
+//! canonical text, and numbers of any size in fixed decimals.
+//!
+//! - [`value`]: a JSON value, and why bytes are refused;
+//! - [`reader`]: bytes to a value;
+//! - [`writer`]: a value to its canonical text;
+//! - [`decimal`]: what a number's text is worth, as a coordinate and as a whole part;
+//! - [`fixed`]: coordinates as numbers' texts.
+//!
+//! The reader takes one byte at a time: its [`state`], one [`machine`] step, [`brackets`] of lists and
+//! maps, [`members`] of maps, [`tokens`], [`strings`] with their 16-bit [`units`] and [`utf8`]
+//! characters, of which a [`tail`] may still be to come.
+#![tactic(auto)]
+
+mod brackets;
+pub mod decimal;
+pub mod fixed;
+mod machine;
+mod members;
+pub mod reader;
+mod state;
+mod strings;
+mod tail;
+#[cfg(test)]
+mod tests;
+mod tokens;
+mod units;
+mod utf8;
+pub mod value;
+pub mod writer;
+
+pub use decimal::{e7, whole_part};
+pub use fixed::write_e7;
+pub use reader::read;
+pub use value::{Json, JsonFault, Pair};
+pub use writer::write;

@@ -1,0 +1,48 @@
+//! One step of the reader.
+ghost use Rattle.std.specs.Prelude.{◌≤◌};
+ghost use Rattle.ml_json.specs.Machine.{open_of, step as spec_step};
+ghost use Rattle.ml_json.specs.State.{Steps, mode_of, frames_of};
+
+use crate::brackets::{after_next, first_next, value_next};
+use crate::members::{colon_next, first_key_next, key_next};
+use crate::state::{Frame, Mode, Stop};
+use crate::strings::{bytes_next, escape_next, hex_next, text_next};
+use crate::tokens::{number_next, word_next};
+use std::alloc::Global;
+
+/// The mode behind one byte more, and the lists and maps that are open then.
+#[tactic(auto, using(crate::proofs::FrameLemmas::frames_length), unfolding(crate::specs::Machine::open_of, crate::specs::Machine::step))]
+pub fn step(alloc: Global, frames: &mut Vec<Frame>, mode: Mode, byte: u8) -> Result<Mode, Stop>
+    requires { open_of (mode_of mode) (frames_of frames.old.items) ≤ 64 }
+    ensures { Steps result frames.new.items (spec_step (mode_of mode) (frames_of frames.old.items) byte) }
+{
+    match mode {
+        Mode::Begin => if byte == 0xEF {
+            Ok(Mode::MarkTwo)
+        } else {
+            value_next(alloc, frames, byte)
+        },
+        Mode::MarkTwo => if byte == 0xBB {
+            Ok(Mode::MarkOne)
+        } else {
+            Err(Stop::NotJson)
+        },
+        Mode::MarkOne => if byte == 0xBF {
+            Ok(Mode::Value)
+        } else {
+            Err(Stop::NotJson)
+        },
+        Mode::Value => value_next(alloc, frames, byte),
+        Mode::First => first_next(alloc, frames, byte),
+        Mode::FirstKey => first_key_next(alloc, byte),
+        Mode::Key(members) => key_next(alloc, members, byte),
+        Mode::Colon(members, key) => colon_next(members, key, frames, byte),
+        Mode::After(value) => after_next(alloc, frames, value, byte),
+        Mode::Text(text) => text_next(alloc, text, byte),
+        Mode::Escape(text) => escape_next(text, byte),
+        Mode::Hex(text, code) => hex_next(text, code, byte),
+        Mode::Bytes(text, partial) => bytes_next(text, partial, byte),
+        Mode::Number(part, text) => number_next(alloc, frames, part, text, byte),
+        Mode::Word(word) => word_next(word, byte),
+    }
+}

@@ -1,0 +1,93 @@
+//! Steps between a map's members, and the members in byte order of their keys.
+ghost use Rattle.std.specs.Prelude.{◌≡◌, ◌<◌, length, OnOk, IfOk};
+ghost use Rattle.ml_json.specs.Machine.{key_step, first_key_step, colon_step};
+ghost use Rattle.ml_json.specs.State.{Goes, Steps, frames_of};
+ghost use Rattle.ml_json.specs.Tree.{put};
+ghost use Rattle.ml_json.specs.View.{tree_of, pairs_view};
+ghost use Rattle.ml_json.specs.State.{entries_view};
+
+use crate::brackets::is_space;
+use crate::state::{Frame, Mode, Open, Owner, Stop};
+use crate::value::{Json, Pair};
+use ml_ratio::Text;
+use std::alloc::{AllocError, Global};
+use std::collections::BTreeMap;
+
+/// The mode behind a byte between a comma and a key.
+pub fn key_next(alloc: Global, members: BTreeMap<Text, Json>, byte: u8) -> Result<Mode, Stop>
+    ensures { Goes result (λ st. key_step (entries_view members.entries) st byte) }
+{
+    if is_space(byte) {
+        return Ok(Mode::Key(members));
+    }
+    if byte == b'"' {
+        return Ok(Mode::Text(Open {
+            owner: Owner::Key(members),
+            half: None,
+            text: String::new(alloc),
+        }));
+    }
+    Err(Stop::NotJson)
+}
+
+/// The mode behind a byte between a map's brace and its first key or its end.
+pub fn first_key_next(alloc: Global, byte: u8) -> Result<Mode, Stop>
+    ensures { Goes result (λ st. first_key_step st byte) }
+{
+    if is_space(byte) {
+        return Ok(Mode::FirstKey);
+    }
+    match byte {
+        b'}' => Ok(Mode::After(Json::Map(Vec::new(alloc)))),
+        b'"' => Ok(Mode::Text(Open {
+            owner: Owner::Key(BTreeMap::new(alloc)),
+            half: None,
+            text: String::new(alloc),
+        })),
+        _ => Err(Stop::NotJson),
+    }
+}
+
+/// The mode behind a byte between a key and its colon.
+#[tactic(auto, using(crate::proofs::FrameLemmas::frames_length), unfolding(crate::specs::Machine::open_of))]
+pub fn colon_next(
+    members: BTreeMap<Text, Json>,
+    key: Text,
+    frames: &mut Vec<Frame>,
+    byte: u8,
+) -> Result<Mode, Stop>
+    requires { length frames.old.items < 64 }
+    ensures { Steps result frames.new.items (colon_step (entries_view members.entries) key (frames_of frames.old.items) byte) }
+{
+    if is_space(byte) {
+        return Ok(Mode::Colon(members, key));
+    }
+    if byte != b':' {
+        return Err(Stop::NotJson);
+    }
+    frames.push(Frame::Map(members, key))?;
+    Ok(Mode::Value)
+}
+
+/// Puts the value at its key, in place of one that was there.
+pub fn put_member(
+    members: &mut BTreeMap<Text, Json>,
+    key: Text,
+    value: Json,
+) -> Result<(), AllocError>
+    ensures { OnOk result (entries_view members.new.entries ≡ put key (tree_of value) (entries_view members.old.entries)) }
+{
+    let _replaced = members.insert(key, value)?;
+    Ok(())
+}
+
+/// The members as pairs, in order.
+pub fn pairs_of(alloc: Global, members: BTreeMap<Text, Json>) -> Result<Vec<Pair>, AllocError>
+    ensures { IfOk result (λ pairs. pairs_view pairs.items ≡ entries_view members.entries) }
+{
+    let mut pairs = Vec::with_capacity(alloc, members.len())?;
+    for (key, value) in members {
+        pairs.push(Pair { key, value })?;
+    }
+    Ok(pairs)
+}

@@ -1,0 +1,72 @@
+//! Bytes to a value.
+ghost use Rattle.std.specs.Prelude.{◌≡◌, ℕ, IfOk, option_map};
+ghost use Rattle.ml_json.specs.Tree.{Tree};
+ghost use Rattle.ml_json.specs.Machine.{finish as spec_finish};
+ghost use Rattle.ml_json.specs.State.{mode_of, frames_of};
+ghost use Rattle.ml_json.specs.View.{tree_of};
+ghost use Rattle.ml_json.specs.Canonical.{IsWritable};
+ghost use Rattle.ml_json.specs.Answer.{Answers, IsText, IsNotJson, IsDeep, GivesTree, RefusesExactly};
+
+use crate::machine::step;
+use crate::state::{Frame, Mode, Stop};
+use crate::tokens::may_end;
+use crate::value::{Json, JsonFault};
+use ml_ratio::Text;
+use std::alloc::Global;
+
+/// The value, where the bytes may end here.
+fn finish(frames: Vec<Frame>, mode: Mode) -> Option<Json>
+    ensures { option_map tree_of result ≡ spec_finish (mode_of mode) (frames_of frames.items) }
+{
+    if !frames.is_empty() {
+        return None;
+    }
+    match mode {
+        Mode::After(value) => Some(value),
+        Mode::Number(part, text) => if may_end(part) {
+            Some(Json::Num(Text::of_string(text)))
+        } else {
+            None
+        },
+        _ => None,
+    }
+}
+
+/// Reads JSON text (RFC 8259) in UTF-8, of at most 64 lists and maps within one another.
+///
+/// The three bytes EF BB BF may stand before it. A number is kept as its text. An escaped surrogate
+/// that has no other half is U+FFFD. Of equal keys of a map, compared once their escapes are read,
+/// the last one's value is kept. Time is linear in the bytes, but for keys, which are sorted.
+///
+/// # Errors
+/// [`JsonFault::NotJson`] at the first byte with which no text begins, or at the end of bytes that are
+/// none; [`JsonFault::Deep`] at the byte that opens a 65th list or map; want of memory.
+pub fn read(alloc: Global, bytes: &[u8]) -> Result<Json, JsonFault>
+    ensures ok { IfOk result (λ value. IsText bytes.now (tree_of value)) }
+    ensures writable { IfOk result (λ value. IsWritable (tree_of value)) }
+    ensures text { (tree : Tree) → IsText bytes.now tree → GivesTree result tree }
+    ensures not_json { (at : ℕ) → RefusesExactly result (JsonFault.NotJson at) (IsNotJson bytes.now at) }
+    ensures deep { (at : ℕ) → RefusesExactly result (JsonFault.Deep at) (IsDeep bytes.now at) }
+{
+    scan(alloc, bytes)
+}
+
+/// Takes the bytes one by one.
+fn scan(alloc: Global, bytes: &[u8]) -> Result<Json, JsonFault>
+    ensures { Answers result bytes.now }
+{
+    let mut frames = Vec::new(alloc);
+    let mut mode = Mode::Begin;
+    for (at, byte) in bytes.iter().enumerate() {
+        match step(alloc, &mut frames, mode, *byte) {
+            Ok(next) => mode = next,
+            Err(Stop::Memory) => return Err(JsonFault::Memory),
+            Err(Stop::NotJson) => return Err(JsonFault::NotJson(at)),
+            Err(Stop::Deep) => return Err(JsonFault::Deep(at)),
+        }
+    }
+    match finish(frames, mode) {
+        Some(value) => Ok(value),
+        None => Err(JsonFault::NotJson(bytes.len())),
+    }
+}

@@ -1,0 +1,124 @@
+//! Steps within a string.
+ghost use Rattle.std.specs.Prelude.{◌≡◌, string_bytes};
+ghost use Rattle.ml_json.specs.Strings.{hex_digit as spec_hex_digit};
+ghost use Rattle.ml_json.specs.Machine.{text_step, escape_step, hex_step, bytes_step};
+ghost use Rattle.ml_json.specs.State.{Goes, owner_of};
+ghost use Rattle.ml_json.specs.Partial.{tail_of};
+
+use crate::state::{Code, Mode, Open, Owner, Partial, Stop};
+use crate::units::{escaped, hex_digit, settled, with_unit};
+use crate::utf8::{later, lead, may_follow};
+use crate::value::Json;
+use ml_ratio::Text;
+use std::alloc::Global;
+
+/// The mode behind a byte that is no part of an escape or of a character that has begun.
+pub fn text_next(alloc: Global, open_text: Open, byte: u8) -> Result<Mode, Stop>
+    ensures { Goes result (λ st. text_step (owner_of open_text.owner) open_text.half (string_bytes open_text.text) st byte) }
+{
+    match byte {
+        b'"' => {
+            let Open { owner, half, text } = open_text;
+            let text = Text::of_string(settled(half, text)?);
+            match owner {
+                Owner::Value => Ok(Mode::After(Json::Str(text))),
+                Owner::Key(members) => Ok(Mode::Colon(members, text)),
+            }
+        }
+        b'\\' => Ok(Mode::Escape(open_text)),
+        0..=31 => Err(Stop::NotJson),
+        32..=127 => {
+            let Open { owner, half, text } = open_text;
+            let mut text = settled(half, text)?;
+            text.push(byte as char)?;
+            Ok(Mode::Text(Open {
+                owner,
+                half: None,
+                text,
+            }))
+        }
+        _ => match lead(byte) {
+            None => Err(Stop::NotJson),
+            Some(tail) => {
+                let mut got = Vec::new(alloc);
+                got.push(byte)?;
+                Ok(Mode::Bytes(open_text, Partial { tail, got }))
+            }
+        },
+    }
+}
+
+/// The mode behind a byte of a character that has begun.
+pub fn bytes_next(open_text: Open, partial: Partial, byte: u8) -> Result<Mode, Stop>
+    ensures { Goes result (λ st. bytes_step (owner_of open_text.owner) open_text.half (string_bytes open_text.text) (tail_of partial.tail) partial.got.items st byte) }
+{
+    let Partial { tail, mut got } = partial;
+    if !may_follow(tail, byte) {
+        return Err(Stop::NotJson);
+    }
+    got.push(byte)?;
+    match later(tail) {
+        Some(tail) => Ok(Mode::Bytes(open_text, Partial { tail, got })),
+        None => {
+            let Open { owner, half, text } = open_text;
+            let mut text = settled(half, text)?;
+            match str::from_utf8(got.as_slice()) {
+                Ok(character) => {
+                    text.push_str(character)?;
+                    Ok(Mode::Text(Open {
+                        owner,
+                        half: None,
+                        text,
+                    }))
+                }
+                Err(_) => unreachable!(),
+            }
+        }
+    }
+}
+
+/// The mode behind the byte after a backslash.
+pub fn escape_next(open_text: Open, byte: u8) -> Result<Mode, Stop>
+    ensures { Goes result (λ st. escape_step (owner_of open_text.owner) open_text.half (string_bytes open_text.text) st byte) }
+{
+    if byte == b'u' {
+        return Ok(Mode::Hex(open_text, Code { left: 3, sum: 0 }));
+    }
+    match escaped(byte) {
+        None => Err(Stop::NotJson),
+        Some(code) => {
+            let Open { owner, half, text } = open_text;
+            let mut text = settled(half, text)?;
+            text.push(code as char)?;
+            Ok(Mode::Text(Open {
+                owner,
+                half: None,
+                text,
+            }))
+        }
+    }
+}
+
+/// The mode behind one of the four digits of an escape.
+pub fn hex_next(open_text: Open, code: Code, byte: u8) -> Result<Mode, Stop>
+    ensures { Goes result (λ st. hex_step (owner_of open_text.owner) open_text.half (string_bytes open_text.text) code.left code.sum st (spec_hex_digit byte)) }
+{
+    match hex_digit(byte) {
+        None => Err(Stop::NotJson),
+        Some(digit) => {
+            let sum = 16 * code.sum + digit as u32;
+            if code.left > 0 {
+                return Ok(Mode::Hex(
+                    open_text,
+                    Code {
+                        left: code.left - 1,
+                        sum,
+                    },
+                ));
+            }
+            let Open { owner, half, text } = open_text;
+            let (half, text) = with_unit(half, text, sum)?;
+            Ok(Mode::Text(Open { owner, half, text }))
+        }
+    }
+}
