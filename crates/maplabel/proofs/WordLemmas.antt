@@ -36,6 +36,9 @@ no_form p name table cx cy w h scale bad (inl show) =
     let eh : h ≡ is.h = cc in
     let es : scale ≡ is.scale = cc in
     no_view p cx cy w h scale show.1 bad (rw (ex, ey, ew, eh, es) is.writes)
-no_form p name table cx cy w h scale bad (inr slots) =
+no_form p name table cx cy w h scale bad (inr (inl slots)) =
     let same = slots.1 in
+    absurd (cc)
+no_form p name table cx cy w h scale bad (inr (inr check)) =
+    let same = check.2 in
     absurd (cc)

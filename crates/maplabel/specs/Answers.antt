@@ -6,8 +6,14 @@ use Rattle.ml_cone.specs.Slots.{AreSlots, ends}
 use Rattle.ml_cone.specs.declared.label.Label.{Label}
 use Rattle.ml_cone.specs.declared.slot.Slot.{Slot}
 use Rattle.ml_cone.specs.declared.view.View.{View}
-use Rattle.ml_pass.specs.SlotsText.{slots_text}
-use Rattle.maplabel.specs.Inputs.{HasTable}
+use Rattle.ml_pass.specs.SlotsText.{ids, slots_text}
+use Rattle.ml_cert.specs.Judged.{IsVerdict}
+use Rattle.ml_cert.specs.declared.verdict.Verdict.{Verdict}
+use Rattle.ml_cert.specs.declared.verdict.Verdict.TheVariants.{Best, BadEnd, Clash, Uncovered, BadBlocker}
+use Rattle.maplabel.specs.VerdictText.{verdict_line}
+use Rattle.maplabel.specs.declared.status.Status.{Status}
+use Rattle.maplabel.specs.declared.status.Status.TheVariants.{Done, NotBest}
+use Rattle.maplabel.specs.Inputs.{HasTable, HasSlots}
 use Rattle.maplabel.specs.ViewText.{view_line}
 
 -- the named table has these labels, and the slots are their longest choice with its blockers
@@ -30,3 +36,20 @@ pub record IsSlotsText (told : Option FileSet) (table text : List ℕ) : Type 0 
   pub slots : List Slot
   pub chosen : HasChoice told table labels slots
   pub lines : text ≡ slots_text labels slots
+
+-- the text is the line of the verdict on the slots that a file gives to the labels of a table
+pub record IsJudged (told : Option FileSet) (table slots : List ℕ) (verdict : Verdict) (text : List ℕ) : Type 0 where
+  pub labels : List Label
+  pub given : List Slot
+  pub has : HasTable told table labels
+  pub gives : HasSlots told labels slots given
+  pub judged : IsVerdict labels given verdict
+  pub line : text ≡ verdict_line (ids labels) verdict
+
+-- the status of a verdict
+abbrev pub status_of : Verdict → Status
+status_of Best = Done
+status_of (BadEnd i) = NotBest
+status_of (Clash i j limit) = NotBest
+status_of (Uncovered i) = NotBest
+status_of (BadBlocker i) = NotBest

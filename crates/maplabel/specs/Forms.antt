@@ -3,7 +3,7 @@ use Rattle.std.specs.Prelude.{◌≡◌, List, [], ◌∷◌, codes, Option, Mat
 use Rattle.ml_cone.specs.declared.view.View.{View}
 use Rattle.ml_view.specs.Words.{WritesView}
 use Rattle.maplabel.specs.declared.command.Command.{Command}
-use Rattle.maplabel.specs.declared.command.Command.TheVariants.{Show, Slots}
+use Rattle.maplabel.specs.declared.command.Command.TheVariants.{Show, Slots, Check}
 
 -- `show`, the name of a table, and the five words of a view
 pub record IsShow (words : List (List ℕ)) (table : List ℕ) (view : View) : Type 0 where
@@ -19,14 +19,22 @@ pub record IsShow (words : List (List ℕ)) (table : List ℕ) (view : View) : T
 abbrev pub IsSlots : List (List ℕ) → List ℕ → Type 0
 IsSlots words table = words ≡ codes "slots" ∷ table ∷ []
 
+-- `check` and the names of a table and of a file of slots
+abbrev pub IsCheck : List (List ℕ) → List ℕ → List ℕ → Type 0
+IsCheck words table slots = words ≡ codes "check" ∷ table ∷ slots ∷ []
+
 -- the words have one of the forms
 abbrev pub IsForm : List (List ℕ) → Type 0
-IsForm words = ((table : List ℕ) × (view : View) × IsShow words table view) ⊎ ((table : List ℕ) × IsSlots words table)
+IsForm words =
+    ((table : List ℕ) × (view : View) × IsShow words table view)
+    ⊎ ((table : List ℕ) × IsSlots words table)
+    ⊎ ((table : List ℕ) × (slots : List ℕ) × IsCheck words table slots)
 
 -- the words give the command
 abbrev pub GiveCommand : List (List ℕ) → Command → Type 0
 GiveCommand words (Show table view) = IsShow words table.now view
 GiveCommand words (Slots table) = IsSlots words table.now
+GiveCommand words (Check table slots) = IsCheck words table.now slots.now
 
 -- the answer is the command that the words give, or none where they have none of the forms
 abbrev pub IsCommandOf : List (List ℕ) → Option Command → Type 0

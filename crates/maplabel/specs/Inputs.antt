@@ -2,7 +2,11 @@
 use Rattle.std.specs.Prelude.{◌≡◌, ℕ, ◌++◌, List, Option, Some, codes, decimal}
 use Rattle.ml_io.specs.Causes.{Rose}
 use Rattle.ml_io.specs.Files.{FileSet, IsLoaded, IsTooLong}
+use Rattle.ml_cert.specs.SlotsText.{AreSlotLines, IsSlotsFault}
+use Rattle.ml_cert.specs.declared.fault.SlotsFault.{SlotsFault}
+use Rattle.ml_cert.specs.declared.fault.SlotsFault.TheVariants as slots_fault
 use Rattle.ml_cone.specs.declared.label.Label.{Label}
+use Rattle.ml_cone.specs.declared.slot.Slot.{Slot}
 use Rattle.ml_pass.specs.Table.{IsTable, IsTableFault}
 use Rattle.ml_pass.specs.declared.fault.TableFault.{TableFault}
 use Rattle.ml_pass.specs.declared.fault.TableFault.TheVariants.{BadLine, SameId, Full, Memory}
@@ -52,3 +56,33 @@ IsTableStop told before now failed name (stop.Refused line) = IsNoTable told nam
 IsTableStop told before now failed name stop.FileFault = Rose before now × (failed ≡ Some name)
 IsTableStop told before now failed name stop.TooLong = IsTooLong told name most_bytes
 IsTableStop told before now failed name stop.Memory = Unit {0}
+
+-- the named file has these slots for the labels
+abbrev pub HasSlots : Option FileSet → List Label → List ℕ → List Slot → Type 0
+HasSlots told labels name slots = (bytes : List ℕ) × IsLoaded told name most_bytes bytes × AreSlotLines labels bytes slots
+
+-- the line that says why slots are refused; there is none for want of memory
+abbrev pub IsSlotsLine : SlotsFault → List ℕ → Type 0
+IsSlotsLine (slots_fault.BadLine k) line = line ≡ codes "slots refused: 1 BadLine " ++ (decimal k ++ codes "\n")
+IsSlotsLine slots_fault.Memory line = ⊥
+
+-- the stop tells a fault of slots by its line, or want of memory
+abbrev pub IsSlotsRefusal : SlotsFault → Stop → Type 0
+IsSlotsRefusal fault stop.Usage = ⊥
+IsSlotsRefusal fault (stop.Refused line) = IsSlotsLine fault line
+IsSlotsRefusal fault stop.FileFault = ⊥
+IsSlotsRefusal fault stop.TooLong = ⊥
+IsSlotsRefusal fault stop.Memory = Unit {0}
+
+-- the named file has no slots for the labels, as the line says
+abbrev pub AreNoSlots : Option FileSet → List Label → List ℕ → List ℕ → Type 0
+AreNoSlots told labels name line =
+    (bytes : List ℕ) × (fault : SlotsFault) × IsLoaded told name most_bytes bytes × IsSlotsFault labels bytes fault × IsSlotsLine fault line
+
+-- why the named slots were not read
+abbrev pub IsSlotsStop : Option FileSet → ℕ → ℕ → Option (List ℕ) → List Label → List ℕ → Stop → Type 0
+IsSlotsStop told before now failed labels name stop.Usage = ⊥
+IsSlotsStop told before now failed labels name (stop.Refused line) = AreNoSlots told labels name line
+IsSlotsStop told before now failed labels name stop.FileFault = Rose before now × (failed ≡ Some name)
+IsSlotsStop told before now failed labels name stop.TooLong = IsTooLong told name most_bytes
+IsSlotsStop told before now failed labels name stop.Memory = Unit {0}

@@ -3,4 +3,5 @@ pub mod Codes
 pub mod Forms
 pub mod Inputs
 pub mod Outcome
+pub mod VerdictText
 pub mod ViewText

@@ -3,11 +3,13 @@ use Rattle.std.specs.Prelude.{◌≡◌, ℕ, List, [], Option, Some, codes, ◌
 use Rattle.ml_io.specs.Causes.{Rose, Appends, AppendsPart}
 use Rattle.ml_io.specs.Files.{FileSet, IsTooLong}
 use Rattle.ml_cone.specs.declared.view.View.{View}
-use Rattle.maplabel.specs.Answers.{IsShowText, IsSlotsText}
-use Rattle.maplabel.specs.Forms.{IsShow, IsSlots, IsForm}
-use Rattle.maplabel.specs.Inputs.{most_bytes, IsNoTable}
+use Rattle.ml_cone.specs.declared.label.Label.{Label}
+use Rattle.ml_cert.specs.declared.verdict.Verdict.{Verdict}
+use Rattle.maplabel.specs.Answers.{IsShowText, IsSlotsText, IsJudged, status_of}
+use Rattle.maplabel.specs.Forms.{IsShow, IsSlots, IsCheck, IsForm}
+use Rattle.maplabel.specs.Inputs.{most_bytes, HasTable, IsNoTable, IsTableStop, AreNoSlots, IsSlotsStop}
 use Rattle.maplabel.specs.declared.status.Status.{Status}
-use Rattle.maplabel.specs.declared.status.Status.TheVariants.{Done, Usage, InputRefused, FileFault, WriteFault, Memory, TooLong}
+use Rattle.maplabel.specs.declared.status.Status.TheVariants.{Done, NotBest, Usage, InputRefused, FileFault, WriteFault, Memory, TooLong}
 use Rattle.maplabel.specs.declared.stop.Stop.{Stop}
 use Rattle.maplabel.specs.declared.stop.Stop.TheVariants as stop
 
@@ -17,33 +19,59 @@ usage_line = codes "usage: maplabel show, slots, check, view, pipe, serve or gen
 
 -- the words ask for a command on this table
 abbrev pub IsTableOf : List (List ℕ) → List ℕ → Type 0
-IsTableOf words table = ((view : View) × IsShow words table view) ⊎ IsSlots words table
+IsTableOf words table =
+    ((view : View) × IsShow words table view) ⊎ IsSlots words table ⊎ ((slots : List ℕ) × IsCheck words table slots)
 
--- the text is what the command of the words prints
-abbrev pub IsAnswer : Option FileSet → List (List ℕ) → List ℕ → Type 0
-IsAnswer told words text =
-    ((table : List ℕ) × (view : View) × IsShow words table view × IsShowText told table view text)
-    ⊎ ((table : List ℕ) × IsSlots words table × IsSlotsText told table text)
+-- the words ask for the verdict on this file of slots, and these are the labels of their table
+abbrev pub IsSlotsOf : Option FileSet → List (List ℕ) → List ℕ → List Label → Type 0
+IsSlotsOf told words slots labels = (table : List ℕ) × IsCheck words table slots × HasTable told table labels
+
+-- the file that is due: the table, and once that is read the slots that are to be judged
+abbrev pub IsDueFile : Option FileSet → List (List ℕ) → List ℕ → Type 0
+IsDueFile told words name = IsTableOf words name ⊎ ((labels : List Label) × IsSlotsOf told words name labels)
+
+-- the line refuses the table of the words, or else their slots
+abbrev pub IsRefusal : Option FileSet → List (List ℕ) → List ℕ → Type 0
+IsRefusal told words line =
+    ((table : List ℕ) × IsTableOf words table × IsNoTable told table line)
+    ⊎ ((slots : List ℕ) × (labels : List Label) × IsSlotsOf told words slots labels × AreNoSlots told labels slots line)
+
+-- the status and the line of the verdict on the slots
+abbrev pub IsCheckAnswer : Option FileSet → List ℕ → List ℕ → Status → List ℕ → Type 0
+IsCheckAnswer told table slots status text = (verdict : Verdict) × IsJudged told table slots verdict text × (status ≡ status_of verdict)
+
+-- the text is what the command of the words prints, under this status
+pub data IsAnswer (told : Option FileSet) (words : List (List ℕ)) (status : Status) (text : List ℕ) : Type 0 where
+  showed : (table : List ℕ) → (view : View) → IsShow words table view → IsShowText told table view text → status ≡ Done → IsAnswer told words status text
+  listed : (table : List ℕ) → IsSlots words table → IsSlotsText told table text → status ≡ Done → IsAnswer told words status text
+  judged : (table : List ℕ) → (slots : List ℕ) → IsCheck words table slots → IsCheckAnswer told table slots status text → IsAnswer told words status text
 
 -- of the text that is due under a status: for a fault of a file, the count of faults rose and the name that failed last is that of the file that is due; want of memory prints nothing
 abbrev pub IsOutcome : Option FileSet → ℕ → ℕ → Option (List ℕ) → List (List ℕ) → Status → List ℕ → Type 0
-IsOutcome told before now failed words Done text = IsAnswer told words text
+IsOutcome told before now failed words Done text = IsAnswer told words Done text
+IsOutcome told before now failed words NotBest text = IsAnswer told words NotBest text
 IsOutcome told before now failed words Usage text = ¬ (IsForm words) × (text ≡ usage_line)
-IsOutcome told before now failed words InputRefused text = (table : List ℕ) × IsTableOf words table × IsNoTable told table text
+IsOutcome told before now failed words InputRefused text = IsRefusal told words text
 IsOutcome told before now failed words FileFault text =
-    (table : List ℕ) × IsTableOf words table × Rose before now × (failed ≡ Some table) × (text ≡ codes "file fault\n")
+    (name : List ℕ) × IsDueFile told words name × Rose before now × (failed ≡ Some name) × (text ≡ codes "file fault\n")
 IsOutcome told before now failed words TooLong text =
-    (table : List ℕ) × IsTableOf words table × IsTooLong told table most_bytes × (text ≡ codes "file too long\n")
+    (name : List ℕ) × IsDueFile told words name × IsTooLong told name most_bytes × (text ≡ codes "file too long\n")
 IsOutcome told before now failed words WriteFault text = ⊥
 IsOutcome told before now failed words Memory text = IsForm words × (text ≡ [])
 
 -- why there is no answer
 abbrev pub IsStop : Option FileSet → ℕ → ℕ → Option (List ℕ) → List (List ℕ) → Stop → Type 0
 IsStop told before now failed words stop.Usage = ¬ (IsForm words)
-IsStop told before now failed words (stop.Refused line) = (table : List ℕ) × IsTableOf words table × IsNoTable told table line
-IsStop told before now failed words stop.FileFault = (table : List ℕ) × IsTableOf words table × Rose before now × (failed ≡ Some table)
-IsStop told before now failed words stop.TooLong = (table : List ℕ) × IsTableOf words table × IsTooLong told table most_bytes
+IsStop told before now failed words (stop.Refused line) = IsRefusal told words line
+IsStop told before now failed words stop.FileFault = (name : List ℕ) × IsDueFile told words name × Rose before now × (failed ≡ Some name)
+IsStop told before now failed words stop.TooLong = (name : List ℕ) × IsDueFile told words name × IsTooLong told name most_bytes
 IsStop told before now failed words stop.Memory = IsForm words
+
+-- why slots were not judged: the table was not read, or it was and the slots were not
+abbrev pub IsCheckStop : Option FileSet → ℕ → ℕ → Option (List ℕ) → List ℕ → List ℕ → Stop → Type 0
+IsCheckStop told before now failed table slots s =
+    IsTableStop told before now failed table s
+    ⊎ ((labels : List Label) × HasTable told table labels × IsSlotsStop told before now failed labels slots s)
 
 -- a text that was due under a status was printed whole; or the status is that of a write fault, and a proper prefix was printed, only where the count of the sink's faults rose
 abbrev pub IsPrinted : List ℕ → Status → Option (List ℕ) → Option (List ℕ) → ℕ → ℕ → Status → Type 0

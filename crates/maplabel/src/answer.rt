@@ -2,26 +2,39 @@
 ghost use Rattle.std.specs.Prelude.{◌≡◌, ◌≤◌, IfOk, IfErr, map, string_bytes};
 ghost use Rattle.maplabel.specs.Outcome.{IsAnswer, IsStop};
 
+use crate::check::check;
 use crate::command::{Command, read_command};
 use crate::show::show;
 use crate::slots::slots;
+use crate::status::Status;
 use crate::stop::Stop;
 use ml_io::Files;
 use ml_ratio::Seq;
 use std::alloc::Global;
 
-/// What the command that the words give prints.
+/// The status and the text of the command that the words give.
 ///
 /// # Errors
 /// `Usage` where the words have none of the forms; and as the command.
-pub fn answer<F: Files>(alloc: Global, words: &[String], files: &mut F) -> Result<Seq<u8>, Stop>
-    ensures ok { IfOk result (IsAnswer (F.told files.old) (map string_bytes words.now)) }
+pub fn answer<F: Files>(
+    alloc: Global,
+    words: &[String],
+    files: &mut F,
+) -> Result<(Status, Seq<u8>), Stop>
+    ensures ok { IfOk result (λ answer. IsAnswer (F.told files.old) (map string_bytes words.now) answer.0 answer.1) }
     ensures stop { IfErr result (IsStop (F.told files.old) (F.faults files.old) (F.faults files.new) (F.failed_name files.new) (map string_bytes words.now)) }
     ensures same { F.told files.new ≡ F.told files.old }
 {
     match read_command(words) {
-        Some(Command::Show(table, view)) => show(alloc, files, table, &view),
-        Some(Command::Slots(table)) => slots(alloc, files, table),
+        Some(Command::Show(table, view)) => {
+            let text = show(alloc, files, table, &view)?;
+            Ok((Status::Done, text))
+        }
+        Some(Command::Slots(table)) => {
+            let text = slots(alloc, files, table)?;
+            Ok((Status::Done, text))
+        }
+        Some(Command::Check(table, slots)) => check(alloc, files, table, slots),
         None => Err(Stop::Usage),
     }
 }

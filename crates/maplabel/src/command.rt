@@ -12,6 +12,8 @@ pub enum Command<'a> {
     Show(&'a str, View),
     /// The choice of a table's labels.
     Slots(&'a str),
+    /// The verdict on slots that are given for a table's labels.
+    Check(&'a str, &'a str),
 }
 
 /// The command that the words give; none where they have none of the forms.
@@ -20,6 +22,7 @@ pub fn read_command(words: &[String]) -> Option<Command<'_>>
 {
     match words {
         [name, table] => slots_command(name.as_str(), table.as_str()),
+        [name, table, slots] => check_command(name.as_str(), table.as_str(), slots.as_str()),
         [name, table, cx, cy, w, h, scale] => show_command(
             name.as_str(),
             table.as_str(),
@@ -39,6 +42,17 @@ fn slots_command<'a>(name: &str, table: &'a str) -> Option<Command<'a>>
 {
     if name == "slots" {
         Some(Command::Slots(table))
+    } else {
+        None
+    }
+}
+
+// The command of three words.
+fn check_command<'a>(name: &str, table: &'a str, slots: &'a str) -> Option<Command<'a>>
+    ensures { IsCommandOf (name.now ∷ table.now ∷ slots.now ∷ []) result }
+{
+    if name == "check" {
+        Some(Command::Check(table, slots))
     } else {
         None
     }

@@ -1,11 +1,12 @@
 //! The inputs of a command, loaded and read.
-ghost use Rattle.std.specs.Prelude.{◌≡◌, ◌≤◌, IfOk, IfErr, MatchResult, string_bytes};
+ghost use Rattle.std.specs.Prelude.{◌≡◌, ◌≤◌, length, IfOk, IfErr, MatchResult, string_bytes};
 ghost use Rattle.ml_io.specs.Files.{IsLoaded};
 ghost use Rattle.maplabel.specs.declared.stop.Stop.TheVariants as stop;
-ghost use Rattle.maplabel.specs.Inputs.{most_bytes, HasTable, IsLoadStop, IsTableStop, IsTableRefusal};
+ghost use Rattle.maplabel.specs.Inputs.{most_bytes, HasTable, IsLoadStop, IsTableStop, IsTableRefusal, HasSlots, IsSlotsStop, IsSlotsRefusal};
 
 use crate::stop::Stop;
-use ml_cone::Label;
+use ml_cert::{SlotsFault, read_slots};
+use ml_cone::{Label, Slot};
 use ml_io::{FileFault, Files};
 use ml_pass::{TableFault, read_table};
 use ml_ratio::Seq;
@@ -28,6 +29,30 @@ pub fn load_table<F: Files>(alloc: Global, files: &mut F, name: &str) -> Result<
     match read_table(alloc, &bytes) {
         Ok(labels) => Ok(labels),
         Err(fault) => Err(table_refusal(alloc, fault)),
+    }
+}
+
+/// The slots that the file of this name gives to the labels.
+///
+/// # Errors
+/// `FileFault` and `TooLong` where the file is not loaded; `Refused` where it has no slots for these
+/// labels; `Memory`.
+pub fn load_slots<F: Files>(
+    alloc: Global,
+    files: &mut F,
+    name: &str,
+    labels: &[Label],
+) -> Result<Seq<Slot>, Stop>
+    requires { length labels.now ≤ 32768 }
+    ensures ok { IfOk result (λ slots. HasSlots (F.told files.old) labels.now name.now slots) }
+    ensures stop { IfErr result (IsSlotsStop (F.told files.old) (F.faults files.old) (F.faults files.new) (F.failed_name files.new) labels.now name.now) }
+    ensures same { F.told files.new ≡ F.told files.old }
+    ensures later { F.faults files.old ≤ F.faults files.new }
+{
+    let bytes = load(alloc, files, name)?;
+    match read_slots(alloc, labels, &bytes) {
+        Ok(slots) => Ok(slots),
+        Err(fault) => Err(slots_refusal(alloc, fault)),
     }
 }
 
@@ -55,6 +80,16 @@ fn table_refusal(alloc: Global, fault: TableFault) -> Stop
         TableFault::SameId(k) => refusal(format!(in alloc; "table refused: 2 SameId {k}\n")),
         TableFault::Full => refusal(format!(in alloc; "table refused: 3 Full\n")),
         TableFault::Memory => Stop::Memory,
+    }
+}
+
+// Why slots are refused, as a line.
+fn slots_refusal(alloc: Global, fault: SlotsFault) -> Stop
+    ensures { IsSlotsRefusal fault result }
+{
+    match fault {
+        SlotsFault::BadLine(k) => refusal(format!(in alloc; "slots refused: 1 BadLine {k}\n")),
+        SlotsFault::Memory => Stop::Memory,
     }
 }
 

@@ -2,12 +2,13 @@
 //!
 //! - [`run`]: the top call ([`run`](run::run)); [`status`]: how it ends;
 //! - [`command`]: what the words ask for; [`answer`]: what they come to;
-//! - [`show`], [`slots`]: one module a command;
+//! - [`show`], [`slots`], [`check`]: one module a command;
 //! - [`inputs`]: the files that a command needs; [`stop`]: what ends a command early;
-//! - [`view_text`]: the JSON text of a view.
+//! - [`view_text`]: the JSON text of a view; [`verdict_text`]: the line of a verdict.
 #![tactic(auto)]
 
 pub mod answer;
+pub mod check;
 pub mod command;
 pub mod inputs;
 pub mod run;
@@ -15,9 +16,11 @@ pub mod show;
 pub mod slots;
 pub mod status;
 pub mod stop;
+pub mod verdict_text;
 pub mod view_text;
 
 use crate::run::run;
+use crate::status::Status;
 use ml_io::{RealFiles, RealOutput};
 use std::process::ExitCode;
 use std::{env, io};
@@ -32,10 +35,15 @@ fn words_of(rt: &HostRuntime) -> io::Result<Vec<String>> {
 }
 
 fn main(rt: HostRuntime) -> ExitCode {
-    // Words that are no text are words of no form, and so are words that the runtime cannot give.
     let words = match words_of(&rt) {
         Ok(words) => words,
-        Err(_error) => Vec::new(rt.alloc()),
+        // Words that are no text have none of the forms, and neither have words that are not given.
+        Err(error) => {
+            if error.kind() == io::ErrorKind::OutOfMemory {
+                return ExitCode::from(Status::Memory.code());
+            }
+            Vec::new(rt.alloc())
+        }
     };
     let mut files = RealFiles::new(&rt);
     let mut out = RealOutput::new(rt.stdout());

@@ -21,7 +21,7 @@ pub fn run<F: Files, K: Sink>(alloc: Global, words: &[String], files: &mut F, ou
     ensures same { F.told files.new ≡ F.told files.old }
 {
     match answer(alloc, words, files) {
-        Ok(text) => print(out, text.as_slice(), Status::Done),
+        Ok((status, text)) => print(out, text.as_slice(), status),
         Err(Stop::Usage) => print(out, USAGE.as_bytes(), Status::Usage),
         Err(Stop::Refused(line)) => print(out, line.as_slice(), Status::InputRefused),
         Err(Stop::FileFault) => print(out, b"file fault\n", Status::FileFault),

@@ -5,9 +5,11 @@
 pub enum Status {
     /// The command was done.
     Done,
+    /// The slots that were judged are not the longest choice with its blockers.
+    NotBest,
     /// The words are none of the forms.
     Usage,
-    /// The table is refused.
+    /// The table or the slots are refused.
     InputRefused,
     /// A file is missing, or its reading failed.
     FileFault,
@@ -29,6 +31,7 @@ impl Status {
     {
         match self {
             Status::Done => 0,
+            Status::NotBest => 1,
             Status::Usage => 2,
             Status::InputRefused => 4,
             Status::FileFault => 5,

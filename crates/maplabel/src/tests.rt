@@ -28,6 +28,24 @@ fn one_file(alloc: Global, bytes: &[u8], fails: Vec<u64>) -> Result<MemFiles, Fa
     Ok(MemFiles::new(files, fails))
 }
 
+/// What the judge prints on the slots `s` of the table `t`, and the status.
+fn judge(alloc: Global, table: &str, slots: &str) -> Result<(Status, MemSink), Fail> {
+    let mut files = Vec::new(alloc);
+    files.push((
+        Text::of(alloc, "t")?,
+        Vec::from_slice(alloc, table.as_bytes())?,
+    ))?;
+    files.push((
+        Text::of(alloc, "s")?,
+        Vec::from_slice(alloc, slots.as_bytes())?,
+    ))?;
+    let mut files = MemFiles::new(files, Vec::new(alloc));
+    let mut out = MemSink::new(alloc, 65536, Vec::new(alloc))?;
+    let words = words_of(alloc, "check t s")?;
+    let status = run(alloc, &words, &mut files, &mut out);
+    Ok((status, out))
+}
+
 /// What a run over the table `t` prints, and its status.
 fn run_over(alloc: Global, table: &str, line: &str) -> Result<(Status, MemSink), Fail> {
     let words = words_of(alloc, line)?;
@@ -73,6 +91,26 @@ fn slots_are_printed(rt: HostRuntime) -> Result<(), Fail> {
         ("", ""),
         (TWO, "A 1000/1 -\nB 20/1 A\n"),
         (
+            "A 0 0 0 1000 -10,-5,10,5\nB 400 0 0 1000 -10,-5,10,5\nC 800 0 0 1000 -10,-5,10,5\n",
+            "A 1000/1 -\nB 20/1 A\nC 40/1 A\n",
+        ),
+        (
+            "B 400 0 0 1000 -10,-5,10,5\nC 800 0 0 1000 -10,-5,10,5\n",
+            "B 1000/1 -\nC 20/1 B\n",
+        ),
+        (
+            "A -400 0 0 1000 -10,-5,10,5\nB 400 0 0 1000 -10,-5,10,5\nC 0 0 0 1000 -10,-5,10,5\n",
+            "A 1000/1 -\nB 40/1 A\nC 20/1 A\n",
+        ),
+        (
+            "A 0 0 0 1000 -10,-5,10,5\nB 0 0 0 1000 -10,-5,10,5\n",
+            "A 1000/1 -\nB 0/1 A\n",
+        ),
+        (
+            "A 0 0 0 1000 -10,-5,0,5\nB 0 0 0 1000 0,-5,10,5\n",
+            "A 1000/1 -\nB 1000/1 -\n",
+        ),
+        (
             "A 0 0 50 1000 -10,-5,10,5\nB 400 0 0 1000 -10,-5,10,5\n",
             "A 1000/1 -\nB 50/1 A\n",
         ),
@@ -93,6 +131,42 @@ fn slots_are_printed(rt: HostRuntime) -> Result<(), Fail> {
 }
 
 #[test]
+fn slots_are_judged(rt: HostRuntime) -> Result<(), Fail> {
+    for (slots, status, want) in [
+        ("A 1000/1 -\nB 20/1 A\n", Status::Done, "Best\n"),
+        ("\r\nA 1000 -\r\nB 40/2 A", Status::Done, "Best\n"),
+        (
+            "A 1000/1 -\nB 30/1 A\n",
+            Status::NotBest,
+            "Clash B A 20/1\n",
+        ),
+        ("A 1000/1 -\nB 10/1 A\n", Status::NotBest, "Uncovered B\n"),
+        ("A 1000/1 -\nB 20/1 -\n", Status::NotBest, "BadBlocker B\n"),
+        ("A 1000/1 -\nB 1001/1 -\n", Status::NotBest, "BadEnd B\n"),
+        (
+            "A 1000/1 -\n",
+            Status::InputRefused,
+            "slots refused: 1 BadLine 2\n",
+        ),
+        (
+            "B 20/1 A\nA 1000/1 -\n",
+            Status::InputRefused,
+            "slots refused: 1 BadLine 1\n",
+        ),
+    ] {
+        let (found, out) = judge(rt.alloc(), TWO, slots)?;
+        assert_eq!(rt; found, status, "{slots}");
+        assert_eq!(rt; out.bytes(), want.as_bytes(), "{slots}");
+    }
+    let three =
+        "A -400 0 0 1000 -10,-5,10,5\nB 400 0 0 1000 -10,-5,10,5\nC 0 0 0 1000 -10,-5,10,5\n";
+    let (status, out) = judge(rt.alloc(), three, "A 1000/1 -\nB 40/1 A\nC 20/1 B\n")?;
+    assert_eq!(rt; status, Status::NotBest);
+    assert_eq!(rt; out.bytes(), b"BadBlocker C\n".as_slice());
+    Ok(())
+}
+
+#[test]
 fn words_of_no_form_are_told_so(rt: HostRuntime) -> Result<(), Fail> {
     let usage = "usage: maplabel show, slots, check, view, pipe, serve or gen\n";
     for line in [
@@ -100,6 +174,8 @@ fn words_of_no_form_are_told_so(rt: HostRuntime) -> Result<(), Fail> {
         "show",
         "slots",
         "slots t t",
+        "check t",
+        "check t t t",
         "Slots t",
         "show t 0 0 1024 768 0",
         "show t 0 0 1024 768 5/0",
