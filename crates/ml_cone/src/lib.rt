@@ -26,3 +26,6 @@ pub use overlap::overlaps;
 pub use slot::{Slot, Span, active};
 pub use view::View;
 pub use window::meets;
+
+#[cfg(test)]
+mod tests;

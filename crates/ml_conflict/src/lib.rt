@@ -18,3 +18,6 @@ pub mod scales;
 pub use block::{are_rivals, first_block};
 pub use rivals::{RivalList, evaluate};
 pub use scales::interval;
+
+#[cfg(test)]
+mod tests;

@@ -16,3 +16,6 @@ pub use fault::TableFault;
 pub use pass::assign;
 pub use slots_text::write_slots;
 pub use table::read_table;
+
+#[cfg(test)]
+mod tests;
