@@ -3,5 +3,6 @@ pub mod Codes
 pub mod Forms
 pub mod Inputs
 pub mod Outcome
+pub mod Ready
 pub mod VerdictText
 pub mod ViewText

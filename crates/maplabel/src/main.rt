@@ -4,13 +4,15 @@
 //! - [`command`]: what the words ask for; [`answer`]: what they come to;
 //! - [`show`], [`slots`], [`check`]: one module a command;
 //! - [`inputs`]: the files that a command needs; [`stop`]: what ends a command early;
-//! - [`view_text`]: the JSON text of a view; [`verdict_text`]: the line of a verdict.
+//! - [`view_text`]: the JSON text of a view; [`verdict_text`]: the line of a verdict;
+//! - [`laws`]: a law of what a run comes to.
 #![tactic(auto)]
 
 pub mod answer;
 pub mod check;
 pub mod command;
 pub mod inputs;
+pub mod laws;
 pub mod run;
 pub mod show;
 pub mod slots;

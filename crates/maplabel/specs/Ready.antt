@@ -1,0 +1,30 @@
+-- When nothing but want of memory keeps a command from being done.
+use Rattle.std.specs.Prelude.{ℕ, List, Option, Some, ◌⊎◌, ◌≡◌}
+use Rattle.ml_io.specs.Causes.{Rose}
+use Rattle.ml_io.specs.Files.{FileSet}
+use Rattle.ml_cone.specs.declared.label.Label.{Label}
+use Rattle.ml_cone.specs.declared.slot.Slot.{Slot}
+use Rattle.ml_cone.specs.declared.view.View.{View}
+use Rattle.maplabel.specs.Forms.{IsShow, IsSlots, IsCheck}
+use Rattle.maplabel.specs.Inputs.{HasTable, HasSlots}
+use Rattle.maplabel.specs.Outcome.{IsOutcome}
+use Rattle.maplabel.specs.declared.status.Status.{Status}
+use Rattle.maplabel.specs.declared.status.Status.TheVariants.{Done, NotBest, Memory}
+
+-- the named file is a table within the limit
+abbrev pub IsSomeTable : FileSet → List ℕ → Type 0
+IsSomeTable files table = (labels : List Label) × HasTable (Some files) table labels
+
+-- the words have one of the forms, and the files that they name are there, within the limit and what they should be
+abbrev pub AreReady : FileSet → List (List ℕ) → Type 0
+AreReady files words =
+    ((table : List ℕ) × (view : View) × IsShow words table view × IsSomeTable files table)
+    ⊎ ((table : List ℕ) × IsSlots words table × IsSomeTable files table)
+    ⊎ ((table : List ℕ) × (slots : List ℕ) × IsCheck words table slots × IsSomeTable files table
+    × ((labels : List Label) → HasTable (Some files) table labels → (given : List Slot) × HasSlots (Some files) labels slots given))
+
+-- where words and files are ready and no fault of a file is counted, what is due is that the command is done, or want of memory
+abbrev pub EndsWell : FileSet → List (List ℕ) → Type 0
+EndsWell files words =
+    (before now : ℕ) (failed : Option (List ℕ)) (status : Status) (text : List ℕ) → ¬ (Rose before now)
+    → IsOutcome (Some files) before now failed words status text → (status ≡ Done) ⊎ (status ≡ NotBest) ⊎ (status ≡ Memory)
