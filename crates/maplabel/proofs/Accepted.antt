@@ -7,7 +7,8 @@ use Rattle.ml_cert.specs.declared.fault.SlotsFault.TheVariants as slots_fault
 use Rattle.ml_cone.specs.declared.label.Label.{Label}
 use Rattle.ml_cone.specs.declared.slot.Slot.{Slot}
 use Rattle.ml_pass.specs.Row.{ReadsRow}
-use Rattle.ml_pass.specs.Table.{entries, entry, AreFirst, IsTable, IsTableFault, IsFaultAfter}
+use Rattle.ml_pass.specs.Table.{AreFirst, IsTable, IsTableFault, IsFaultAfter}
+use Rattle.ml_ratio.specs.Lines.{entry, entries}
 use Rattle.ml_pass.specs.declared.fault.TableFault.{TableFault}
 use Rattle.ml_pass.specs.declared.fault.TableFault.TheVariants.{BadLine, SameId, Full, Memory}
 use Rattle.maplabel.specs.Inputs.{most_bytes, HasTable, IsNoTable, IsTableLine, HasSlots, AreNoSlots, IsSlotsLine}

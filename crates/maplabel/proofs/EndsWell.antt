@@ -2,13 +2,12 @@
 use Rattle.std.proofs.Common.{◌≡◌, ℕ, List, Option, Some, refl, ◌∙◌, sym, inl, inr}
 use Rattle.std.specs.Prelude.{◌⊎◌}
 use Rattle.ml_io.specs.Causes.{Rose}
-use Rattle.ml_io.specs.Files.{FileSet}
+use Rattle.ml_io.specs.Files.{FileSet, IsTooLong}
 use Rattle.ml_cone.specs.declared.label.Label.{Label}
 use Rattle.ml_cone.specs.declared.slot.Slot.{Slot}
 use Rattle.maplabel.specs.Forms.{IsForm}
 use Rattle.maplabel.specs.Inputs.{most_bytes, HasSlots}
 use Rattle.maplabel.specs.Outcome.{IsTableOf, IsSlotsOf, IsDueFile, IsRefusal, IsOutcome}
-use Rattle.ml_io.specs.Files.{IsTooLong}
 use Rattle.maplabel.specs.Ready.{IsSomeTable, AreReady}
 use Rattle.maplabel.specs.declared.status.Status.{Status}
 use Rattle.maplabel.specs.declared.status.Status.TheVariants.{Done, NotBest, Usage, InputRefused, FileFault, WriteFault, Memory, TooLong}

@@ -276,3 +276,19 @@ fn calm_things_do_not_fail(rt: HostRuntime) -> Result<(), Fail> {
     assert_eq!(rt; out.count(), 20);
     Ok(())
 }
+
+#[test]
+fn statuses_have_these_codes(rt: HostRuntime) {
+    for (status, code) in [
+        (Status::Done, 0),
+        (Status::NotBest, 1),
+        (Status::Usage, 2),
+        (Status::InputRefused, 4),
+        (Status::FileFault, 5),
+        (Status::WriteFault, 7),
+        (Status::Memory, 9),
+        (Status::TooLong, 10),
+    ] {
+        assert_eq!(rt; status.code(), code, "{status:?}");
+    }
+}

@@ -7,7 +7,7 @@ use Rattle.std.proofs.lemmas.Bool.{cases_lt, false≢true}
 use Rattle.std.proofs.lemmas.Slice.Eq.{bytes_eq-Decides}
 use denote.Ref.{Bor}
 use Rattle.ml_cone.specs.declared.label.Label.{Label}
-use Rattle.ml_cert.specs.Places.{find_place, FindsPlaces}
+use Rattle.ml_cone.specs.Places.{FindsPlaces, find_place}
 
 -- the id is that of the label at j, which is one of the first n
 abbrev IsPlaceBefore : List Label → ℕ → List ℕ → ℕ → Type 0

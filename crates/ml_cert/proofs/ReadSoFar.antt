@@ -6,12 +6,12 @@ use Rattle.std.proofs.lemmas.Bool.{cases_lt}
 use Rattle.std.proofs.lemmas.Bool.Decides.{nat_tests}
 use Rattle.std.proofs.lemmas.List.{length-append, append-nil}
 use Rattle.std.specs.Str.Lines.{lines}
-use Rattle.ml_ratio.specs.Lines.{written_lines}
+use Rattle.ml_ratio.specs.Lines.{written_lines, no_entry, entry, entries}
 use Rattle.ml_cone.specs.Slots.{no_slot}
 use Rattle.ml_cone.specs.declared.label.Label.{Label}
 use Rattle.ml_cone.specs.declared.slot.Slot.{Slot}
 use Rattle.ml_cert.specs.SlotLine.{IsSlotLine}
-use Rattle.ml_cert.specs.SlotsText.{entries, entry, no_entry, AreGoodBefore, IsFaultyLine, AreWanting}
+use Rattle.ml_cert.specs.SlotsText.{AreGoodBefore, IsFaultyLine, AreWanting}
 
 -- of `count` lines those that are not empty are `done`, and each writes its slot; the lines of `rest` follow
 pub record ReadSoFar (labels : List Label) (bytes rest : List ℕ) (count : ℕ) (slots : List Slot) : Type 0 where

@@ -1,4 +1,3 @@
 pub mod Judged
-pub mod Places
 pub mod SlotLine
 pub mod SlotsText

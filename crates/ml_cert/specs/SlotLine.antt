@@ -3,7 +3,7 @@ use Rattle.ml_ratio.specs.Lines.{parts}
 use Rattle.ml_ratio.specs.Ratio.{ReadsRatio}
 use Rattle.ml_cone.specs.declared.label.Label.{Label}
 use Rattle.ml_cone.specs.declared.slot.Slot.{Slot}
-use Rattle.ml_cert.specs.Places.{IsPlaceOf}
+use Rattle.ml_cone.specs.Places.{IsPlaceOf}
 
 -- the word is `-` for no blocker, and else the id of the label that is the blocker
 abbrev pub WritesBlocker : List Label → List ℕ → Option ℕ → Type 0

@@ -1,24 +1,12 @@
-use Rattle.std.specs.Prelude.{ℕ, ◌≡◌, ◌+◌, ◌<◌, List, [], length, slice_index_or, ◌⊎◌}
+use Rattle.std.specs.Prelude.{ℕ, ◌≡◌, ◌+◌, ◌<◌, List, length, slice_index_or, ◌⊎◌}
 use Rattle.std.specs.Str.Lines.{lines}
-use Rattle.ml_ratio.specs.Lines.{written_lines}
+use Rattle.ml_ratio.specs.Lines.{entries, entry}
 use Rattle.ml_cone.specs.Slots.{no_slot}
 use Rattle.ml_cone.specs.declared.label.Label.{Label}
 use Rattle.ml_cone.specs.declared.slot.Slot.{Slot}
 use Rattle.ml_cert.specs.SlotLine.{IsSlotLine}
 use Rattle.ml_cert.specs.declared.fault.SlotsFault.{SlotsFault}
 use Rattle.ml_cert.specs.declared.fault.SlotsFault.TheVariants.{BadLine, Memory}
-
--- the lines that are not empty, each with its number, counted from 1 over all lines
-abbrev pub entries : List ℕ → List (ℕ × List ℕ)
-entries bytes = written_lines 1 (lines bytes)
-
--- what lies past the last line
-abbrev pub no_entry : ℕ × List ℕ
-no_entry = (0, [])
-
--- the i-th line that is not empty, with its number
-abbrev pub entry : List ℕ → ℕ → ℕ × List ℕ
-entry bytes i = slice_index_or (entries bytes) i no_entry
 
 -- each label has one line, in order, and it writes the label's slot
 pub record AreSlotLines (labels : List Label) (bytes : List ℕ) (slots : List Slot) : Type 0 where

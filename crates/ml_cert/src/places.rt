@@ -1,6 +1,6 @@
 //! Where each id stands in a list of labels.
 ghost use Rattle.std.specs.Prelude.{◌≡◌, ◌≤◌, length, IfOk};
-ghost use Rattle.ml_cert.specs.Places.{FindsPlaces, find_place};
+ghost use Rattle.ml_cone.specs.Places.{FindsPlaces, find_place};
 
 use ml_cone::Label;
 use std::alloc::{AllocError, Global};

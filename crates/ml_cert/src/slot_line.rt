@@ -1,6 +1,6 @@
 //! One line of the text of slots.
 ghost use Rattle.std.specs.Prelude.{IfOk};
-ghost use Rattle.ml_cert.specs.Places.{FindsPlaces};
+ghost use Rattle.ml_cone.specs.Places.{FindsPlaces};
 ghost use Rattle.ml_cert.specs.SlotLine.{IsBlockerAnswer, IsWordsAnswer, IsLineAnswer};
 
 use crate::places::place_of;

@@ -1,6 +1,7 @@
 pub mod Plane
 pub mod Order
 pub mod Label
+pub mod Places
 pub mod View
 pub mod Overlap
 pub mod Range

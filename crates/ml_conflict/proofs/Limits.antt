@@ -6,8 +6,7 @@ use Rattle.ml_cone.specs.Overlap.{Overlap}
 use Rattle.ml_cone.specs.Choice.{IsEnd, Allows, IsLimit, CoversFrom}
 use Rattle.ml_conflict.specs.Begin.{Begins, Clear, Covers, IsBlock}
 use Rattle.ml_cone.specs.declared.label.Label.{Label}
-use Rattle.ml_ratio.proofs.Fractions.{less_at_most, at_most_less, at_most_trans, middle, middle_above, middle_below}
-use Rattle.ml_ratio.proofs.Fractions.{greater_of, scale_above}
+use Rattle.ml_ratio.proofs.Fractions.{less_at_most, at_most_less, at_most_trans, middle, middle_above, middle_below, greater_of, scale_above}
 use Rattle.ml_conflict.proofs.Greedy.{Allows-smaller}
 use Rattle.ml_conflict.proofs.Openness.{under_both, HasBeginning, overlap_begins}
 

@@ -4,7 +4,8 @@
 //! Each holds on an open interval of scales `s`, and so do all four.
 ghost use Rattle.std.specs.Prelude.{ℕ, ℤ, pos, ◌≡◌, ◌*◌, ◌<◌, ◌≤◌, ◌^◌, ◌↔◌, ◌*ℤ◌, ◌<ℤ◌, IfSome, unsigned_abs, length, slice_index_or};
 ghost use Rattle.ml_ratio.specs.Fraction.{Fraction, IsScale};
-ghost use Rattle.ml_cone.specs.Plane.{IsInWorld, IsOffset, IsBox, SidesMeet};
+ghost use Rattle.ml_cone.specs.Plane.{IsOffset, IsBox, SidesMeet};
+ghost use Rattle.ml_ratio.specs.World.{IsInWorld};
 ghost use Rattle.ml_cone.specs.Overlap.{BoxesOverlap};
 ghost use Rattle.ml_cone.specs.declared.label.BoxPx.{BoxPx};
 ghost use Rattle.ml_conflict.specs.Quotient.{IsUnderEnd, LiesBetween, LiesIn, HasLowParts, LeavesRoom};

@@ -170,72 +170,28 @@ fn a_limit_is_where_overlap_begins_in_both_ranges(rt: HostRuntime) -> Result<(),
 
 #[test]
 fn limits_at_and_across_the_edges_of_ranges(rt: HostRuntime) -> Result<(), Fail> {
-    let most = (268435456, 1);
+    let most = 268435456;
     let far = 1800000000;
-    // the anchors of A and B, the range of A, its end, the range of B, the limit that A sets B
+    // the x of A and of B, the range of A, its end, the range of B, the limit that A sets B
     for (a, b, from, to, until, min, max, want) in [
-        (
-            0,
-            400,
-            (0, 1),
-            (1000, 1),
-            (1000, 1),
-            (0, 1),
-            (1000, 1),
-            Some((20, 1)),
-        ),
-        (0, 400, (0, 1), (1000, 1), (20, 1), (0, 1), (1000, 1), None),
-        (0, 400, (0, 1), (1000, 1), (1000, 1), (0, 1), (20, 1), None),
-        (
-            0,
-            400,
-            (50, 1),
-            (1000, 1),
-            (1000, 1),
-            (0, 1),
-            (1000, 1),
-            Some((50, 1)),
-        ),
-        (0, 400, (50, 1), (1000, 1), (50, 1), (0, 1), (1000, 1), None),
-        (0, 400, (50, 1), (1000, 1), (1000, 1), (0, 1), (50, 1), None),
-        (
-            7,
-            7,
-            (0, 1),
-            (1000, 1),
-            (1000, 1),
-            (0, 1),
-            (1000, 1),
-            Some((0, 1)),
-        ),
+        (0, 400, 0, 1000, 1000, 0, 1000, Some(20)),
+        (0, 400, 0, 1000, 20, 0, 1000, None),
+        (0, 400, 0, 1000, 1000, 0, 20, None),
+        (0, 400, 50, 1000, 1000, 0, 1000, Some(50)),
+        (0, 400, 50, 1000, 50, 0, 1000, None),
+        (0, 400, 50, 1000, 1000, 0, 50, None),
+        (7, 7, 0, 1000, 1000, 0, 1000, Some(0)),
         // 20 pixels over 36 * 10^8
-        (
-            -far,
-            far,
-            (0, 1),
-            most,
-            most,
-            (0, 1),
-            most,
-            Some((180000000, 1)),
-        ),
-        (-far, far, (0, 1), most, (180000000, 1), (0, 1), most, None),
-        (
-            -far,
-            far,
-            (0, 1),
-            most,
-            most,
-            (180000001, 1),
-            most,
-            Some((180000001, 1)),
-        ),
+        (-far, far, 0, most, most, 0, most, Some(180000000)),
+        (-far, far, 0, most, 180000000, 0, most, None),
+        (-far, far, 0, most, most, 180000001, most, Some(180000001)),
     ] {
-        let low = ((b, 0), [USUAL].as_slice(), min, max);
-        let high = ((a, 0), [USUAL].as_slice(), from, to);
+        let low = ((b, 0), [USUAL].as_slice(), (min, 1), (max, 1));
+        let high = ((a, 0), [USUAL].as_slice(), (from, 1), (to, 1));
+        let want = want.map(|limit| (limit, 1));
         assert!(rt;
-            has_limit(rt.alloc(), low, high, until, want)?,
-            "{a} {b} {from:?} {until:?} {max:?}"
+            has_limit(rt.alloc(), low, high, (until, 1), want)?,
+            "{a} {b} {from} {until} {max}"
         );
     }
     Ok(())
@@ -340,12 +296,11 @@ fn slot_counted<L: Ledger>(low: &Label, rivals: &Others, blank: Blank) -> Slot
     evaluate(low, rivals, &mut steps)
 }
 
-/// The slot of a label at the origin with this range, among rivals given by their numbers, their
-/// x and their ends.
+/// The end and the blocker of a label at the origin that may be shown from `min` until 1000, among
+/// rivals given by their numbers, their x and their ends.
 fn slot_among(
     alloc: Global,
     min: u64,
-    max: u64,
     rivals: &[(u32, i64, u64)],
 ) -> Result<((u64, u64), Option<u32>), Fail> {
     let mut list = Vec::new(alloc);
@@ -356,7 +311,7 @@ fn slot_among(
             until: ratio((*until, 1))?,
         })?;
     }
-    let low = label_of(alloc, (0, 0), &[USUAL], (min, 1), (max, 1))?;
+    let low = label_of(alloc, (0, 0), &[USUAL], (min, 1), (1000, 1))?;
     let slot = slot_counted::<Brand>(&low, &Others { list }, Blank::new(1));
     Ok(((slot.until.num(), slot.until.den()), slot.blocker))
 }
@@ -364,80 +319,38 @@ fn slot_among(
 #[test]
 fn the_first_rival_that_sets_the_least_limit_blocks(rt: HostRuntime) -> Result<(), Fail> {
     // a rival at x overlaps the label from x/20 on, to either side
-    for (min, max, rivals, until, blocker) in [
-        (0, 1000, [].as_slice(), (1000, 1), None),
-        (0, 1000, [(7, 400, 1000)].as_slice(), (20, 1), Some(7)),
-        (0, 20, [(7, 400, 1000)].as_slice(), (20, 1), None),
-        (0, 1000, [(7, 0, 1000)].as_slice(), (0, 1), Some(7)),
-        (25, 1000, [(7, 400, 1000)].as_slice(), (25, 1), Some(7)),
-        // a tie
-        (
-            0,
-            1000,
-            [(7, 400, 1000), (3, -400, 1000)].as_slice(),
-            (20, 1),
-            Some(7),
-        ),
-        (
-            0,
-            1000,
-            [(3, -400, 1000), (7, 400, 1000)].as_slice(),
-            (20, 1),
-            Some(3),
-        ),
-        // the limits 40, 20, 20 and 30, and 21/2 last
-        (
-            0,
-            1000,
-            [
-                (0, 800, 1000),
-                (1, 400, 1000),
-                (2, -400, 1000),
-                (3, 600, 1000),
-            ]
-            .as_slice(),
-            (20, 1),
-            Some(1),
-        ),
-        (
-            0,
-            1000,
-            [(0, 800, 1000), (5, 210, 1000)].as_slice(),
-            (21, 2),
-            Some(5),
-        ),
-        // the nearer one ends before the overlap begins, or just there
-        (
-            0,
-            1000,
-            [(0, 400, 19), (5, 800, 1000)].as_slice(),
-            (40, 1),
-            Some(5),
-        ),
-        (
-            0,
-            1000,
-            [(0, 400, 20), (5, 800, 1000)].as_slice(),
-            (40, 1),
-            Some(5),
-        ),
-        (
-            0,
-            1000,
-            [(0, 400, 21), (5, 800, 1000)].as_slice(),
-            (20, 1),
-            Some(0),
-        ),
-        (
-            30,
-            1000,
-            [(0, 400, 30), (5, 800, 40)].as_slice(),
-            (1000, 1),
-            None,
-        ),
+    let left = (3, -400, 1000);
+    let right = (7, 400, 1000);
+    let wider = (0, 800, 1000);
+    for (rivals, until, blocker) in [
+        ([].as_slice(), (1000, 1), None),
+        ([right].as_slice(), (20, 1), Some(7)),
+        ([(7, 0, 1000)].as_slice(), (0, 1), Some(7)),
+        ([(7, 20000, 1000)].as_slice(), (1000, 1), None),
+        ([right, left].as_slice(), (20, 1), Some(7)),
+        ([left, right].as_slice(), (20, 1), Some(3)),
+        ([wider, left, right, wider].as_slice(), (20, 1), Some(3)),
+        ([wider, (5, 210, 1000)].as_slice(), (21, 2), Some(5)),
     ] {
-        let slot = slot_among(rt.alloc(), min, max, rivals)?;
-        assert_eq!(rt; slot, (until, blocker), "{min} {max} {rivals:?}");
+        let slot = slot_among(rt.alloc(), 0, rivals)?;
+        assert_eq!(rt; slot, (until, blocker), "{rivals:?}");
+    }
+    Ok(())
+}
+
+#[test]
+fn a_rival_counts_only_while_both_may_be_shown(rt: HostRuntime) -> Result<(), Fail> {
+    // overlap from 20 on with the one, from 40 on with the other
+    for (min, near, wide, until, blocker) in [
+        (0, 19, 1000, (40, 1), Some(5)),
+        (0, 20, 1000, (40, 1), Some(5)),
+        (0, 21, 1000, (20, 1), Some(0)),
+        (25, 1000, 1000, (25, 1), Some(0)),
+        (30, 30, 40, (1000, 1), None),
+    ] {
+        let rivals = [(0, 400, near), (5, 800, wide)];
+        let slot = slot_among(rt.alloc(), min, &rivals)?;
+        assert_eq!(rt; slot, (until, blocker), "{min} {near} {wide}");
     }
     Ok(())
 }

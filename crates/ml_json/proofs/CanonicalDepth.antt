@@ -6,7 +6,7 @@ use Rattle.ml_json.proofs.RunsRead.{by_cases}
 use Rattle.ml_json.specs.Canonical.{hex_byte, byte_on, bytes_on, tree_on, items_on, rest_on, members_on, more_on, nesting, items_nesting, pairs_nesting}
 use Rattle.ml_json.proofs.CanonicalReads.{Good, AllGood, AllGoodPairs}
 use Rattle.ml_json.proofs.DepthRuns.{calm_digit, calm_first, calm_sign, calm_letter}
-use Rattle.ml_json.specs.Numbers.{AllDigits, Digits, Whole, nought, whole, Fraction, no_fraction, fraction, Signed, unsigned, signed, Exponent, no_exponent, exponent, Unsigned, IsNumber, plain_number, minus_number}
+use Rattle.ml_ratio.specs.JsonNumber.{minus_number, plain_number, IsNumber, Unsigned, exponent, no_exponent, ExponentPart, signed, unsigned, Signed, fraction, no_fraction, FractionPart, whole, nought, Whole, Digits, AllDigits}
 use Rattle.ml_json.specs.Depth.{outside, inside, Seen, see, seen, IsShallow}
 
 -- no byte takes the depth beyond the limit
@@ -92,7 +92,7 @@ whole_calm : {w : List ℕ} → Whole w → AllCalm w
 whole_calm nought = ((λ d. refl), tt)
 whole_calm (whole {d} {ds} h all) = ((λ n. calm_first n d h), digits_calm ds all)
 
-fraction_calm : {w : List ℕ} → Fraction w → AllCalm w
+fraction_calm : {w : List ℕ} → FractionPart w → AllCalm w
 fraction_calm no_fraction = tt
 fraction_calm (fraction {ds} all) = ((λ d. refl), some_calm ds all)
 
@@ -100,7 +100,7 @@ signed_calm : {w : List ℕ} → Signed w → AllCalm w
 signed_calm (unsigned {ds} all) = some_calm ds all
 signed_calm (signed {b} {ds} h all) = ((λ d. calm_sign d b h), some_calm ds all)
 
-exponent_calm : {w : List ℕ} → Exponent w → AllCalm w
+exponent_calm : {w : List ℕ} → ExponentPart w → AllCalm w
 exponent_calm no_exponent = tt
 exponent_calm (exponent {b} h sg) = ((λ d. calm_letter d b h), signed_calm sg)
 
@@ -120,7 +120,7 @@ mutual
   spell_stays (num s) d r h le g = calm_stays 64 d s r (number_calm h) (omega arith) g
   spell_stays (str s) d r h le g = ((omega arith), text_stays 64 d s r (omega arith) g)
   spell_stays (list vs) d r h le g = ((omega arith), items_stay vs d r h (omega arith) g)
-  spell_stays (map ps) d r h le g = ((omega arith), members_stay ps d r h.0 (omega arith) g)
+  spell_stays (map ps) d r h le g = ((omega arith), members_stay ps d r h (omega arith) g)
 
   pub items_stay : (vs : Trees) (d : ℕ) (r : List ℕ) → AllGood vs → d + 1 + items_nesting vs ≤ 64 → Stays 64 (outside, d) r → Stays 64 (outside, d + 1) (items_on vs r)
   items_stay none d r h le g = ((omega arith), subst (λ n. Stays 64 (outside, n) r) (closed d) g)

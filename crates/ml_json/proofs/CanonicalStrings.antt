@@ -5,8 +5,8 @@ use Rattle.std.proofs.lemmas.Bool.Decides.{nat_tests}
 use Rattle.std.specs.Str.{IsUtf8}
 use lib.Utf8.{encode, scalar, scalars, encodes}
 use Rattle.ml_json.specs.Strings.{Piece, char, unit, Written, quote, plain, longer, short, code, text_of, escaped, hex_digit, Hex, no_hex, hex, is_plain, single, is_high}
-use Rattle.ml_json.specs.Characters.{lead, Follows, Tail, end, next, low, high, is_between}
-use Rattle.ml_json.specs.Characters.{one}
+use Rattle.ml_json.specs.Characters.{lead, Follows, Tail, end, next, low, high, one}
+use Rattle.ml_ratio.specs.JsonNumber.{is_between}
 use Rattle.ml_json.proofs.RunsRead.{by_cases}
 use Rattle.ml_json.proofs.DepthRuns.{low_large}
 use Rattle.ml_json.proofs.StringRuns.{lead_large}

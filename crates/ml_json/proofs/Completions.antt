@@ -1,16 +1,12 @@
 -- Each state can be completed, so that the bytes which lead to one are those that begin a good text.
 use Rattle.std.proofs.Common.{◌≡◌, ℕ, zero, suc, ◌+◌, ◌*◌, List, [], ◌∷◌, ◌++◌, Bool, true, false, cond, Option, Some, None, refl, sym, ◌∙◌, ap}
 use Rattle.ml_json.specs.Tree.{Tree, null, num, list, map, Pairs, put}
-use Rattle.ml_json.specs.Machine.{snoc}
+use Rattle.ml_json.specs.Machine.{snoc, Mode, Frame, State, Part, Purpose, step, finish, may_end, go_on}
 use Rattle.ml_json.specs.Strings.{is_high, is_low}
 use Rattle.ml_json.specs.Characters.{Tail, one, two, three, after_e0, after_ed, after_f0, after_f4}
 use Rattle.ml_json.specs.Grammar.{IsPrefix}
 use Rattle.ml_json.specs.Machine as m
-use Rattle.ml_json.specs.Machine.{Mode, Frame, State, Part, Purpose, step, finish, may_end, go_on}
-use Rattle.ml_json.proofs.Runs.{reach}
-use Rattle.ml_json.proofs.Runs.{reaches}
-use Rattle.ml_json.proofs.Runs.{run}
-use Rattle.ml_json.proofs.Runs.{goes}
+use Rattle.ml_json.proofs.Runs.{reach, reaches, run, goes}
 use Rattle.ml_json.proofs.TokenRuns.{Ends, ends, may_nought, may_whole, may_digits, number_ends, ends_digit}
 use Rattle.ml_json.proofs.ValueRuns.{reads_runs}
 use Rattle.ml_json.proofs.RunsRead.{runs_reads}

@@ -7,7 +7,7 @@ use Rattle.std.proofs.lemmas.Bool.{cases_lt}
 use Rattle.std.proofs.lemmas.Bool.Decides.{nat_tests}
 use Rattle.std.specs.Char.{digit_value}
 use Rattle.std.specs.Str.Parse.{digits_value_after}
-use Rattle.ml_json.specs.Numbers.{is_digit}
+use Rattle.ml_ratio.specs.JsonNumber.{is_digit}
 use Rattle.ml_json.specs.Decimal.{is_either, before, behind, digits_in}
 
 next_byte : (text : List ℕ) (at : ℕ) → at < length text → drop at text ≡ get_or text at 0 ∷ drop (at + 1) text

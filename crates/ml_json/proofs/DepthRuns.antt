@@ -3,13 +3,12 @@ use Rattle.std.proofs.Common.{◌≡◌, ℕ, zero, suc, ◌+◌, ◌*◌, ◌-�
 use Rattle.std.proofs.lemmas.Bool.Decides.{nat_tests}
 use Rattle.ml_json.specs.Tree.{Tree, none, Pairs}
 use Rattle.ml_json.specs.Grammar.{is_space}
-use Rattle.ml_json.specs.Numbers.{is_digit}
-use Rattle.ml_json.specs.Characters.{is_between, Tail, lead, low, high, later, one, two, three, after_e0, after_ed, after_f0, after_f4}
+use Rattle.ml_ratio.specs.JsonNumber.{is_digit, is_between}
+use Rattle.ml_json.specs.Characters.{Tail, lead, low, high, later, one, two, three, after_e0, after_ed, after_f0, after_f4}
 use Rattle.ml_json.specs.Strings.{is_high, is_low, escaped, hex_digit}
 use Rattle.ml_json.specs.Machine as m
 use Rattle.ml_json.specs.Machine.{Mode, Frame, State, Part, Purpose, step, may_end, go_on, is_letter, is_sign, with_key, open_of}
-use Rattle.ml_json.proofs.Runs.{reach}
-use Rattle.ml_json.proofs.Runs.{reaches}
+use Rattle.ml_json.proofs.Runs.{reach, reaches}
 use Rattle.ml_json.specs.Depth.{Where, outside, inside, behind_backslash, Seen, see, seen, depth}
 use Rattle.ml_json.proofs.RunsRead.{by_cases, at_byte}
 

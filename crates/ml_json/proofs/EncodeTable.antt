@@ -3,7 +3,8 @@ use Rattle.std.proofs.Common.{◌≡◌, ℕ, ◌+◌, ◌/◌, ◌%◌, ◌<◌
 use Rattle.std.proofs.lemmas.Bool.Decides.{nat_tests}
 use Rattle.std.proofs.lemmas.Bool.{cases_lt}
 use lib.Utf8.{encode, scalar, scalar_cases}
-use Rattle.ml_json.specs.Characters.{is_between, Tail, one, two, three, after_e0, after_ed, after_f0, after_f4, lead, Follows, end, next}
+use Rattle.ml_json.specs.Characters.{Tail, one, two, three, after_e0, after_ed, after_f0, after_f4, lead, Follows, end, next}
+use Rattle.ml_ratio.specs.JsonNumber.{is_between}
 
 -- a character of two bytes
 pub two_bytes : (c : ℕ) → 128 ≤ c → c < 2048 → (a b : ℕ) × (encode c ≡ a ∷ b ∷ []) × (lead a ≡ Some one) × Follows (Some one) (b ∷ [])

@@ -9,9 +9,9 @@ use Rattle.std.proofs.lemmas.Fmt.{decimal_by_steps, decimal_is_IsNumeral}
 use Rattle.std.specs.Fmt.{decimal}
 use Rattle.std.specs.Char.{digit_value}
 use Rattle.std.specs.Str.Parse.{digits_value, digits_value_after, starts_with_minus}
-use Rattle.ml_json.specs.Characters.{is_between}
-use Rattle.ml_json.specs.Numbers.{is_digit, AllDigits, Whole, nought, whole, fraction, no_exponent, Unsigned, IsNumber, plain_number, minus_number}
-use Rattle.ml_json.specs.Decimal.{is_either, before, behind, mantissa, exponent, digits_in, significand, places, exponent_size, raised, lowered, e7_size, e7_of, signed, IsInWorld}
+use Rattle.ml_ratio.specs.JsonNumber.{is_between, minus_number, plain_number, IsNumber, Unsigned, no_exponent, fraction, whole, nought, Whole, AllDigits, is_digit}
+use Rattle.ml_json.specs.Decimal.{is_either, before, behind, mantissa, exponent, digits_in, significand, places, exponent_size, raised, lowered, e7_size, e7_of, signed}
+use Rattle.ml_ratio.specs.World.{IsInWorld}
 use Rattle.ml_json.specs.Fixed.{last_digits, size_text, e7_text, ReadsBack}
 use Rattle.ml_json.proofs.Cutting.{digit_is}
 use Rattle.ml_json.proofs.Scaling.{value_append}

@@ -16,6 +16,7 @@ pub mod NumberLemmas
 pub mod Quiet
 pub mod Places
 pub mod EndLemmas
+pub mod KnownNumbers
 pub mod Exact
 pub mod Cutting
 pub mod Scaling

@@ -2,7 +2,8 @@
 use Rattle.std.proofs.Common.{◌≡◌, ℕ, List, [], ◌∷◌, ◌++◌, true, Option, Some, None, sym, ◌∙◌, ap, subst, append_assoc, append-nil}
 use Rattle.std.specs.Str.{is_utf8, IsUtf8}
 use Rattle.std.proofs.lemmas.Str.{IsUtf8-from_is_utf8}
-use Rattle.ml_json.specs.Characters.{Tail, low, high, later, is_between, Follows, end, next}
+use Rattle.ml_json.specs.Characters.{Tail, low, high, later, Follows, end, next}
+use Rattle.ml_ratio.specs.JsonNumber.{is_between}
 
 pub partial_more : (got new : List ℕ) (b : ℕ) (t : Tail) (o : Option Tail) → new ≡ got ++ b ∷ [] → is_between (low t) (high t) b ≡ true → later t ≡ o
     → ((cs : List ℕ) → Follows (Some t) cs → is_utf8 (got ++ cs) ≡ true) → (cs : List ℕ) → Follows o cs → is_utf8 (new ++ cs) ≡ true

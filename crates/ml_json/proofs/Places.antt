@@ -7,10 +7,7 @@ use Rattle.ml_json.specs.Tree.{Tree}
 use Rattle.ml_json.specs.Grammar.{IsGood}
 use Rattle.ml_json.specs.Machine as m
 use Rattle.ml_json.specs.Machine.{Mode, Frame, State, step, finish, open_of}
-use Rattle.ml_json.proofs.Runs.{reach}
-use Rattle.ml_json.proofs.Runs.{reaches}
-use Rattle.ml_json.proofs.Runs.{run}
-use Rattle.ml_json.proofs.Runs.{goes}
+use Rattle.ml_json.proofs.Runs.{reach, reaches, run, goes}
 use Rattle.ml_json.specs.Depth.{depth, seen, IsShallow}
 use Rattle.ml_json.specs.Answer.{IsDeep, IsNotJson, IsText}
 use Rattle.ml_json.proofs.ValueRuns.{reads_runs}

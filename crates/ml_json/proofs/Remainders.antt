@@ -2,13 +2,12 @@
 use Rattle.std.proofs.Common.{◌≡◌, ℕ, suc, ◌⊎◌, List, [], ◌∷◌, ◌++◌, true, false, Option, Some}
 use Rattle.ml_json.specs.Tree.{Tree, null, flag, num, str, list, map, Trees, none, Pairs, no_pairs, put, put_all}
 use Rattle.ml_json.proofs.Runs.{snoc_all}
-use Rattle.ml_json.specs.Machine.{snoc}
+use Rattle.ml_json.specs.Machine.{snoc, Mode, Frame, Part, Purpose}
 use Rattle.ml_json.specs.Characters.{Follows}
 use Rattle.ml_json.specs.Grammar.{Blank, Value, Rest, Members, MoreMembers}
-use Rattle.ml_json.specs.Numbers.{AllDigits, Digits, Signed, Exponent, Tailed, Unsigned}
+use Rattle.ml_ratio.specs.JsonNumber.{Unsigned, Tailed, ExponentPart, Signed, Digits, AllDigits}
 use Rattle.ml_json.specs.Strings.{Piece, char, unit, Hex, Written, text_of}
 use Rattle.ml_json.specs.Machine as m
-use Rattle.ml_json.specs.Machine.{Mode, Frame, Part, Purpose}
 
 -- the value v is there: bs closes all that is open, and t is the tree
 abbrev pub Closes : Tree → List Frame → List ℕ → Tree → Type 0
@@ -36,8 +35,8 @@ abbrev pub Completes : Part → List ℕ → Type 0
 Completes m.minus s = Unsigned s
 Completes m.nought s = Tailed s
 Completes m.whole s = (ds u : List ℕ) × (s ≡ ds ++ u) × AllDigits ds × Tailed u
-Completes m.dot s = (ds e : List ℕ) × (s ≡ ds ++ e) × Digits ds × Exponent e
-Completes m.digits s = (ds e : List ℕ) × (s ≡ ds ++ e) × AllDigits ds × Exponent e
+Completes m.dot s = (ds e : List ℕ) × (s ≡ ds ++ e) × Digits ds × ExponentPart e
+Completes m.digits s = (ds e : List ℕ) × (s ≡ ds ++ e) × AllDigits ds × ExponentPart e
 Completes m.letter s = Signed s
 Completes m.sign s = Digits s
 Completes m.power s = AllDigits s

@@ -3,20 +3,13 @@ use Rattle.std.proofs.Common.{◌≡◌, ℕ, zero, suc, ◌+◌, ◌*◌, inl, 
 use Rattle.std.proofs.lemmas.Bool.Decides.{nat_tests}
 use Rattle.std.proofs.lemmas.Bool.{eqb-true}
 use Rattle.ml_json.specs.Tree.{Tree, null, flag, num, str, list, map, Trees, none, more, Pairs, no_pairs, pair, put, put_all}
-use Rattle.ml_json.specs.Machine.{snoc}
-use Rattle.ml_json.specs.Grammar.{is_space}
-use Rattle.ml_json.specs.Numbers.{is_digit}
-use Rattle.ml_json.specs.Characters.{is_between, Tail, lead, low, high, later}
-use Rattle.ml_json.specs.Strings.{escaped, hex_digit, is_high, is_low, replacement, single, both, lone, is_plain}
-use Rattle.ml_json.specs.Grammar.{no_blank, blank}
-use Rattle.ml_json.specs.Numbers.{AllDigits, Digits, nought, whole, no_fraction, fraction, Signed, unsigned, signed, no_exponent, exponent, Tailed, Unsigned, plain_number, minus_number}
-use Rattle.ml_json.specs.Characters.{Follows, end, next}
-use Rattle.ml_json.specs.Strings.{Piece, char, unit, no_hex, hex, Written, quote, plain, longer, short, code, text_of}
-use Rattle.ml_json.specs.Grammar.{Value, a_null, a_true, a_false, a_number, a_string, empty_list, a_list, empty_map, a_map, items, close, comma, members, close_map, comma_map, document, Reads, unmarked, marked}
+use Rattle.ml_json.specs.Machine.{snoc, Mode, Frame, State, Part, Purpose, step, finish, may_end, go_on, is_letter, is_sign}
+use Rattle.ml_json.specs.Grammar.{is_space, no_blank, blank, Value, a_null, a_true, a_false, a_number, a_string, empty_list, a_list, empty_map, a_map, items, close, comma, members, close_map, comma_map, document, Reads, unmarked, marked}
+use Rattle.ml_ratio.specs.JsonNumber.{is_digit, is_between, minus_number, plain_number, Unsigned, Tailed, exponent, no_exponent, signed, unsigned, Signed, fraction, no_fraction, whole, nought, Digits, AllDigits}
+use Rattle.ml_json.specs.Characters.{Tail, lead, low, high, later, Follows, end, next}
+use Rattle.ml_json.specs.Strings.{escaped, hex_digit, is_high, is_low, replacement, single, both, lone, is_plain, Piece, char, unit, no_hex, hex, Written, quote, plain, longer, short, code, text_of}
 use Rattle.ml_json.specs.Machine as m
-use Rattle.ml_json.specs.Machine.{Mode, Frame, State, Part, Purpose, step, finish, may_end, go_on, is_letter, is_sign}
-use Rattle.ml_json.proofs.Runs.{run}
-use Rattle.ml_json.proofs.Runs.{goes}
+use Rattle.ml_json.proofs.Runs.{run, goes}
 use Rattle.ml_json.proofs.Remainders.{Closes, Started, Values, Keys, Colon, Ended, Completes, Text, Left}
 use Rattle.ml_json.proofs.ValueRuns.{snoc_all-one}
 use Rattle.ml_json.proofs.StringRuns.{char_joined}

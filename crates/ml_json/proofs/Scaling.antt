@@ -8,7 +8,7 @@ use Rattle.std.proofs.lemmas.Bool.{cases_lt}
 use Rattle.std.proofs.lemmas.Bool.Decides.{nat_tests}
 use Rattle.std.specs.Char.{digit_value}
 use Rattle.std.specs.Str.Parse.{digits_value, digits_value_after, AllDigits, starts_with_minus}
-use Rattle.ml_json.specs.Numbers.{is_digit}
+use Rattle.ml_ratio.specs.JsonNumber.{is_digit}
 use Rattle.ml_json.specs.Decimal.{is_either, before, behind, mantissa, exponent, digits_in, significand, places, exponent_size, raised, lowered, size_at, e7_size, nearest}
 use Rattle.ml_json.proofs.Cutting.{digit_is}
 

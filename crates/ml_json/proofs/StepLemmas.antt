@@ -3,14 +3,12 @@ use Rattle.std.proofs.Common.{◌≡◌, ℕ, ◌+◌, ◌≤◌, List, [], ◌�
 use Rattle.std.specs.declared.alloc.Global.{Global}
 use Rattle.std.proofs.lemmas.Bool.Decides.{nat_tests}
 use Rattle.ml_json.specs.Tree.{Tree, list, map, put}
-use Rattle.ml_json.specs.Machine.{snoc}
+use Rattle.ml_json.specs.Machine.{snoc, State, open_of}
 use Rattle.ml_json.specs.Grammar.{is_space}
 use Rattle.ml_json.specs.Machine as m
-use Rattle.ml_json.specs.Machine.{State, open_of}
 use Rattle.std.specs.BTreeMap.{BTreeMap}
 use Rattle.ml_json.specs.View.{tree_of, trees_view, pairs_view}
-use Rattle.ml_json.specs.State.{entries_view}
-use Rattle.ml_json.specs.State.{frames_of, frame_of}
+use Rattle.ml_json.specs.State.{entries_view, frames_of, frame_of}
 use Rattle.ml_json.specs.declared.value.Json.{Json, List as json_list, Map as json_map}
 use Rattle.ml_json.specs.declared.value.Pair.{Pair}
 use Rattle.ml_json.specs.declared.state.Frame.{Frame}

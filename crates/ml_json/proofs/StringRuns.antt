@@ -1,14 +1,11 @@
 -- The strings of the grammar, read by the machine.
 use Rattle.std.proofs.Common.{◌≡◌, ℕ, ◌≤◌, List, [], ◌∷◌, ◌++◌, Bool, true, false, cond, nat_lt, ◌==◌, Option, Some, None, refl, sym, ◌∙◌, ap, arith, append_assoc, append-nil}
 use Rattle.std.proofs.lemmas.Bool.Decides.{nat_tests}
-use Rattle.ml_json.specs.Characters.{Tail, lead}
-use Rattle.ml_json.specs.Strings.{escaped, is_high, is_low, replacement, single, both, lone, is_plain}
-use Rattle.ml_json.specs.Characters.{Follows, end, next}
-use Rattle.ml_json.specs.Strings.{Piece, unit, Hex, no_hex, hex, Written, quote, plain, longer, short, code, text_of}
+use Rattle.ml_json.specs.Characters.{Tail, lead, Follows, end, next}
+use Rattle.ml_json.specs.Strings.{escaped, is_high, is_low, replacement, single, both, lone, is_plain, Piece, unit, Hex, no_hex, hex, Written, quote, plain, longer, short, code, text_of}
 use Rattle.ml_json.specs.Machine as m
 use Rattle.ml_json.specs.Machine.{Mode, Frame, State, step, finish, Purpose, ended, add_unit, add_char, hex_to, bytes_to}
-use Rattle.ml_json.proofs.Runs.{run}
-use Rattle.ml_json.proofs.Runs.{goes}
+use Rattle.ml_json.proofs.Runs.{run, goes}
 
 bytes_runs : (purpose : Purpose) (p : Option ℕ) (c : List ℕ) (st : List Frame) (s : List ℕ) {o : Option Tail} {bs : List ℕ} (got : List ℕ) → Follows o bs
     → run (bs ++ s) (bytes_to purpose p c o got) st ≡ run s (m.text purpose None (add_char p c (got ++ bs))) st

@@ -5,7 +5,8 @@ use Rattle.std.proofs.lemmas.Bool.{cases_lt}
 use Rattle.std.proofs.lemmas.Bool.Decides.{nat_tests}
 use Rattle.std.specs.Str.{IsUtf8, is_utf8}
 use lib.Utf8.{encode, scalar}
-use Rattle.ml_json.specs.Characters.{is_between, Tail, one, two, three, after_e0, after_ed, after_f0, after_f4, lead, Follows, end, next}
+use Rattle.ml_json.specs.Characters.{Tail, one, two, three, after_e0, after_ed, after_f0, after_f4, lead, Follows, end, next}
+use Rattle.ml_ratio.specs.JsonNumber.{is_between}
 
 scalar_low : (c : ℕ) → c < 55296 → scalar c ≡ true
 scalar_low c h = grind (arith, nat_tests)

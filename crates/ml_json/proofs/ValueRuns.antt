@@ -2,17 +2,12 @@
 use Rattle.std.proofs.Common.{◌≡◌, ℕ, inl, inr, List, [], ◌∷◌, ◌++◌, true, false, ◌==◌, Some, None, refl, sym, ◌∙◌, ap, subst, arith, append_assoc}
 use Rattle.std.proofs.lemmas.Bool.Decides.{nat_tests, eqb_tells}
 use Rattle.ml_json.specs.Tree.{Tree, list, map, Trees, none, more, Pairs, no_pairs, put, put_all}
-use Rattle.ml_json.proofs.Runs.{snoc_all}
-use Rattle.ml_json.specs.Machine.{snoc}
-use Rattle.ml_json.specs.Grammar.{is_space}
-use Rattle.ml_json.specs.Characters.{is_between}
-use Rattle.ml_json.specs.Grammar.{Blank, no_blank, blank}
-use Rattle.ml_json.specs.Numbers.{IsNumber, plain_number, minus_number, Whole, nought, whole}
+use Rattle.ml_json.proofs.Runs.{snoc_all, run}
+use Rattle.ml_json.specs.Machine.{snoc, Mode, Frame, State, step, finish, Purpose}
+use Rattle.ml_json.specs.Grammar.{is_space, Blank, no_blank, blank, Value, a_null, a_true, a_false, a_number, a_string, empty_list, a_list, empty_map, a_map, Items, items, Rest, close, comma, Members, members, MoreMembers, close_map, comma_map, Document, document, Reads, unmarked, marked}
+use Rattle.ml_ratio.specs.JsonNumber.{is_between, minus_number, plain_number, IsNumber, whole, nought, Whole}
 use Rattle.ml_json.specs.Strings.{text_of}
-use Rattle.ml_json.specs.Grammar.{Value, a_null, a_true, a_false, a_number, a_string, empty_list, a_list, empty_map, a_map, Items, items, Rest, close, comma, Members, members, MoreMembers, close_map, comma_map, Document, document, Reads, unmarked, marked}
 use Rattle.ml_json.specs.Machine as m
-use Rattle.ml_json.specs.Machine.{Mode, Frame, State, step, finish, Purpose}
-use Rattle.ml_json.proofs.Runs.{run}
 use Rattle.ml_json.proofs.TokenRuns.{Ends, ends, run_blank, space_value, space_first, space_first_key, space_key, space_colon, space_after, number_runs}
 use Rattle.ml_json.proofs.StringRuns.{written_runs}
 

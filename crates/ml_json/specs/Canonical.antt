@@ -4,8 +4,8 @@ use Rattle.std.specs.Ordering.{nat_cmp}
 use Rattle.std.specs.Cmp.Lexicographic.{slice_cmp}
 use Rattle.std.specs.Str.{IsUtf8}
 use Rattle.std.specs.declared.cmp.Ordering.TheVariants.{Less}
-use Rattle.ml_json.specs.Tree.{Tree, null, flag, num, str, list, map, Trees, none, more, Pairs, no_pairs, pair}
-use Rattle.ml_json.specs.Numbers.{IsNumber}
+use Rattle.ml_json.specs.Tree.{Tree, null, flag, num, str, list, map, Trees, none, more, Pairs, no_pairs, pair, put_all}
+use Rattle.ml_ratio.specs.JsonNumber.{IsNumber}
 
 -- a hexadecimal digit, in lower case
 abbrev pub hex_byte : ℕ → ℕ
@@ -106,6 +106,51 @@ abbrev mutual
   pub AllPairsOrderly : Pairs → Type 0
   AllPairsOrderly no_pairs = Unit {0}
   AllPairsOrderly (pair k v ps) = IsOrderly v × AllPairsOrderly ps
+
+abbrev mutual
+  -- every number is the text of one
+  pub HasNumbers : Tree → Type 0
+  HasNumbers null = Unit {0}
+  HasNumbers (flag b) = Unit {0}
+  HasNumbers (num s) = IsNumber s
+  HasNumbers (str s) = Unit {0}
+  HasNumbers (list vs) = AllHaveNumbers vs
+  HasNumbers (map ps) = AllPairsHaveNumbers ps
+
+  -- of every item
+  pub AllHaveNumbers : Trees → Type 0
+  AllHaveNumbers none = Unit {0}
+  AllHaveNumbers (more v vs) = HasNumbers v × AllHaveNumbers vs
+
+  -- of every member
+  pub AllPairsHaveNumbers : Pairs → Type 0
+  AllPairsHaveNumbers no_pairs = Unit {0}
+  AllPairsHaveNumbers (pair k v ps) = HasNumbers v × AllPairsHaveNumbers ps
+
+-- a tree whose text is JSON: its numbers are numbers, and its depth is at most 64
+pub record IsPrintable (tree : Tree) : Type 0 where
+  pub numbers : HasNumbers tree
+  pub shallow : nesting tree ≤ 64
+
+abbrev mutual
+  -- a tree as its text is read: the members of each map put in one after another
+  pub settled : Tree → Tree
+  settled null = null
+  settled (flag b) = flag b
+  settled (num s) = num s
+  settled (str s) = str s
+  settled (list vs) = list (items_settled vs)
+  settled (map ps) = map (put_all no_pairs (members_settled ps))
+
+  -- each item
+  pub items_settled : Trees → Trees
+  items_settled none = none
+  items_settled (more v vs) = more (settled v) (items_settled vs)
+
+  -- each member
+  pub members_settled : Pairs → Pairs
+  members_settled no_pairs = no_pairs
+  members_settled (pair k v ps) = pair k (settled v) (members_settled ps)
 
 -- a tree that can be written: orderly, and of depth at most 64
 pub record IsWritable (tree : Tree) : Type 0 where

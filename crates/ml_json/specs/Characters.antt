@@ -1,9 +1,6 @@
 -- Characters of more than one byte in UTF-8, by the table of RFC 3629.
-use Rattle.std.specs.Prelude.{◌≡◌, ℕ, List, [], ◌∷◌, Bool, true, cond, nat_le, ◌==◌, ◌&&◌, Option, Some, None}
-
--- whether a byte is within two bounds
-abbrev pub is_between : ℕ → ℕ → ℕ → Bool
-is_between low high b = nat_le low b && nat_le b high
+use Rattle.ml_ratio.specs.JsonNumber.{is_between}
+use Rattle.std.specs.Prelude.{◌≡◌, ℕ, List, [], ◌∷◌, true, cond, ◌==◌, Option, Some, None}
 
 -- what a character still wants: so many bytes, of which the first behind E0, ED, F0 and F4 has narrower bounds
 pub data Tail : Type 0 where

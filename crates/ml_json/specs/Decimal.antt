@@ -1,7 +1,7 @@
 -- The decimal fraction that a number's text writes, of any size, and the numbers of a map that are read from it.
-use Rattle.std.specs.Prelude.{ℕ, ◌+◌, ◌*◌, ◌/◌, ◌^◌, List, [], ◌∷◌, length, Bool, cond, if◌then◌else◌, nat_le, ◌==◌, ◌||◌, min, Option, Some, None, ℤ, pos, negsuc, neg_ℤ, ◌≤ℤ◌, filter}
+use Rattle.std.specs.Prelude.{ℕ, ◌+◌, ◌*◌, ◌/◌, ◌^◌, List, [], ◌∷◌, length, Bool, cond, if◌then◌else◌, nat_le, ◌==◌, ◌||◌, min, Option, Some, None, ℤ, pos, neg_ℤ, filter}
 use Rattle.std.specs.Str.Parse.{digits_value, starts_with_minus}
-use Rattle.ml_json.specs.Numbers.{is_digit}
+use Rattle.ml_ratio.specs.JsonNumber.{is_digit}
 
 -- whether a byte is one of two, as e and E
 abbrev pub is_either : ℕ → ℕ → ℕ → Bool
@@ -64,10 +64,6 @@ size_at power text = significand text * 10 ^ (raised text + power) / 10 ^ lowere
 -- the value's size times 10^7, rounded to the nearest whole number, a half away from zero
 unfoldable pub e7_size : List ℕ → ℕ
 e7_size text = nearest (significand text * 10 ^ (raised text + 7)) (10 ^ lowered text)
-
--- a world coordinate: -2,000,000,000 to 2,000,000,000 units of 10^-7
-abbrev pub IsInWorld : ℤ → Type 0
-IsInWorld x = (negsuc 1999999999 ≤ℤ x) × (x ≤ℤ pos 2000000000)
 
 -- a size with a sign
 abbrev pub signed : Bool → ℕ → ℤ

@@ -1,7 +1,8 @@
 -- The text of a world coordinate: a whole number of 10^-7 in seven decimals.
 use Rattle.std.specs.Prelude.{◌≡◌, ℕ, zero, suc, ◌+◌, ◌/◌, ◌%◌, ◌^◌, List, [], ◌∷◌, ◌++◌, Some, ℤ, pos, negsuc}
 use Rattle.std.specs.Fmt.{decimal}
-use Rattle.ml_json.specs.Decimal.{e7_of, IsInWorld}
+use Rattle.ml_json.specs.Decimal.{e7_of}
+use Rattle.ml_ratio.specs.World.{IsInWorld}
 
 -- a number's last decimal digits, so many of them, in order of their weight
 unfoldable pub last_digits : ℕ → ℕ → List ℕ

@@ -1,7 +1,7 @@
 -- The grammar of RFC 8259: each relation says that bytes begin with such a thing, and what follows it.
 use Rattle.std.specs.Prelude.{◌≡◌, ℕ, List, [], ◌∷◌, ◌++◌, Bool, true, false, ◌==◌, ◌||◌, None}
 use Rattle.ml_json.specs.Tree.{Tree, null, flag, num, str, list, map, Trees, none, more, Pairs, no_pairs, pair, put_all}
-use Rattle.ml_json.specs.Numbers.{IsNumber}
+use Rattle.ml_ratio.specs.JsonNumber.{IsNumber}
 use Rattle.ml_json.specs.Strings.{Piece, Written, text_of}
 
 -- white space: space, tab, LF and CR

@@ -1,6 +1,5 @@
 pub mod Tree
 pub mod Characters
-pub mod Numbers
 pub mod Strings
 pub mod Grammar
 pub mod Depth

@@ -1,8 +1,8 @@
 -- The reader as a machine with a stack, one byte at a time: what its private functions compute. No public clause speaks of it.
 use Rattle.std.specs.Prelude.{ℕ, zero, suc, ◌+◌, ◌*◌, List, [], ◌∷◌, ◌++◌, length, Bool, true, false, cond, nat_lt, ◌==◌, ◌||◌, Option, Some, None}
 use Rattle.ml_json.specs.Tree.{Tree, null, flag, num, str, list, map, Trees, none, more, Pairs, no_pairs, put}
-use Rattle.ml_json.specs.Characters.{is_between, Tail, lead, low, high, later}
-use Rattle.ml_json.specs.Numbers.{is_digit}
+use Rattle.ml_json.specs.Characters.{Tail, lead, low, high, later}
+use Rattle.ml_ratio.specs.JsonNumber.{is_between, is_digit}
 use Rattle.ml_json.specs.Strings.{escaped, hex_digit, is_high, is_low, replacement, single, both, lone}
 use Rattle.ml_json.specs.Grammar.{is_space}
 

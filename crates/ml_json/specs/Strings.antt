@@ -1,8 +1,8 @@
 -- A string as it is written, and the text that it stands for.
 use Rattle.std.specs.Prelude.{◌≡◌, ℕ, suc, ◌+◌, ◌-◌, ◌*◌, List, [], ◌∷◌, ◌++◌, Bool, true, false, cond, nat_lt, nat_le, ◌==◌, ◌&&◌, Option, Some, None}
 use Rattle.std.specs.Char.{encode_utf8}
-use Rattle.ml_json.specs.Characters.{is_between, Tail, lead, Follows}
-use Rattle.ml_json.specs.Numbers.{is_digit}
+use Rattle.ml_json.specs.Characters.{Tail, lead, Follows}
+use Rattle.ml_ratio.specs.JsonNumber.{is_between, is_digit}
 
 -- a piece of a string: a character's bytes, or a 16-bit unit that was written as \u and four digits
 pub data Piece : Type 0 where

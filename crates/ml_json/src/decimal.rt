@@ -1,8 +1,9 @@
 //! Numbers of a map: a number's text as an exact decimal fraction, in fixed decimals.
 ghost use Rattle.std.specs.Prelude.{◌≡◌, ◌<◌, ◌≤◌, ◌^◌, ◌*◌, ◌+◌, min, take, drop, length, IfSome};
 ghost use Rattle.std.specs.Str.Parse.{digits_value, starts_with_minus};
-ghost use Rattle.ml_json.specs.Numbers.{is_digit as spec_is_digit};
-ghost use Rattle.ml_json.specs.Decimal.{before as spec_before, behind as spec_behind, digits_in, signed, size_at, e7_of, whole_of, IsInWorld};
+ghost use Rattle.ml_ratio.specs.JsonNumber.{is_digit as spec_is_digit};
+ghost use Rattle.ml_json.specs.Decimal.{before as spec_before, behind as spec_behind, digits_in, signed, size_at, e7_of, whole_of};
+ghost use Rattle.ml_ratio.specs.World.{IsInWorld};
 
 use ml_ratio::Text;
 

@@ -1,6 +1,6 @@
 //! World coordinates as text.
 ghost use Rattle.std.specs.Prelude.{◌≡◌, ◌+◌, ◌%◌, ◌++◌, ◌∷◌, [], IfOk, OnOk, string_bytes};
-ghost use Rattle.ml_json.specs.Numbers.{IsNumber};
+ghost use Rattle.ml_ratio.specs.JsonNumber.{IsNumber};
 ghost use Rattle.ml_json.specs.Fixed.{e7_text, last_digits, ReadsBack};
 
 use ml_ratio::Text;

@@ -1,10 +1,9 @@
 //! Steps between a map's members, and the members in byte order of their keys.
 ghost use Rattle.std.specs.Prelude.{◌≡◌, ◌<◌, length, OnOk, IfOk};
 ghost use Rattle.ml_json.specs.Machine.{key_step, first_key_step, colon_step};
-ghost use Rattle.ml_json.specs.State.{Goes, Steps, frames_of};
+ghost use Rattle.ml_json.specs.State.{Goes, Steps, frames_of, entries_view};
 ghost use Rattle.ml_json.specs.Tree.{put};
 ghost use Rattle.ml_json.specs.View.{tree_of, pairs_view};
-ghost use Rattle.ml_json.specs.State.{entries_view};
 
 use crate::brackets::is_space;
 use crate::state::{Frame, Mode, Open, Owner, Stop};

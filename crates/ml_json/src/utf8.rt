@@ -1,6 +1,7 @@
 //! The bytes of characters beyond ASCII, by the table of RFC 3629.
 ghost use Rattle.std.specs.Prelude.{◌≡◌, option_map};
-ghost use Rattle.ml_json.specs.Characters.{is_between, lead as spec_lead, later as spec_later, low, high};
+ghost use Rattle.ml_json.specs.Characters.{lead as spec_lead, later as spec_later, low, high};
+ghost use Rattle.ml_ratio.specs.JsonNumber.{is_between};
 ghost use Rattle.ml_json.specs.Partial.{tail_of};
 
 use crate::tail::Tail;

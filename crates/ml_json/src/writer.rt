@@ -2,7 +2,7 @@
 ghost use Rattle.std.specs.Prelude.{◌≡◌, ◌<◌, ◌++◌, ◌∷◌, List, ℕ, IfOk, OnOk};
 ghost use Rattle.std.specs.Str.{IsUtf8};
 ghost use Rattle.ml_json.specs.Answer.{IsText};
-ghost use Rattle.ml_json.specs.Canonical.{canonical, byte_on, bytes_on, string_on, hex_byte, tree_on, rest_on, items_on, members_on, more_on, IsWritable, HasUtf8, AllHaveUtf8, AllPairsHaveUtf8};
+ghost use Rattle.ml_json.specs.Canonical.{canonical, byte_on, bytes_on, string_on, hex_byte, tree_on, rest_on, items_on, members_on, more_on, settled, IsPrintable, IsWritable, HasUtf8, AllHaveUtf8, AllPairsHaveUtf8};
 ghost use Rattle.ml_json.specs.View.{tree_of, pair_of, trees_view, pairs_view};
 
 use crate::value::{Json, Pair};
@@ -10,14 +10,17 @@ use ml_ratio::{Seq, Text};
 use std::alloc::{AllocError, Global};
 
 /// The canonical text of a value: no white space, strings with as few escapes as can be, numbers as
-/// their texts, keys as they stand. Reading it gives the value.
+/// their texts, keys as they stand.
+///
+/// Where each number is a JSON number's text and the depth is at most 64, reading it gives the value,
+/// with the members of each map in byte order of their keys.
 ///
 /// # Errors
 /// Want of memory.
 pub fn write(alloc: Global, value: &Json) -> Result<Seq<u8>, AllocError>
-    requires { IsWritable (tree_of value.now) }
     ensures ok { IfOk result (λ text. text ≡ canonical (tree_of value.now)) }
-    ensures back { IfOk result (λ text. IsText text (tree_of value.now)) }
+    ensures reads { IsPrintable (tree_of value.now) → IfOk result (λ text. IsText text (settled (tree_of value.now))) }
+    ensures back { IsWritable (tree_of value.now) → IfOk result (λ text. IsText text (tree_of value.now)) }
 {
     let mut out = Vec::new(alloc);
     put_value(&mut out, value)?;

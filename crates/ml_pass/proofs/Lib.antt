@@ -3,3 +3,4 @@ pub mod Assigning
 pub mod RowLemmas
 pub mod TableLemmas
 pub mod SlotLines
+pub mod Placed

@@ -1,19 +1,16 @@
 -- What the fields of a line write is one label at most, and lists of boxes are read place by place.
-use Rattle.std.proofs.Common.{◌≡◌, ℕ, zero, suc, ◌-◌, ◌*◌, ◌^◌, ◌<◌, ◌≤◌, ℤ, List, [], ◌∷◌, ◌++◌, length, get_or, map, Option, Some, None, Bor, arith, lit<, refl, ap, ◌∙◌, sym}
+use Rattle.std.proofs.Common.{◌≡◌, ℕ, zero, suc, ◌-◌, ◌^◌, ◌<◌, ◌≤◌, ℤ, List, [], ◌∷◌, ◌++◌, length, get_or, map, Option, Some, None, Bor, arith, lit<, refl, ap, ◌∙◌, sym, pos, neg_ℤ, w64}
 use Rattle.std.specs.Prelude.{MatchOption, replicate, FitsSigned, ◌==◌, Bool, true, false}
 use Rattle.std.specs.Option.{option_map}
-use Rattle.std.proofs.Common.{pos, neg_ℤ, w64}
 use Rattle.std.proofs.lemmas.Int.{ints}
 use Rattle.std.specs.List.{AllZip}
-use Rattle.std.proofs.Math.Nat.{eq_of_mul-eq-mul_right}
 use Rattle.std.proofs.lemmas.Slice.Zip.{AllZip-long}
 use Rattle.ml_ratio.specs.Fraction.{Fraction, value_of, IsLess, IsAtMost, IsSame}
 use Rattle.ml_ratio.specs.Lines.{parts}
 use Rattle.ml_ratio.specs.Number.{numeral, whole_number}
 use Rattle.ml_ratio.proofs.Numbers.{numeral_small}
 use Rattle.ml_ratio.proofs.Reading.{ratio_same}
-use Rattle.ml_ratio.specs.Ratio.{IsRatioOf, ReadsRatio}
-use Rattle.ml_ratio.specs.RatioText.{ratio_parts}
+use Rattle.ml_ratio.specs.Ratio.{ReadsRatio}
 use Rattle.ml_ratio.specs.declared.ratio.Ratio.{Ratio}
 use Rattle.ml_ratio.proofs.Fractions.{less_at_most, at_most_less, at_most_trans}
 use Rattle.ml_cone.specs.Label.{AreLabelParts, IsLabelOf}

@@ -1,12 +1,10 @@
 -- The lines of a table, one after the other: the ids that are known, and the labels read so far.
-use Rattle.std.proofs.Common.{◌≡◌, ◌≢◌, ℕ, ◌+◌, ◌<◌, ◌≤◌, List, [], ◌∷◌, ◌++◌, length, get_or, Option, Some, None, Bool, true, false, cond, Bor, arith, refl, ap, ◌∙◌, sym, subst, inl, inr, length-append}
-use Rattle.std.specs.Prelude.{MatchOption, ◌==◌}
+use Rattle.std.proofs.Common.{◌≡◌, ◌≢◌, ℕ, ◌+◌, ◌<◌, ◌≤◌, List, [], ◌∷◌, ◌++◌, length, get_or, Option, Some, None, Bool, true, false, cond, Bor, arith, refl, ap, ◌∙◌, sym, subst, inl, inr, length-append, Ok, Err}
+use Rattle.std.specs.Prelude.{MatchOption, ◌==◌, Result, IfErr}
 use Rattle.std.specs.BTreeMap.{BTreeMap, get_by}
 use Rattle.std.specs.Cmp.Lexicographic.{slice_cmp}
 use Rattle.std.specs.Map.{update}
 use Rattle.std.specs.Option.{is_some}
-use Rattle.std.specs.Prelude.{Result, IfErr}
-use Rattle.std.proofs.Common.{Ok, Err}
 use Rattle.std.specs.Result.{IsErrAnd}
 use Rattle.std.specs.Ordering.{nat_cmp}
 use Rattle.std.specs.Str.{bytes_eq}
@@ -17,28 +15,29 @@ use Rattle.std.proofs.lemmas.Bool.{cases_lt}
 use Rattle.std.proofs.lemmas.Bool.Decides.{nat_tests}
 use Rattle.std.proofs.lemmas.List.{append_assoc, get_or_default, get_or_push}
 use Rattle.std.proofs.lemmas.Slice.Eq.{bytes_eq-Decides}
-use Rattle.ml_ratio.specs.Lines.{written_lines}
+use Rattle.ml_ratio.specs.Lines.{written_lines, entry, entries}
 use Rattle.ml_cone.specs.declared.label.Label.{Label}
 use Rattle.ml_pass.specs.Row.{ReadsRow}
-use Rattle.ml_pass.specs.Table.{entries, entry, HasIdAt, IsNewId, IsKnownId, FindsIds, AreFirst, IsTable, IsBadLine, IsFaultAfter, IsAddFault, IsTableFault}
+use Rattle.ml_pass.specs.Table.{IsKnownId, AreFirst, IsTable, IsBadLine, IsFaultAfter, IsAddFault, IsTableFault}
+use Rattle.ml_cone.specs.Places.{FindsPlaces, IsNoId, IsPlaceOf}
 use Rattle.ml_pass.specs.declared.fault.TableFault.{TableFault}
 use Rattle.ml_pass.specs.declared.fault.TableFault.TheVariants.{BadLine, SameId, Full, Memory}
 
-pub known_from : (o : Option ℕ) (labels : List Label) (id : List ℕ) → MatchOption o (IsNewId labels id) (HasIdAt labels id) → is_some o ≡ true → IsKnownId labels id
+pub known_from : (o : Option ℕ) (labels : List Label) (id : List ℕ) → MatchOption o (IsNoId labels id) (IsPlaceOf labels id) → is_some o ≡ true → IsKnownId labels id
 known_from None labels id h e = absurd (let f : false ≡ true = e in cc)
 known_from (Some j) labels id h e = (j, h)
 
-pub new_from : (o : Option ℕ) (labels : List Label) (id : List ℕ) → MatchOption o (IsNewId labels id) (HasIdAt labels id) → is_some o ≡ false → IsNewId labels id
+pub new_from : (o : Option ℕ) (labels : List Label) (id : List ℕ) → MatchOption o (IsNoId labels id) (IsPlaceOf labels id) → is_some o ≡ false → IsNoId labels id
 new_from None labels id h e = h
 new_from (Some j) labels id h e = absurd (let f : true ≡ false = e in cc)
 
 module _ (labels : List Label) (label : Label) where
-  has_push : (id : List ℕ) (j : ℕ) → HasIdAt labels id j → HasIdAt (labels ++ label ∷ []) id j
+  has_push : (id : List ℕ) (j : ℕ) → IsPlaceOf labels id j → IsPlaceOf (labels ++ label ∷ []) id j
   has_push id j has =
       let n = length-append labels (label ∷ []) in
       (omega arith, λ d. ap (λ (l : Label). l.order.id) (get_or-append labels (label ∷ []) d j has.0) ∙ has.1 d)
 
-  new_push : (id : List ℕ) → IsNewId labels id → label.order.id ≢ id → IsNewId (labels ++ label ∷ []) id
+  new_push : (id : List ℕ) → IsNoId labels id → label.order.id ≢ id → IsNoId (labels ++ label ∷ []) id
   new_push id new other j has =
       elim (cases_lt j (length labels)) [
         | inl less ↦ new j (less, λ d. ap (λ (l : Label). l.order.id) (sym (get_or-append labels (label ∷ []) d j less)) ∙ has.1 d)
@@ -48,23 +47,23 @@ module _ (labels : List Label) (label : Label) where
             other (ap (λ (l : Label). l.order.id) (sym (get_or_push labels label label j same)) ∙ has.1 label)
       ]
 
-  has_last : (j : ℕ) → j ≡ length labels → HasIdAt (labels ++ label ∷ []) label.order.id j
+  has_last : (j : ℕ) → j ≡ length labels → IsPlaceOf (labels ++ label ∷ []) label.order.id j
   has_last j e =
       let n = length-append labels (label ∷ []) in
       (omega arith, λ d. ap (λ (l : Label). l.order.id) (get_or_push labels label d j (sym e)))
 
   -- the map with the new id
-  finds_other : (o : Option ℕ) (id : List ℕ) → label.order.id ≢ id → MatchOption o (IsNewId labels id) (HasIdAt labels id) → MatchOption o (IsNewId (labels ++ label ∷ []) id) (HasIdAt (labels ++ label ∷ []) id)
+  finds_other : (o : Option ℕ) (id : List ℕ) → label.order.id ≢ id → MatchOption o (IsNoId labels id) (IsPlaceOf labels id) → MatchOption o (IsNoId (labels ++ label ∷ []) id) (IsPlaceOf (labels ++ label ∷ []) id)
   finds_other None id other h = new_push id h other
   finds_other (Some j) id other h = has_push id j h
 
-  pub finds_more : (old new : BTreeMap (Bor (List ℕ)) ℕ) (place : ℕ) → place ≡ length labels → FindsIds labels old → ((cs : List ℕ) → get_by (λ k. slice_cmp nat_cmp cs k.now) new ≡ update bytes_eq (λ ds. get_by (λ k. slice_cmp nat_cmp ds k.now) old) label.order.id (Some place) cs) → FindsIds (labels ++ label ∷ []) new
+  pub finds_more : (old new : BTreeMap (Bor (List ℕ)) ℕ) (place : ℕ) → place ≡ length labels → FindsPlaces labels old → ((cs : List ℕ) → get_by (λ k. slice_cmp nat_cmp cs k.now) new ≡ update bytes_eq (λ ds. get_by (λ k. slice_cmp nat_cmp ds k.now) old) label.order.id (Some place) cs) → FindsPlaces (labels ++ label ∷ []) new
   finds_more old new place at finds updates id = rw (updates id) (by_test (bytes_eq label.order.id id) refl)
     where
-      by_test : (b : Bool) → bytes_eq label.order.id id ≡ b → MatchOption (cond (bytes_eq label.order.id id) (Some place) (get_by (λ k. slice_cmp nat_cmp id k.now) old)) (IsNewId (labels ++ label ∷ []) id) (HasIdAt (labels ++ label ∷ []) id)
+      by_test : (b : Bool) → bytes_eq label.order.id id ≡ b → MatchOption (cond (bytes_eq label.order.id id) (Some place) (get_by (λ k. slice_cmp nat_cmp id k.now) old)) (IsNoId (labels ++ label ∷ []) id) (IsPlaceOf (labels ++ label ∷ []) id)
       by_test true e =
           let same : label.order.id ≡ id = (bytes_eq-Decides label.order.id id).0 e in
-          rw e (subst (λ (t : List ℕ). HasIdAt (labels ++ label ∷ []) t place) same (has_last place at))
+          rw e (subst (λ (t : List ℕ). IsPlaceOf (labels ++ label ∷ []) t place) same (has_last place at))
       by_test false e =
           let other : label.order.id ≢ id = λ same. (let yes : bytes_eq label.order.id id ≡ true = (bytes_eq-Decides label.order.id id).1 same in let no : true ≡ false = sym yes ∙ e in absurd (cc)) in
           rw e (finds_other (get_by (λ k. slice_cmp nat_cmp id k.now) old) id other (finds id))
@@ -72,13 +71,13 @@ module _ (labels : List Label) (label : Label) where
 -- after `count` lines, all but the lines of `rest`, the labels of the lines read so far
 pub record TableSoFar (bytes rest : List ℕ) (count : ℕ) (labels : List Label) (ids : BTreeMap (Bor (List ℕ)) ℕ) : Type 0 where
   pub first : AreFirst bytes labels
-  pub finds : FindsIds labels ids
+  pub finds : FindsPlaces labels ids
   pub done : List (ℕ × List ℕ)
   pub split : entries bytes ≡ done ++ written_lines (count + 1) (lines rest)
   pub one_each : length labels ≡ length done
   pub low : count + length rest ≤ length bytes
 
-pub no_ids : (ids : BTreeMap (Bor (List ℕ)) ℕ) → ids.entries ≡ [] → FindsIds [] ids
+pub no_ids : (ids : BTreeMap (Bor (List ℕ)) ℕ) → ids.entries ≡ [] → FindsPlaces [] ids
 no_ids ids e id = rw e (λ j has. (let less : j < 0 = has.0 in absurd (omega arith)))
 
 pub so_far_none : (bytes : List ℕ) (ids : BTreeMap (Bor (List ℕ)) ℕ) → ids.entries ≡ [] → TableSoFar bytes bytes 0 [] ids
@@ -120,7 +119,7 @@ module _ (bytes rest line after : List ℕ) (count : ℕ) (labels : List Label) 
         let k = so_far.one_each in
         omega arith
 
-    pub so_far_more : (label : Label) (new : BTreeMap (Bor (List ℕ)) ℕ) → length (labels ++ label ∷ []) ≤ 32768 → ReadsRow line (length labels) label → IsNewId labels label.order.id → FindsIds (labels ++ label ∷ []) new → TableSoFar bytes after (count + 1) (labels ++ label ∷ []) new
+    pub so_far_more : (label : Label) (new : BTreeMap (Bor (List ℕ)) ℕ) → length (labels ++ label ∷ []) ≤ 32768 → ReadsRow line (length labels) label → IsNoId labels label.order.id → FindsPlaces (labels ++ label ∷ []) new → TableSoFar bytes after (count + 1) (labels ++ label ∷ []) new
     so_far_more label new few row new_id finds =
         let n : length (labels ++ label ∷ []) ≡ length labels + 1 = length-append labels (label ∷ []) in
         record {

@@ -1,6 +1,7 @@
 //! Label tables.
 ghost use Rattle.std.specs.Prelude.{◌≡◌, ◌≤◌, ◌++◌, ◌∷◌, [], length, IfOk, IfErr, OnOk};
-ghost use Rattle.ml_pass.specs.Table.{IsTable, IsTableFault, FindsIds, IsAddFault, IsNewId};
+ghost use Rattle.ml_pass.specs.Table.{IsTable, IsTableFault, IsAddFault};
+ghost use Rattle.ml_cone.specs.Places.{FindsPlaces, IsNoId};
 
 use crate::fault::TableFault;
 use crate::row::read_row;
@@ -52,11 +53,11 @@ fn add_label<'a>(
     number: usize,
 ) -> Result<(), TableFault>
     requires few { length labels.old ≤ 32768 }
-    requires finds { FindsIds labels.old ids.old }
+    requires finds { FindsPlaces labels.old ids.old }
     requires its_id { id.now ≡ label.order.id }
-    ensures finds { OnOk result (FindsIds labels.new ids.new) }
+    ensures finds { OnOk result (FindsPlaces labels.new ids.new) }
     ensures added { OnOk result (labels.new ≡ labels.old ++ label ∷ []) }
-    ensures new { OnOk result (IsNewId labels.old label.order.id) }
+    ensures new { OnOk result (IsNoId labels.old label.order.id) }
     ensures few { OnOk result (length labels.new ≤ 32768) }
     ensures fault { IfErr result (λ fault. IsAddFault labels.old label number fault) }
 {

@@ -39,6 +39,16 @@ fn each_range_is_as_long_as_those_before_it_allow(rt: HostRuntime) -> Result<(),
             "A 0 0 0 1000 10,-5,30,5\nB 100 0 25 1000 -5,-5,5,5\n",
             "A 1000/1 -\nB 1000/1 -\n",
         ),
+    ] {
+        let text = slots_of(rt.alloc(), table)?;
+        assert_eq!(rt; text.as_slice(), want.as_bytes(), "{table}");
+    }
+    Ok(())
+}
+
+#[test]
+fn the_first_label_that_sets_the_end_blocks(rt: HostRuntime) -> Result<(), Fail> {
+    for (table, want) in [
         // without the first the second takes its place, and the third has less
         (
             "A 0 0 0 1000 -10,-5,10,5\nB 400 0 0 1000 -10,-5,10,5\nC 800 0 0 1000 -10,-5,10,5\n",

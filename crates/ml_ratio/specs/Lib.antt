@@ -1,7 +1,11 @@
+pub mod Feature
 pub mod Fraction
+pub mod Geometry
+pub mod JsonNumber
 pub mod Lines
 pub mod Lowest
 pub mod Number
 pub mod Ratio
 pub mod RatioOrder
 pub mod RatioText
+pub mod World

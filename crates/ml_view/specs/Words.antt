@@ -3,7 +3,7 @@ use Prim.Native.Nat.{zero, suc}
 use Rattle.ml_ratio.specs.Number.{whole_number}
 use Rattle.ml_ratio.specs.Ratio.{ReadsRatio}
 use Rattle.ml_ratio.specs.declared.ratio.Ratio.{Ratio}
-use Rattle.ml_cone.specs.Plane.{IsInWorld}
+use Rattle.ml_ratio.specs.World.{IsInWorld}
 use Rattle.ml_cone.specs.View.{IsWindowSide}
 use Rattle.ml_cone.specs.declared.view.View.{View}
 

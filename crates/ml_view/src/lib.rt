@@ -9,3 +9,6 @@ pub mod words;
 
 pub use filter::shown;
 pub use words::read_view;
+
+#[cfg(test)]
+mod tests;

@@ -1,4 +1,4 @@
-use Rattle.maplabel.proofs.Chosen.{blockers_placed}
+use Rattle.ml_pass.proofs.Placed.{blockers_placed}
 use Rattle.maplabel.proofs.slots.slots.Goals as goal
 
 pub write_slots-requires-clause-places : goal.write_slots-requires-clause-places

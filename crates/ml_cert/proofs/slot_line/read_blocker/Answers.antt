@@ -3,7 +3,7 @@ use Rattle.std.specs.Prelude.{codes, MatchOption}
 use Rattle.std.proofs.lemmas.Bool.{false≢true}
 use Rattle.std.proofs.lemmas.Slice.Eq.{bytes_eq-Decides}
 use Rattle.ml_cone.specs.declared.label.Label.{Label}
-use Rattle.ml_cert.specs.Places.{IsNoId, IsPlaceOf, find_place}
+use Rattle.ml_cone.specs.Places.{find_place, IsNoId, IsPlaceOf}
 use Rattle.ml_cert.specs.SlotLine.{WritesBlocker}
 use Rattle.ml_cert.proofs.slot_line.read_blocker.Goals as goal
 

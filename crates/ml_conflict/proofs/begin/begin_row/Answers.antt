@@ -1,7 +1,6 @@
 use Rattle.std.proofs.Common.{arith, length, ap, ◌∙◌}
-use Rattle.ml_conflict.specs.Quotient.{worth}
+use Rattle.ml_conflict.specs.Quotient.{worth, LiesIn}
 use Rattle.ml_cone.specs.Overlap.{BoxesOverlap}
-use Rattle.ml_conflict.specs.Quotient.{LiesIn}
 use Rattle.ml_conflict.proofs.Openness.{begins_like}
 use Rattle.ml_conflict.proofs.Unions.{loop_none, loop_more, loop_all}
 use Rattle.ml_conflict.proofs.begin.begin_row.Goals as goal

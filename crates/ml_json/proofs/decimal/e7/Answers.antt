@@ -2,7 +2,8 @@ use Rattle.std.proofs.Common.{◌≡◌, ◌+◌, ◌/◌, ◌∙◌, sym, ap, s
 use Rattle.std.proofs.lemmas.Bool.Decides.{nat_tests}
 use Rattle.std.proofs.lemmas.Int.{to_z-of_z}
 use Rattle.std.specs.Str.Parse.{starts_with_minus}
-use Rattle.ml_json.specs.Decimal.{e7_of, e7_size, signed, size_at, IsInWorld}
+use Rattle.ml_json.specs.Decimal.{e7_of, e7_size, signed, size_at}
+use Rattle.ml_ratio.specs.World.{IsInWorld}
 use mir.Val.{to_z, of_z}
 use Rattle.ml_json.proofs.FixedLemmas.{signed_world}
 use Rattle.ml_json.proofs.Scaling.{size_bounded}

@@ -1,5 +1,5 @@
 use Rattle.std.proofs.Common.{◌≡◌, ◌<◌, true, false, ◌∙◌, arith, get_or}
-use Rattle.ml_json.specs.Numbers.{is_digit}
+use Rattle.ml_ratio.specs.JsonNumber.{is_digit}
 use Rattle.ml_json.proofs.Cutting.{digit_next, other_next}
 use Rattle.ml_json.proofs.decimal.leading.Goals as goal
 use Rattle.ml_json.proofs.decimal.leading.Goals.{then-is_digit, else-is_digit}

@@ -1,7 +1,7 @@
 use Rattle.std.proofs.Common.{◌≡◌, ◌<◌, ◌/◌, ◌^◌, ◌∙◌, sym, ap, subst, arith, unsigned_abs, [], ◌∷◌, ◌++◌, string_bytes, w64, rules}
 use Rattle.std.proofs.lemmas.Int.{to_z-of_z}
 use Rattle.std.specs.Fmt.{decimal}
-use Rattle.ml_json.specs.Numbers.{IsNumber}
+use Rattle.ml_ratio.specs.JsonNumber.{IsNumber}
 use Rattle.ml_json.specs.Fixed.{e7_text, size_text, last_digits, ReadsBack}
 use Rattle.ml_json.proofs.FixedLemmas.{text_number, text_back, joined_text, minus_text, plus_text}
 use Rattle.ml_json.proofs.fixed.write_e7.Goals as goal

@@ -1,6 +1,7 @@
 use Rattle.std.proofs.Common.{◌≡◌, sym, subst, true}
 use Rattle.std.specs.Str.{IsUtf8}
-use Rattle.ml_json.specs.Characters.{is_between, low, high}
+use Rattle.ml_json.specs.Characters.{low, high}
+use Rattle.ml_ratio.specs.JsonNumber.{is_between}
 use Rattle.ml_json.specs.Partial.{tail_of}
 use Rattle.ml_json.proofs.PartialLemmas.{partial_more, partial_done}
 use Rattle.ml_json.proofs.strings.bytes_next.Goals as goal
