@@ -1,0 +1,12 @@
+pub mod EachLemmas
+pub mod RingLemmas
+pub mod IdLemmas
+pub mod PropLemmas
+pub mod Kept
+pub mod FaultLemmas
+pub mod MadeLemmas
+pub mod Settling
+pub mod ReadsBack
+pub mod Printable
+pub mod Written
+pub mod Differing

@@ -1,0 +1,74 @@
+-- The text of features reads back as them.
+use Rattle.std.proofs.Common.{◌≡◌, ◌≢◌, ℕ, zero, suc, ◌<◌, List, [], ◌∷◌, length, map as mapped, get_or, take, Bool, true, false, ◌||◌, Result, Ok, Err, refl, sym, ◌∙◌, subst, arith}
+use Rattle.std.specs.List.{AllPairs}
+use Rattle.std.specs.Result.{IfOk}
+use Rattle.std.specs.Str.{bytes_eq}
+use Rattle.std.specs.declared.alloc.AllocError.{AllocError}
+use Rattle.std.proofs.lemmas.List.{length-map}
+use Rattle.std.proofs.lemmas.Slice.Eq.{bytes_eq-Decides}
+use Rattle.ml_json.specs.Tree.{Tree}
+use Rattle.ml_json.specs.Answer.{IsText}
+use Rattle.ml_json.specs.Canonical.{settled, IsPrintable}
+use Rattle.ml_ratio.specs.declared.feature.Feature.{Feature}
+use Rattle.ml_geojson.specs.Collection.{Parts}
+use Rattle.ml_geojson.specs.Ids.{is_among}
+use Rattle.ml_geojson.specs.Map.{ids, AreMadeOf, IsMap, IsFeature, HaveOwnIds}
+use Rattle.ml_geojson.specs.Text.{feature_tree, collection_tree}
+use Rattle.ml_geojson.proofs.ReadsBack.{own_parts, feature_back, collection_back}
+use Rattle.ml_geojson.proofs.Printable.{printable, feature_flat, collection_flat}
+
+module _ (f : Feature) (tree : Tree) (same : tree ≡ feature_tree f) where
+  -- a feature's text
+  pub feature_written : (result : Result (List ℕ) AllocError) → (IsPrintable tree → IfOk result (λ text. IsText text (settled tree))) → IfOk result (λ text. IsFeature text f)
+  feature_written (Ok text) h = record {
+    tree = settled (feature_tree f);
+    text = subst (λ t. IsText text (settled t)) same (h (subst IsPrintable (sym same) (printable 6 (feature_tree f) (omega arith) (feature_flat f))));
+    parts = own_parts f;
+    reads = feature_back 0 f;
+    named = refl;
+    made = record { shape = refl; props = refl };
+  }
+  feature_written (Err e) h = tt
+
+parts_at : (fs : List Feature) (k : ℕ) (p : Parts) (f : Feature) → k < length fs → get_or (mapped own_parts fs) k p ≡ own_parts (get_or fs k f)
+parts_at [] k p f lt = absurd (omega arith)
+parts_at (g ∷ fs) zero p f lt = refl
+parts_at (g ∷ fs) (suc k) p f lt = parts_at fs k p f (omega arith)
+
+not_same : (a b : List ℕ) → ¬ (b ≡ a) → (t : Bool) → bytes_eq a b ≡ t → t ≡ false
+not_same a b h true e = absurd (h (sym ((bytes_eq-Decides a b).0 e)))
+not_same a b h false e = refl
+
+either : (a b : Bool) → a ≡ false → b ≡ false → (a || b) ≡ false
+either a b e g = rw (e, g) refl
+
+-- a text that differs from the first ids is not among them
+front_new : (fs : List Feature) (k : ℕ) (f : Feature) (text : List ℕ) → ((i : ℕ) → i < k → i < length fs → ¬ ((get_or fs i f).id ≡ text)) → is_among (take k (ids fs)) text ≡ false
+front_new [] zero f text h = refl
+front_new [] (suc k) f text h = refl
+front_new (g ∷ fs) zero f text h = refl
+front_new (g ∷ fs) (suc k) f text h =
+    let one = not_same text g.id (h 0 (omega arith) (omega arith)) (bytes_eq text g.id) refl in
+    either (bytes_eq text g.id) (is_among (take k (ids fs)) text) one (front_new fs k f text (λ i less lt. h (suc i) (omega arith) (omega arith)))
+
+module _ (fs : List Feature) (differ : HaveOwnIds fs) where
+  made_of : AreMadeOf (mapped own_parts fs) fs
+  made_of = record {
+    one_each = sym (length-map fs own_parts);
+    made = λ k p f lt. (let n = length-map fs own_parts in rw (parts_at fs k p f (omega arith)) (record { shape = refl; props = refl }));
+    named = λ k p f lt.
+        let n = length-map fs own_parts in
+        let new : is_among (take k (ids fs)) (get_or fs k f).id ≡ false = front_new fs k f (get_or fs k f).id (λ i less lt'. differ i k f less (omega arith)) in
+        rw (parts_at fs k p f (omega arith)) (record { new = λ e. refl; known = λ e. absurd (let both : true ≡ false = sym e ∙ new in cc) });
+  }
+
+  -- a collection's text
+  pub collection_written : (tree : Tree) → tree ≡ collection_tree fs → (result : Result (List ℕ) AllocError) → (IsPrintable tree → IfOk result (λ text. IsText text (settled tree))) → IfOk result (λ text. IsMap text fs)
+  collection_written tree same (Ok text) h = record {
+    tree = settled (collection_tree fs);
+    text = subst (λ t. IsText text (settled t)) same (h (subst IsPrintable (sym same) (printable 8 (collection_tree fs) (omega arith) (collection_flat fs))));
+    parts = mapped own_parts fs;
+    reads = collection_back fs;
+    made = made_of;
+  }
+  collection_written tree same (Err e) h = tt

@@ -1,0 +1,6 @@
+use Rattle.ml_json.specs.View.{tree_of}
+use Rattle.ml_geojson.proofs.Written.{feature_written}
+use Rattle.ml_geojson.proofs.writer.write_feature.Goals as goal
+
+pub returns-clause-back : goal.returns-clause-back
+returns-clause-back c = feature_written c.args.feature.now (tree_of c.in_ok-value.value) c.in_ok-value.ensures c.write.result c.write.ensures.reads

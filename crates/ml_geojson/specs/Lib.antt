@@ -1,0 +1,12 @@
+pub mod Shape
+pub mod Positions
+pub mod Fault
+pub mod Members
+pub mod Geometry
+pub mod Properties
+pub mod Collection
+pub mod Ids
+pub mod Taken
+pub mod Map
+pub mod Draft
+pub mod Text

@@ -1,0 +1,29 @@
+//! Map files in GeoJSON (RFC 7946): features read from JSON text and written as canonical text.
+//!
+//! - [`reader`]: a map file or one feature to features, with [`positions`], [`shapes`],
+//!   [`properties`] and [`parts`] of a feature, [`members`] of JSON maps, and the [`ids`] that
+//!   features get;
+//! - [`writer`]: features to text, by way of JSON [`values`];
+//! - [`fault`]: why bytes are refused.
+#![tactic(auto)]
+
+mod draft;
+pub mod fault;
+mod features;
+mod ids;
+mod kind;
+mod members;
+mod parts;
+mod positions;
+mod properties;
+pub mod reader;
+mod shapes;
+mod values;
+pub mod writer;
+
+pub use fault::GeoFault;
+pub use reader::{read_collection, read_feature};
+pub use writer::{write_collection, write_feature};
+
+#[cfg(test)]
+mod tests;

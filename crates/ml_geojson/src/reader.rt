@@ -1,0 +1,140 @@
+//! Bytes to features.
+ghost use Rattle.std.specs.Prelude.{◌≡◌, IfOk, IfErr, OnOk, Ok};
+ghost use Rattle.std.specs.Option.{option_map, option_copied};
+ghost use Rattle.ml_json.specs.Tree.{map};
+ghost use Rattle.ml_json.specs.Canonical.{IsOrderly, AllOrderly};
+ghost use Rattle.ml_json.specs.View.{tree_of, trees_view, pairs_view};
+ghost use Rattle.ml_geojson.specs.Fault.{Refuses};
+ghost use Rattle.ml_geojson.specs.Collection.{feature, features as spec_features, listed, collected, collection, IsSomeOrderly};
+ghost use Rattle.ml_geojson.specs.Taken.{HasIds};
+ghost use Rattle.ml_geojson.specs.Draft.{parts_of, IsAdded};
+ghost use Rattle.ml_geojson.specs.Map.{ids, HaveOwnIds, AreRead, IsRead, IsMap, IsMapFault, IsFeature, IsFeatureFault};
+
+use crate::draft::Draft;
+use crate::fault::GeoFault;
+use crate::features::{named, read_draft, with_own_id};
+use crate::ids::id_for;
+use crate::members::{is_text, member};
+use ml_json::{Json, Pair};
+use ml_ratio::{Feature, Seq, Text};
+use std::alloc::{AllocError, Global};
+use std::collections::BTreeSet;
+
+/// Adds a feature at the end, with the id that it gets.
+fn push_feature(
+    alloc: Global,
+    features: &mut Seq<Feature>,
+    taken: &mut BTreeSet<Text>,
+    draft: Draft,
+) -> Result<(), AllocError>
+    requires { HasIds (ids features.old) taken.old }
+    ensures added { OnOk result (IsAdded features.old features.new (parts_of draft)) }
+    ensures taken { OnOk result (HasIds (ids features.new) taken.new) }
+{
+    let id = id_for(alloc, taken, draft.own.as_ref(), features.len())?;
+    taken.insert(id.copy()?)?;
+    features.push(named(draft, id))?;
+    Ok(())
+}
+
+/// The features of a list.
+fn read_items(alloc: Global, items: &[Json]) -> Result<Seq<Feature>, GeoFault>
+    requires { AllOrderly (trees_view items.now) }
+    ensures { AreRead result (spec_features 0 (trees_view items.now)) }
+{
+    let mut features = Seq::new(alloc);
+    let mut taken = BTreeSet::new(alloc);
+    for (k, item) in items.iter().enumerate() {
+        match read_draft(alloc, item, k) {
+            Ok(draft) => push_feature(alloc, &mut features, &mut taken, draft)?,
+            Err(fault) => return Err(fault),
+        }
+    }
+    Ok(features)
+}
+
+/// The features of a value, which has to be a list.
+fn read_listed(alloc: Global, value: Option<&Json>) -> Result<Seq<Feature>, GeoFault>
+    requires { IsSomeOrderly (option_map tree_of (option_copied value)) }
+    ensures { AreRead result (listed (option_map tree_of (option_copied value.entry))) }
+{
+    match value {
+        Some(Json::List(items)) => read_items(alloc, items.as_slice()),
+        _ => Err(GeoFault::NotCollection),
+    }
+}
+
+/// The features of a map whose type is FeatureCollection.
+fn read_collected(alloc: Global, pairs: &[Pair]) -> Result<Seq<Feature>, GeoFault>
+    requires { IsOrderly (map (pairs_view pairs.now)) }
+    ensures { AreRead result (collected (pairs_view pairs.now)) }
+{
+    if is_text(member(pairs, "type"), "FeatureCollection") {
+        return read_listed(alloc, member(pairs, "features"));
+    }
+    Err(GeoFault::NotCollection)
+}
+
+/// The features of a map file.
+fn read_tree(alloc: Global, json: &Json) -> Result<Seq<Feature>, GeoFault>
+    requires { IsOrderly (tree_of json.now) }
+    ensures { AreRead result (collection (tree_of json.now)) }
+{
+    let Json::Map(pairs) = json else {
+        return Err(GeoFault::NotCollection);
+    };
+    if is_text(member(pairs.as_slice(), "type"), "Feature") {
+        return read_items(alloc, std::slice::from_ref(json));
+    }
+    read_collected(alloc, pairs.as_slice())
+}
+
+/// Reads a map file: a FeatureCollection, or a Feature, which counts as a collection of that one.
+///
+/// A feature's own id is a string, or the text of a number. The feature at place `k` gets its own id
+/// where no earlier feature has got it; else it gets `#k`, with as many further `#` before it as make
+/// it new. Members other than `type`, `id`, `geometry` and `properties` are passed over, as are
+/// properties that are lists or maps, and whatever stands in a position behind longitude and latitude.
+/// A GeometryCollection is no shape. Open rings are closed; parts without positions are passed over.
+///
+/// # Errors
+/// The text's own faults, [`GeoFault::NotJson`] and [`GeoFault::Deep`]; [`GeoFault::NotCollection`];
+/// else the first fault of the features in order, and within a feature from left to right:
+/// [`GeoFault::NotFeature`], [`GeoFault::BadGeometry`], [`GeoFault::OutOfRange`],
+/// [`GeoFault::ShortRing`]; want of memory.
+pub fn read_collection(alloc: Global, bytes: &[u8]) -> Result<Seq<Feature>, GeoFault>
+    ensures ok { IfOk result (IsMap bytes.now) }
+    ensures own_ids { IfOk result HaveOwnIds }
+    ensures fault { IfErr result (IsMapFault bytes.now) }
+{
+    match ml_json::read(alloc, bytes) {
+        Ok(json) => read_tree(alloc, &json),
+        Err(fault) => Err(GeoFault::from(fault)),
+    }
+}
+
+/// The feature of a tree, which has to have an id.
+fn read_named(alloc: Global, json: &Json) -> Result<Feature, GeoFault>
+    requires { IsOrderly (tree_of json.now) }
+    ensures { IsRead result (feature 0 (tree_of json.now)) }
+{
+    match read_draft(alloc, json, 0) {
+        Ok(draft) => with_own_id(draft),
+        Err(fault) => Err(fault),
+    }
+}
+
+/// Reads one Feature, which has to have an id. Its other rules are those of [`read_collection`].
+///
+/// # Errors
+/// Those of [`read_collection`] with place 0, but for [`GeoFault::NotCollection`];
+/// [`GeoFault::NoId`] where nothing else is at fault.
+pub fn read_feature(alloc: Global, bytes: &[u8]) -> Result<Feature, GeoFault>
+    ensures ok { IfOk result (IsFeature bytes.now) }
+    ensures fault { IfErr result (IsFeatureFault bytes.now) }
+{
+    match ml_json::read(alloc, bytes) {
+        Ok(json) => read_named(alloc, &json),
+        Err(fault) => Err(GeoFault::from(fault)),
+    }
+}

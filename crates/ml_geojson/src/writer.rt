@@ -1,0 +1,34 @@
+//! Features to their canonical text.
+ghost use Rattle.std.specs.Prelude.{◌≡◌, IfOk};
+ghost use Rattle.ml_geojson.specs.Text.{feature_text, collection_text};
+ghost use Rattle.ml_geojson.specs.Map.{HaveOwnIds, IsMap, IsFeature};
+
+use crate::values::{collection_value, feature_value};
+use ml_ratio::{Feature, Seq};
+use std::alloc::{AllocError, Global};
+
+/// The canonical text of a collection of features: no white space, positions with seven decimals,
+/// properties in byte order of their keys. Reading it gives the same features.
+///
+/// # Errors
+/// Want of memory.
+pub fn write_collection(alloc: Global, features: &Seq<Feature>) -> Result<Seq<u8>, AllocError>
+    requires { HaveOwnIds features.now }
+    ensures ok { IfOk result (λ text. text ≡ collection_text features.now) }
+    ensures back { IfOk result (λ text. IsMap text features.now) }
+{
+    let value = collection_value(alloc, features.as_slice())?;
+    ml_json::write(alloc, &value)
+}
+
+/// The canonical text of one feature. Reading it gives the same feature.
+///
+/// # Errors
+/// Want of memory.
+pub fn write_feature(alloc: Global, feature: &Feature) -> Result<Seq<u8>, AllocError>
+    ensures ok { IfOk result (λ text. text ≡ feature_text feature.now) }
+    ensures back { IfOk result (λ text. IsFeature text feature.now) }
+{
+    let value = feature_value(alloc, feature)?;
+    ml_json::write(alloc, &value)
+}
