@@ -1,0 +1,10 @@
+pub mod AdvanceLemmas
+pub mod Bounds
+pub mod Characters
+pub mod ClassLemmas
+pub mod ClassesLemmas
+pub mod FontLemmas
+pub mod Refusals
+pub mod Searching
+pub mod StyleLemmas
+pub mod TableLemmas

@@ -1,0 +1,22 @@
+-- What each answer of the reader says of the bytes.
+use Rattle.std.specs.Prelude.{◌≡◌, ℕ, ◌⊎◌, List, Result, Ok, Err}
+use Rattle.ml_style.specs.Toml.{IsNoToml}
+use Rattle.ml_style.specs.StyleTable.{IsStyle, IsFirstFault}
+use Rattle.ml_style.specs.declared.fault.StyleFault.{StyleFault}
+use Rattle.ml_style.specs.declared.fault.StyleFault.TheVariants.{NotToml, Memory}
+use Rattle.ml_style.specs.declared.style.Style.{Style}
+
+-- what a refusal says of the bytes; want of memory says nothing
+abbrev pub IsRefusal : List ℕ → StyleFault → Type 0
+IsRefusal bytes NotToml = IsNoToml bytes
+IsRefusal bytes Memory = Unit {0}
+IsRefusal bytes fault = IsFirstFault bytes fault
+
+-- what an answer says of the bytes
+abbrev pub IsAnswer : List ℕ → Result Style StyleFault → Type 0
+IsAnswer bytes (Ok style) = IsStyle bytes style
+IsAnswer bytes (Err fault) = IsRefusal bytes fault
+
+-- the refusal comes only where the fact holds, and where it holds comes this refusal or want of memory
+abbrev pub RefusesExactly : Result Style StyleFault → StyleFault → Type 0 → Type 0
+RefusesExactly result fault Fact = (result ≡ Err fault → Fact) × (Fact → (result ≡ Err fault) ⊎ (result ≡ Err Memory))

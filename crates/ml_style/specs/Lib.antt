@@ -1,0 +1,13 @@
+pub mod Advances
+pub mod Answer
+pub mod ClassFaults
+pub mod ClassTable
+pub mod Faults
+pub mod Fit
+pub mod Font
+pub mod FontTable
+pub mod Fonts
+pub mod Offset
+pub mod Rule
+pub mod StyleTable
+pub mod Toml

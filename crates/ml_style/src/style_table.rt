@@ -1,0 +1,87 @@
+//! A style from the TOML table that writes it.
+ghost use Rattle.std.specs.Prelude.{◌≡◌, IfOk, All, codes};
+ghost use Rattle.toml.specs.Data.{get_member};
+ghost use Rattle.toml.specs.View.{table_view};
+ghost use Rattle.ml_style.specs.Toml.{whole_at as whole_there};
+ghost use Rattle.ml_style.specs.Faults.{Answers};
+ghost use Rattle.ml_style.specs.Fonts.{font_faults, AreFonts, AreAscending, names_of, HasFont};
+ghost use Rattle.ml_style.specs.ClassFaults.{AreClasses};
+ghost use Rattle.ml_style.specs.StyleTable.{is_version, fonts_in, classes_faults_from, items_from, key_for, style_faults, IsStyleIn};
+
+use crate::class::Class;
+use crate::class_table::read_classes;
+use crate::fault::StyleFault;
+use crate::fonts::{NamedFont, read_fonts};
+use crate::style::Style;
+use crate::table::{member_of, text_at, whole_at};
+use ml_ratio::{Seq, Text};
+use std::alloc::{AllocError, Global};
+use toml::Table;
+
+/// The style that the table writes.
+///
+/// # Errors
+/// The first fault; want of memory.
+pub(crate) fn read_table(alloc: Global, table: &Table) -> Result<Style, StyleFault>
+    ensures { Answers result (style_faults (table_view table.now)) (IsStyleIn (table_view table.now)) }
+{
+    if !has_version(table) {
+        return Err(StyleFault::Version);
+    }
+    let fonts = fonts_of(alloc, table)?;
+    let classes = classes_of(alloc, &fonts, table)?;
+    let name_key = key_for_purpose(alloc, table, "name")?;
+    let rank_key = key_for_purpose(alloc, table, "rank")?;
+    Ok(Style {
+        name_key,
+        rank_key,
+        classes,
+        fonts,
+    })
+}
+
+// Whether the style has the version that is read here.
+fn has_version(style: &Table) -> bool
+    ensures { result ≡ is_version (whole_there (codes "version") (table_view style.now)) }
+{
+    whole_at(style, "version") == Some(1)
+}
+
+// The fonts of the style: none where there is no table of them.
+fn fonts_of(alloc: Global, style: &Table) -> Result<Seq<NamedFont>, StyleFault>
+    ensures fonts { Answers result (font_faults (fonts_in (table_view style.now))) (AreFonts (fonts_in (table_view style.now))) }
+    ensures ascending { IfOk result AreAscending }
+{
+    let Some(value) = member_of(style, "fonts") else {
+        return Ok(Seq::new(alloc));
+    };
+    match value.as_table() {
+        Some(table) => read_fonts(alloc, table),
+        None => Ok(Seq::new(alloc)),
+    }
+}
+
+// The classes of the style, of which there need be none.
+fn classes_of(
+    alloc: Global,
+    fonts: &Seq<NamedFont>,
+    style: &Table,
+) -> Result<Seq<Class>, StyleFault>
+    ensures classes { Answers result (classes_faults_from (names_of fonts.now) (get_member (codes "class") (table_view style.now))) (AreClasses (items_from (get_member (codes "class") (table_view style.now)))) }
+    ensures known { IfOk result (All (HasFont fonts.now)) }
+{
+    let Some(value) = member_of(style, "class") else {
+        return Ok(Seq::new(alloc));
+    };
+    match value.as_array() {
+        Some(values) => read_classes(alloc, fonts.as_slice(), values.as_slice()),
+        None => Err(StyleFault::BadClass(0, Text::of(alloc, "class")?)),
+    }
+}
+
+// The key of the property that serves this purpose: the one that the style names, or the purpose.
+fn key_for_purpose(alloc: Global, style: &Table, purpose: &str) -> Result<Text, AllocError>
+    ensures { IfOk result (λ key. key ≡ key_for purpose.now (table_view style.now)) }
+{
+    Text::of(alloc, text_at(style, purpose).unwrap_or(purpose))
+}

@@ -1,0 +1,3 @@
+pub mod ClusterLaws
+pub mod Labels
+pub mod Sums
