@@ -1,0 +1,9 @@
+pub mod FloorLemmas
+pub mod RingLemmas
+pub mod BestLemmas
+pub mod ScanLemmas
+pub mod RankLemmas
+pub mod CountLemmas
+pub mod AnchorLemmas
+pub mod SortLemmas
+pub mod LawLemmas

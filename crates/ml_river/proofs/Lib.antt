@@ -1,0 +1,10 @@
+pub mod StepLemmas
+pub mod RunLemmas
+pub mod SeenLemmas
+pub mod HeightLemmas
+pub mod TurnLemmas
+pub mod ChainLemmas
+pub mod BoxLemmas
+pub mod LoopLemmas
+pub mod ShapeLemmas
+pub mod LawLemmas

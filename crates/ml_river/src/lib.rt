@@ -1,0 +1,25 @@
+//! Anchors of rivers, and the chains of boxes that follow them.
+//!
+//! A river's text is fitted at one reference scale: along the widest stretch on which the river
+//! runs in one direction, a box for each cluster of the text, raised to the river's height there.
+//!
+//! - [`class`]: how a text is set;
+//! - [`runs`]: the widest run of a river;
+//! - [`height`]: heights along a run;
+//! - [`chain`]: the boxes of the clusters;
+//! - [`laws`]: laws over the definitions alone;
+//! - [`river`]: where a text is placed ([`chain_of`]).
+#![tactic(auto)]
+
+pub mod chain;
+pub mod class;
+pub mod height;
+pub mod laws;
+pub mod river;
+pub mod runs;
+
+pub use class::RiverClass;
+pub use river::{Placed, Shape, chain_of};
+
+#[cfg(test)]
+mod tests;
