@@ -11,7 +11,13 @@ use Rattle.ml_pass.specs.Table.{AreFirst, IsTable, IsTableFault, IsFaultAfter}
 use Rattle.ml_ratio.specs.Lines.{entry, entries}
 use Rattle.ml_pass.specs.declared.fault.TableFault.{TableFault}
 use Rattle.ml_pass.specs.declared.fault.TableFault.TheVariants.{BadLine, SameId, Full, Memory}
+use Rattle.ml_ratio.specs.declared.feature.Feature.{Feature}
+use Rattle.ml_geojson.specs.declared.fault.GeoFault.TheVariants as maps
+use Rattle.ml_style.specs.declared.fault.StyleFault.TheVariants as styles
+use Rattle.ml_style.specs.declared.style.Style.{Style}
 use Rattle.maplabel.specs.Inputs.{most_bytes, HasTable, IsNoTable, IsTableLine, HasSlots, AreNoSlots, IsSlotsLine}
+use Rattle.maplabel.specs.MapInputs.{HasStyle, IsNoStyle, IsStyleLine, HasMap, IsNoMap, IsMapLine}
+use Rattle.maplabel.proofs.AcceptedMaps.{style_or_fault, map_or_fault, one_count}
 
 -- a line writes one id
 one_id : (line : List ℕ) (i : ℕ) (a b : Label) → ReadsRow line i a → ReadsRow line i b → a.order.id ≡ b.order.id
@@ -72,6 +78,26 @@ pub slots_or_not : (files : FileSet) (labels : List Label) (name : List ℕ) (sl
 slots_or_not files labels name slots line has none =
     let same = same_file files name has.0 none.0 has.1.file none.2.file in
     slots_or_fault labels none.0 slots none.1 line (rw same at has.2) none.3 none.4
+
+pub style_or_not : (files : FileSet) (name : List ℕ) (classes : Style) (line : List ℕ) → HasStyle (Some files) name classes → ¬ (IsNoStyle (Some files) name line)
+style_or_not files name classes line has none =
+    let same = same_file files name has.0 none.0 has.1.file none.2.file in
+    let memory = style_or_fault none.0 classes none.1 (rw same at has.2) none.3 in
+    let impossible : IsStyleLine styles.Memory line = rw memory at none.4 in
+    impossible
+
+pub map_or_not : (files : FileSet) (name : List ℕ) (features : List Feature) (line : List ℕ) → HasMap (Some files) name features → ¬ (IsNoMap (Some files) name line)
+map_or_not files name features line has (inl none) =
+    let same = same_file files name has.0 none.0 has.1.file none.2.file in
+    let memory = map_or_fault none.0 features none.1 (rw same at has.2) none.3 in
+    let impossible : IsMapLine maps.Memory line = rw memory at none.4 in
+    impossible
+map_or_not files name features line has (inr full) =
+    let same = same_file files name has.0 full.0 has.1.file full.2.file in
+    let count = one_count full.0 features full.1 (rw same at has.2) full.3 in
+    let few = has.3 in
+    let more = full.4 in
+    absurd (omega arith)
 
 -- a file within the limit is not too long
 pub not_too_long : (files : FileSet) (name bytes : List ℕ) → IsLoaded (Some files) name most_bytes bytes → ¬ (IsTooLong (Some files) name most_bytes)

@@ -4,9 +4,12 @@ use Rattle.std.specs.Prelude.{Result, IfErr}
 use Rattle.std.specs.Result.{IsErrAnd}
 use Rattle.ml_io.specs.Files.{FileSet}
 use Rattle.ml_cone.specs.declared.label.Label.{Label}
-use Rattle.maplabel.specs.Forms.{IsForm, IsCheck}
+use Rattle.ml_cone.specs.declared.view.View.{View}
+use Rattle.ml_style.specs.declared.style.Style.{Style}
+use Rattle.maplabel.specs.Forms.{IsForm, IsCheck, IsMapView}
 use Rattle.maplabel.specs.Inputs.{HasTable, IsTableStop, IsSlotsStop}
-use Rattle.maplabel.specs.Outcome.{IsTableOf, IsStop, IsCheckStop}
+use Rattle.maplabel.specs.MapInputs.{HasStyle, IsStyleStop, IsMapStop}
+use Rattle.maplabel.specs.Outcome.{IsTableOf, IsStop, IsCheckStop, IsMapViewStop}
 use Rattle.maplabel.specs.declared.stop.Stop.{Stop}
 use Rattle.maplabel.specs.declared.stop.Stop.TheVariants as stop
 
@@ -18,18 +21,40 @@ handed_on P (Err e) s h p = rw h p
 module _ (told : Option FileSet) (before now : ℕ) (failed : Option (List ℕ)) (words : List (List ℕ)) (form : IsForm words) where
   pub table_stop : (table : List ℕ) (s : Stop) → IsTableOf words table → IsTableStop told before now failed table s → IsStop told before now failed words s
   table_stop table stop.Usage of h = absurd h
-  table_stop table (stop.Refused line) of h = inl (table, of, h)
+  table_stop table (stop.StyleRefused line) of h = absurd h
+  table_stop table (stop.InputRefused line) of h = inl (table, of, h)
   table_stop table stop.FileFault of h = (table, inl of, h.0, h.1)
   table_stop table stop.TooLong of h = (table, inl of, h)
   table_stop table stop.Memory of h = form
 
   slots_stop : (table slots : List ℕ) (labels : List Label) (s : Stop) → IsCheck words table slots → HasTable told table labels → IsSlotsStop told before now failed labels slots s → IsStop told before now failed words s
   slots_stop table slots labels stop.Usage is has h = absurd h
-  slots_stop table slots labels (stop.Refused line) is has h = inr (slots, labels, (table, is, has), h)
-  slots_stop table slots labels stop.FileFault is has h = (slots, inr (labels, (table, is, has)), h.0, h.1)
-  slots_stop table slots labels stop.TooLong is has h = (slots, inr (labels, (table, is, has)), h)
+  slots_stop table slots labels (stop.StyleRefused line) is has h = absurd h
+  slots_stop table slots labels (stop.InputRefused line) is has h = inr (inl (slots, labels, (table, is, has), h))
+  slots_stop table slots labels stop.FileFault is has h = (slots, inr (inl (labels, (table, is, has))), h.0, h.1)
+  slots_stop table slots labels stop.TooLong is has h = (slots, inr (inl (labels, (table, is, has))), h)
   slots_stop table slots labels stop.Memory is has h = form
 
   pub check_stop : (table slots : List ℕ) (s : Stop) → IsCheck words table slots → IsCheckStop told before now failed table slots s → IsStop told before now failed words s
   check_stop table slots s is (inl h) = table_stop table s (inr (inr (slots, is))) h
   check_stop table slots s is (inr h) = slots_stop table slots h.0 s is h.1 h.2
+
+  style_stop : (style map : List ℕ) (view : View) (s : Stop) → IsMapView words style map view → IsStyleStop told before now failed style s → IsStop told before now failed words s
+  style_stop style map view stop.Usage is h = absurd h
+  style_stop style map view (stop.StyleRefused line) is h = (style, (map, view, is), h)
+  style_stop style map view (stop.InputRefused line) is h = absurd h
+  style_stop style map view stop.FileFault is h = (style, inr (inr (inl (map, view, is))), h.0, h.1)
+  style_stop style map view stop.TooLong is h = (style, inr (inr (inl (map, view, is))), h)
+  style_stop style map view stop.Memory is h = form
+
+  map_stop : (style map : List ℕ) (view : View) (classes : Style) (s : Stop) → IsMapView words style map view → HasStyle told style classes → IsMapStop told before now failed map s → IsStop told before now failed words s
+  map_stop style map view classes stop.Usage is has h = absurd h
+  map_stop style map view classes (stop.StyleRefused line) is has h = absurd h
+  map_stop style map view classes (stop.InputRefused line) is has h = inr (inr (map, classes, (style, view, is, has), h))
+  map_stop style map view classes stop.FileFault is has h = (map, inr (inr (inr (classes, (style, view, is, has)))), h.0, h.1)
+  map_stop style map view classes stop.TooLong is has h = (map, inr (inr (inr (classes, (style, view, is, has)))), h)
+  map_stop style map view classes stop.Memory is has h = form
+
+  pub view_stop : (style map : List ℕ) (view : View) (s : Stop) → IsMapView words style map view → IsMapViewStop told before now failed style map s → IsStop told before now failed words s
+  view_stop style map view s is (inl h) = style_stop style map view s is h
+  view_stop style map view s is (inr h) = map_stop style map view h.0 s is h.1 h.2

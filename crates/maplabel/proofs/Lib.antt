@@ -1,6 +1,9 @@
 pub mod Accepted
+pub mod AcceptedMaps
 pub mod Answering
 pub mod Chosen
 pub mod EndsWell
-pub mod NoFloats
+pub mod MapViewing
+pub mod OrderLemmas
+pub mod ShownMore
 pub mod WordLemmas

@@ -16,6 +16,13 @@ seven_items f (p ∷ q ∷ r ∷ s ∷ t ∷ []) a b c d e g h at_least below ea
 seven_items f (p ∷ q ∷ r ∷ s ∷ t ∷ u ∷ []) a b c d e g h at_least below ea eb ec ed ee eg eh = absurd (omega arith)
 seven_items f (p ∷ q ∷ r ∷ s ∷ t ∷ u ∷ v ∷ w ∷ items) a b c d e g h at_least below ea eb ec ed ee eg eh = absurd (omega arith)
 
+-- a list of eight, each of which is known
+pub eight_items : {A B : Type 0} (f : A → B) (items : List A) (a b c d e g h k : A) → 8 ≤ length items → length items < 9 → a ≡ get_or items 0 a → b ≡ get_or items 1 b → c ≡ get_or items 2 c → d ≡ get_or items 3 d → e ≡ get_or items 4 e → g ≡ get_or items 5 g → h ≡ get_or items 6 h → k ≡ get_or items 7 k → map f items ≡ f a ∷ f b ∷ f c ∷ f d ∷ f e ∷ f g ∷ f h ∷ f k ∷ []
+eight_items f [] a b c d e g h k at_least below ea eb ec ed ee eg eh ek = absurd (omega arith)
+eight_items f (p ∷ items) a b c d e g h k at_least below ea eb ec ed ee eg eh ek =
+    let rest = seven_items f items b c d e g h k (omega arith) (omega arith) eb ec ed ee eg eh ek in
+    rw (rest, sym ea) refl
+
 -- five words of which one is at fault write no view
 no_view : (p : ℕ) (cx cy w h scale : List ℕ) (view : View) → IsFirstBad cx cy w h scale p → ¬ (WritesView cx cy w h scale view)
 no_view zero cx cy w h scale view bad is = bad (view.cx, is.cx_is)
@@ -39,6 +46,30 @@ no_form p name table cx cy w h scale bad (inl show) =
 no_form p name table cx cy w h scale bad (inr (inl slots)) =
     let same = slots.1 in
     absurd (cc)
-no_form p name table cx cy w h scale bad (inr (inr check)) =
+no_form p name table cx cy w h scale bad (inr (inr (inl check))) =
     let same = check.2 in
     absurd (cc)
+no_form p name table cx cy w h scale bad (inr (inr (inr view))) =
+    let same = view.3.are in
+    absurd (cc)
+
+-- eight words of which the last five write no view have none of the forms
+pub no_map_form : (p : ℕ) (name style map cx cy w h scale : List ℕ) → IsFirstBad cx cy w h scale p → ¬ (IsForm (name ∷ style ∷ map ∷ cx ∷ cy ∷ w ∷ h ∷ scale ∷ []))
+no_map_form p name style map cx cy w h scale bad (inl show) =
+    let same = show.2.are in
+    absurd (cc)
+no_map_form p name style map cx cy w h scale bad (inr (inl slots)) =
+    let same = slots.1 in
+    absurd (cc)
+no_map_form p name style map cx cy w h scale bad (inr (inr (inl check))) =
+    let same = check.2 in
+    absurd (cc)
+no_map_form p name style map cx cy w h scale bad (inr (inr (inr view))) =
+    let is = view.3 in
+    let same = is.are in
+    let ex : cx ≡ is.cx = cc in
+    let ey : cy ≡ is.cy = cc in
+    let ew : w ≡ is.w = cc in
+    let eh : h ≡ is.h = cc in
+    let es : scale ≡ is.scale = cc in
+    no_view p cx cy w h scale view.2 bad (rw (ex, ey, ew, eh, es) is.writes)

@@ -1,12 +1,13 @@
 use Rattle.std.specs.Prelude.{ℕ}
 use Rattle.maplabel.specs.declared.status.Status.{Status}
-use Rattle.maplabel.specs.declared.status.Status.TheVariants.{Done, NotBest, Usage, InputRefused, FileFault, WriteFault, Memory, TooLong}
+use Rattle.maplabel.specs.declared.status.Status.TheVariants.{Done, NotBest, Usage, StyleRefused, InputRefused, FileFault, WriteFault, Memory, TooLong}
 
 -- the exit code of a status
 abbrev pub code_of : Status → ℕ
 code_of Done = 0
 code_of NotBest = 1
 code_of Usage = 2
+code_of StyleRefused = 3
 code_of InputRefused = 4
 code_of FileFault = 5
 code_of WriteFault = 7

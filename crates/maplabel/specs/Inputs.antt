@@ -17,6 +17,32 @@ use Rattle.maplabel.specs.declared.stop.Stop.TheVariants as stop
 abbrev pub most_bytes : ℕ
 most_bytes = 67108864
 
+-- why a file that is due was not read: it was refused, as the line says, or it was not loaded; with the count of faults before and after, and the name that failed last
+abbrev pub IsReadStop : (List ℕ → Type 0) → (List ℕ → Type 0) → Option FileSet → ℕ → ℕ → Option (List ℕ) → List ℕ → Stop → Type 0
+IsReadStop RefusesStyle RefusesInput told before now failed name stop.Usage = ⊥
+IsReadStop RefusesStyle RefusesInput told before now failed name (stop.StyleRefused line) = RefusesStyle line
+IsReadStop RefusesStyle RefusesInput told before now failed name (stop.InputRefused line) = RefusesInput line
+IsReadStop RefusesStyle RefusesInput told before now failed name stop.FileFault = Rose before now × (failed ≡ Some name)
+IsReadStop RefusesStyle RefusesInput told before now failed name stop.TooLong = IsTooLong told name most_bytes
+IsReadStop RefusesStyle RefusesInput told before now failed name stop.Memory = Unit {0}
+
+-- no line
+abbrev pub IsNoLine : List ℕ → Type 0
+IsNoLine line = ⊥
+
+-- why the named file was not loaded
+abbrev pub IsLoadStop : Option FileSet → ℕ → ℕ → Option (List ℕ) → List ℕ → Stop → Type 0
+IsLoadStop told before now failed name s = IsReadStop IsNoLine IsNoLine told before now failed name s
+
+-- the stop tells a refused input by this line, or want of memory
+abbrev pub IsInputRefusal : (List ℕ → Type 0) → Stop → Type 0
+IsInputRefusal IsLine stop.Usage = ⊥
+IsInputRefusal IsLine (stop.StyleRefused line) = ⊥
+IsInputRefusal IsLine (stop.InputRefused line) = IsLine line
+IsInputRefusal IsLine stop.FileFault = ⊥
+IsInputRefusal IsLine stop.TooLong = ⊥
+IsInputRefusal IsLine stop.Memory = Unit {0}
+
 -- the named file is a table of these labels
 abbrev pub HasTable : Option FileSet → List ℕ → List Label → Type 0
 HasTable told name labels = (bytes : List ℕ) × IsLoaded told name most_bytes bytes × IsTable bytes labels
@@ -28,34 +54,14 @@ IsTableLine (SameId k) line = line ≡ codes "table refused: 2 SameId " ++ (deci
 IsTableLine Full line = line ≡ codes "table refused: 3 Full\n"
 IsTableLine Memory line = ⊥
 
--- the stop tells a table's fault by its line, or want of memory
-abbrev pub IsTableRefusal : TableFault → Stop → Type 0
-IsTableRefusal fault stop.Usage = ⊥
-IsTableRefusal fault (stop.Refused line) = IsTableLine fault line
-IsTableRefusal fault stop.FileFault = ⊥
-IsTableRefusal fault stop.TooLong = ⊥
-IsTableRefusal fault stop.Memory = Unit {0}
-
 -- the named file is no table, as the line says
 abbrev pub IsNoTable : Option FileSet → List ℕ → List ℕ → Type 0
 IsNoTable told name line =
     (bytes : List ℕ) × (fault : TableFault) × IsLoaded told name most_bytes bytes × IsTableFault bytes fault × IsTableLine fault line
 
--- why the named file was not loaded, with the count of faults before and after and the name that failed last
-abbrev pub IsLoadStop : Option FileSet → ℕ → ℕ → Option (List ℕ) → List ℕ → Stop → Type 0
-IsLoadStop told before now failed name stop.Usage = ⊥
-IsLoadStop told before now failed name (stop.Refused line) = ⊥
-IsLoadStop told before now failed name stop.FileFault = Rose before now × (failed ≡ Some name)
-IsLoadStop told before now failed name stop.TooLong = IsTooLong told name most_bytes
-IsLoadStop told before now failed name stop.Memory = Unit {0}
-
 -- why the named table was not read
 abbrev pub IsTableStop : Option FileSet → ℕ → ℕ → Option (List ℕ) → List ℕ → Stop → Type 0
-IsTableStop told before now failed name stop.Usage = ⊥
-IsTableStop told before now failed name (stop.Refused line) = IsNoTable told name line
-IsTableStop told before now failed name stop.FileFault = Rose before now × (failed ≡ Some name)
-IsTableStop told before now failed name stop.TooLong = IsTooLong told name most_bytes
-IsTableStop told before now failed name stop.Memory = Unit {0}
+IsTableStop told before now failed name s = IsReadStop IsNoLine (IsNoTable told name) told before now failed name s
 
 -- the named file has these slots for the labels
 abbrev pub HasSlots : Option FileSet → List Label → List ℕ → List Slot → Type 0
@@ -66,14 +72,6 @@ abbrev pub IsSlotsLine : SlotsFault → List ℕ → Type 0
 IsSlotsLine (slots_fault.BadLine k) line = line ≡ codes "slots refused: 1 BadLine " ++ (decimal k ++ codes "\n")
 IsSlotsLine slots_fault.Memory line = ⊥
 
--- the stop tells a fault of slots by its line, or want of memory
-abbrev pub IsSlotsRefusal : SlotsFault → Stop → Type 0
-IsSlotsRefusal fault stop.Usage = ⊥
-IsSlotsRefusal fault (stop.Refused line) = IsSlotsLine fault line
-IsSlotsRefusal fault stop.FileFault = ⊥
-IsSlotsRefusal fault stop.TooLong = ⊥
-IsSlotsRefusal fault stop.Memory = Unit {0}
-
 -- the named file has no slots for the labels, as the line says
 abbrev pub AreNoSlots : Option FileSet → List Label → List ℕ → List ℕ → Type 0
 AreNoSlots told labels name line =
@@ -81,8 +79,4 @@ AreNoSlots told labels name line =
 
 -- why the named slots were not read
 abbrev pub IsSlotsStop : Option FileSet → ℕ → ℕ → Option (List ℕ) → List Label → List ℕ → Stop → Type 0
-IsSlotsStop told before now failed labels name stop.Usage = ⊥
-IsSlotsStop told before now failed labels name (stop.Refused line) = AreNoSlots told labels name line
-IsSlotsStop told before now failed labels name stop.FileFault = Rose before now × (failed ≡ Some name)
-IsSlotsStop told before now failed labels name stop.TooLong = IsTooLong told name most_bytes
-IsSlotsStop told before now failed labels name stop.Memory = Unit {0}
+IsSlotsStop told before now failed labels name s = IsReadStop IsNoLine (AreNoSlots told labels name) told before now failed name s

@@ -2,7 +2,8 @@ pub mod Answers
 pub mod Codes
 pub mod Forms
 pub mod Inputs
+pub mod MapInputs
 pub mod Outcome
 pub mod Ready
 pub mod VerdictText
-pub mod ViewText
+pub mod ViewLine

@@ -5,11 +5,13 @@ use Rattle.ml_io.specs.Files.{FileSet, IsTooLong}
 use Rattle.ml_cone.specs.declared.view.View.{View}
 use Rattle.ml_cone.specs.declared.label.Label.{Label}
 use Rattle.ml_cert.specs.declared.verdict.Verdict.{Verdict}
-use Rattle.maplabel.specs.Answers.{IsShowText, IsSlotsText, IsJudged, status_of}
-use Rattle.maplabel.specs.Forms.{IsShow, IsSlots, IsCheck, IsForm}
+use Rattle.ml_style.specs.declared.style.Style.{Style}
+use Rattle.maplabel.specs.Answers.{IsShowText, IsSlotsText, IsMapViewText, IsJudged, status_of}
+use Rattle.maplabel.specs.Forms.{IsShow, IsSlots, IsCheck, IsMapView, IsForm}
+use Rattle.maplabel.specs.MapInputs.{HasStyle, IsNoStyle, IsStyleStop, IsNoMap, IsMapStop}
 use Rattle.maplabel.specs.Inputs.{most_bytes, HasTable, IsNoTable, IsTableStop, AreNoSlots, IsSlotsStop}
 use Rattle.maplabel.specs.declared.status.Status.{Status}
-use Rattle.maplabel.specs.declared.status.Status.TheVariants.{Done, NotBest, Usage, InputRefused, FileFault, WriteFault, Memory, TooLong}
+use Rattle.maplabel.specs.declared.status.Status.TheVariants.{Done, NotBest, Usage, StyleRefused, InputRefused, FileFault, WriteFault, Memory, TooLong}
 use Rattle.maplabel.specs.declared.stop.Stop.{Stop}
 use Rattle.maplabel.specs.declared.stop.Stop.TheVariants as stop
 
@@ -26,15 +28,32 @@ IsTableOf words table =
 abbrev pub IsSlotsOf : Option FileSet → List (List ℕ) → List ℕ → List Label → Type 0
 IsSlotsOf told words slots labels = (table : List ℕ) × IsCheck words table slots × HasTable told table labels
 
--- the file that is due: the table, and once that is read the slots that are to be judged
-abbrev pub IsDueFile : Option FileSet → List (List ℕ) → List ℕ → Type 0
-IsDueFile told words name = IsTableOf words name ⊎ ((labels : List Label) × IsSlotsOf told words name labels)
+-- the words ask for a view of a map under this style
+abbrev pub IsStyleOf : List (List ℕ) → List ℕ → Type 0
+IsStyleOf words style = (map : List ℕ) × (view : View) × IsMapView words style map view
 
--- the line refuses the table of the words, or else their slots
-abbrev pub IsRefusal : Option FileSet → List (List ℕ) → List ℕ → Type 0
-IsRefusal told words line =
+-- the words ask for a view of this map, and this is their style
+abbrev pub IsMapOf : Option FileSet → List (List ℕ) → List ℕ → Style → Type 0
+IsMapOf told words map classes = (style : List ℕ) × (view : View) × IsMapView words style map view × HasStyle told style classes
+
+-- the file that is due: the table, and once that is read the slots that are to be judged; or the style, and once that is read the map
+abbrev pub IsDueFile : Option FileSet → List (List ℕ) → List ℕ → Type 0
+IsDueFile told words name =
+    IsTableOf words name
+    ⊎ ((labels : List Label) × IsSlotsOf told words name labels)
+    ⊎ IsStyleOf words name
+    ⊎ ((classes : Style) × IsMapOf told words name classes)
+
+-- the line refuses the style of the words
+abbrev pub IsStyleRefused : Option FileSet → List (List ℕ) → List ℕ → Type 0
+IsStyleRefused told words line = (style : List ℕ) × IsStyleOf words style × IsNoStyle told style line
+
+-- the line refuses the table of the words, or else their slots, or their map
+abbrev pub IsInputRefused : Option FileSet → List (List ℕ) → List ℕ → Type 0
+IsInputRefused told words line =
     ((table : List ℕ) × IsTableOf words table × IsNoTable told table line)
     ⊎ ((slots : List ℕ) × (labels : List Label) × IsSlotsOf told words slots labels × AreNoSlots told labels slots line)
+    ⊎ ((map : List ℕ) × (classes : Style) × IsMapOf told words map classes × IsNoMap told map line)
 
 -- the status and the line of the verdict on the slots
 abbrev pub IsCheckAnswer : Option FileSet → List ℕ → List ℕ → Status → List ℕ → Type 0
@@ -44,6 +63,7 @@ IsCheckAnswer told table slots status text = (verdict : Verdict) × IsJudged tol
 pub data IsAnswer (told : Option FileSet) (words : List (List ℕ)) (status : Status) (text : List ℕ) : Type 0 where
   showed : (table : List ℕ) → (view : View) → IsShow words table view → IsShowText told table view text → status ≡ Done → IsAnswer told words status text
   listed : (table : List ℕ) → IsSlots words table → IsSlotsText told table text → status ≡ Done → IsAnswer told words status text
+  viewed : (style : List ℕ) → (map : List ℕ) → (view : View) → IsMapView words style map view → IsMapViewText told style map view text → status ≡ Done → IsAnswer told words status text
   judged : (table : List ℕ) → (slots : List ℕ) → IsCheck words table slots → IsCheckAnswer told table slots status text → IsAnswer told words status text
 
 -- of the text that is due under a status: for a fault of a file, the count of faults rose and the name that failed last is that of the file that is due; want of memory prints nothing
@@ -51,7 +71,8 @@ abbrev pub IsOutcome : Option FileSet → ℕ → ℕ → Option (List ℕ) → 
 IsOutcome told before now failed words Done text = IsAnswer told words Done text
 IsOutcome told before now failed words NotBest text = IsAnswer told words NotBest text
 IsOutcome told before now failed words Usage text = ¬ (IsForm words) × (text ≡ usage_line)
-IsOutcome told before now failed words InputRefused text = IsRefusal told words text
+IsOutcome told before now failed words StyleRefused text = IsStyleRefused told words text
+IsOutcome told before now failed words InputRefused text = IsInputRefused told words text
 IsOutcome told before now failed words FileFault text =
     (name : List ℕ) × IsDueFile told words name × Rose before now × (failed ≡ Some name) × (text ≡ codes "file fault\n")
 IsOutcome told before now failed words TooLong text =
@@ -62,7 +83,8 @@ IsOutcome told before now failed words Memory text = IsForm words × (text ≡ [
 -- why there is no answer
 abbrev pub IsStop : Option FileSet → ℕ → ℕ → Option (List ℕ) → List (List ℕ) → Stop → Type 0
 IsStop told before now failed words stop.Usage = ¬ (IsForm words)
-IsStop told before now failed words (stop.Refused line) = IsRefusal told words line
+IsStop told before now failed words (stop.StyleRefused line) = IsStyleRefused told words line
+IsStop told before now failed words (stop.InputRefused line) = IsInputRefused told words line
 IsStop told before now failed words stop.FileFault = (name : List ℕ) × IsDueFile told words name × Rose before now × (failed ≡ Some name)
 IsStop told before now failed words stop.TooLong = (name : List ℕ) × IsDueFile told words name × IsTooLong told name most_bytes
 IsStop told before now failed words stop.Memory = IsForm words
@@ -72,6 +94,12 @@ abbrev pub IsCheckStop : Option FileSet → ℕ → ℕ → Option (List ℕ) �
 IsCheckStop told before now failed table slots s =
     IsTableStop told before now failed table s
     ⊎ ((labels : List Label) × HasTable told table labels × IsSlotsStop told before now failed labels slots s)
+
+-- why a map was not viewed: the style was not read, or it was and the map was not
+abbrev pub IsMapViewStop : Option FileSet → ℕ → ℕ → Option (List ℕ) → List ℕ → List ℕ → Stop → Type 0
+IsMapViewStop told before now failed style map s =
+    IsStyleStop told before now failed style s
+    ⊎ ((classes : Style) × HasStyle told style classes × IsMapStop told before now failed map s)
 
 -- a text that was due under a status was printed whole; or the status is that of a write fault, and a proper prefix was printed, only where the count of the sink's faults rose
 abbrev pub IsPrinted : List ℕ → Status → Option (List ℕ) → Option (List ℕ) → ℕ → ℕ → Status → Type 0

@@ -5,8 +5,11 @@ use Rattle.ml_io.specs.Files.{FileSet}
 use Rattle.ml_cone.specs.declared.label.Label.{Label}
 use Rattle.ml_cone.specs.declared.slot.Slot.{Slot}
 use Rattle.ml_cone.specs.declared.view.View.{View}
-use Rattle.maplabel.specs.Forms.{IsShow, IsSlots, IsCheck}
+use Rattle.ml_ratio.specs.declared.feature.Feature.{Feature}
+use Rattle.ml_style.specs.declared.style.Style.{Style}
+use Rattle.maplabel.specs.Forms.{IsShow, IsSlots, IsCheck, IsMapView}
 use Rattle.maplabel.specs.Inputs.{HasTable, HasSlots}
+use Rattle.maplabel.specs.MapInputs.{HasStyle, HasMap}
 use Rattle.maplabel.specs.Outcome.{IsOutcome}
 use Rattle.maplabel.specs.declared.status.Status.{Status}
 use Rattle.maplabel.specs.declared.status.Status.TheVariants.{Done, NotBest, Memory}
@@ -15,6 +18,14 @@ use Rattle.maplabel.specs.declared.status.Status.TheVariants.{Done, NotBest, Mem
 abbrev pub IsSomeTable : FileSet → List ℕ → Type 0
 IsSomeTable files table = (labels : List Label) × HasTable (Some files) table labels
 
+-- the named file is a style within the limit
+abbrev pub IsSomeStyle : FileSet → List ℕ → Type 0
+IsSomeStyle files style = (classes : Style) × HasStyle (Some files) style classes
+
+-- the named file is a map within the limits
+abbrev pub IsSomeMap : FileSet → List ℕ → Type 0
+IsSomeMap files map = (features : List Feature) × HasMap (Some files) map features
+
 -- the words have one of the forms, and the files that they name are there, within the limit and what they should be
 abbrev pub AreReady : FileSet → List (List ℕ) → Type 0
 AreReady files words =
@@ -22,6 +33,7 @@ AreReady files words =
     ⊎ ((table : List ℕ) × IsSlots words table × IsSomeTable files table)
     ⊎ ((table : List ℕ) × (slots : List ℕ) × IsCheck words table slots × IsSomeTable files table
     × ((labels : List Label) → HasTable (Some files) table labels → (given : List Slot) × HasSlots (Some files) labels slots given))
+    ⊎ ((style : List ℕ) × (map : List ℕ) × (view : View) × IsMapView words style map view × IsSomeStyle files style × IsSomeMap files map)
 
 -- where words and files are ready and no fault of a file is counted, what is due is that the command is done, or want of memory
 abbrev pub EndsWell : FileSet → List (List ℕ) → Type 0

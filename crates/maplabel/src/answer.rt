@@ -4,6 +4,7 @@ ghost use Rattle.maplabel.specs.Outcome.{IsAnswer, IsStop};
 
 use crate::check::check;
 use crate::command::{Command, read_command};
+use crate::map_view::map_view;
 use crate::show::show;
 use crate::slots::slots;
 use crate::status::Status;
@@ -35,6 +36,10 @@ pub fn answer<F: Files>(
             Ok((Status::Done, text))
         }
         Some(Command::Check(table, slots)) => check(alloc, files, table, slots),
+        Some(Command::MapView(style, map, view)) => {
+            let text = map_view(alloc, files, style, map, &view)?;
+            Ok((Status::Done, text))
+        }
         None => Err(Stop::Usage),
     }
 }

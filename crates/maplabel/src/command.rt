@@ -14,6 +14,8 @@ pub enum Command<'a> {
     Slots(&'a str),
     /// The verdict on slots that are given for a table's labels.
     Check(&'a str, &'a str),
+    /// The view of the labels of a map's features under a style.
+    MapView(&'a str, &'a str, View),
 }
 
 /// The command that the words give; none where they have none of the forms.
@@ -26,6 +28,16 @@ pub fn read_command(words: &[String]) -> Option<Command<'_>>
         [name, table, cx, cy, w, h, scale] => show_command(
             name.as_str(),
             table.as_str(),
+            cx.as_str(),
+            cy.as_str(),
+            w.as_str(),
+            h.as_str(),
+            scale.as_str(),
+        ),
+        [name, style, map, cx, cy, w, h, scale] => map_view_command(
+            name.as_str(),
+            style.as_str(),
+            map.as_str(),
             cx.as_str(),
             cy.as_str(),
             w.as_str(),
@@ -75,6 +87,28 @@ fn show_command<'a>(
     }
     match read_view(cx, cy, w, h, scale) {
         Ok(view) => Some(Command::Show(table, view)),
+        Err(_place) => None,
+    }
+}
+
+// The command of eight words.
+fn map_view_command<'a>(
+    name: &str,
+    style: &'a str,
+    map: &'a str,
+    cx: &str,
+    cy: &str,
+    w: &str,
+    h: &str,
+    scale: &str,
+) -> Option<Command<'a>>
+    ensures { IsCommandOf (name.now ∷ style.now ∷ map.now ∷ cx.now ∷ cy.now ∷ w.now ∷ h.now ∷ scale.now ∷ []) result }
+{
+    if name != "view" {
+        return None;
+    }
+    match read_view(cx, cy, w, h, scale) {
+        Ok(view) => Some(Command::MapView(style, map, view)),
         Err(_place) => None,
     }
 }

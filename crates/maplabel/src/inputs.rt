@@ -2,7 +2,7 @@
 ghost use Rattle.std.specs.Prelude.{◌≡◌, ◌≤◌, length, IfOk, IfErr, MatchResult, string_bytes};
 ghost use Rattle.ml_io.specs.Files.{IsLoaded};
 ghost use Rattle.maplabel.specs.declared.stop.Stop.TheVariants as stop;
-ghost use Rattle.maplabel.specs.Inputs.{most_bytes, HasTable, IsLoadStop, IsTableStop, IsTableRefusal, HasSlots, IsSlotsStop, IsSlotsRefusal};
+ghost use Rattle.maplabel.specs.Inputs.{most_bytes, HasTable, IsLoadStop, IsTableStop, IsTableLine, IsInputRefusal, HasSlots, IsSlotsStop, IsSlotsLine};
 
 use crate::stop::Stop;
 use ml_cert::{SlotsFault, read_slots};
@@ -18,7 +18,7 @@ const MOST_BYTES: u64 = 67_108_864;
 /// The labels of the table of this name.
 ///
 /// # Errors
-/// `FileFault` and `TooLong` where its file is not loaded; `Refused` where it is no table; `Memory`.
+/// `FileFault` and `TooLong` where its file is not loaded; `InputRefused` where it is no table; `Memory`.
 pub fn load_table<F: Files>(alloc: Global, files: &mut F, name: &str) -> Result<Seq<Label>, Stop>
     ensures ok { IfOk result (λ labels. HasTable (F.told files.old) name.now labels) }
     ensures stop { IfErr result (IsTableStop (F.told files.old) (F.faults files.old) (F.faults files.new) (F.failed_name files.new) name.now) }
@@ -35,7 +35,7 @@ pub fn load_table<F: Files>(alloc: Global, files: &mut F, name: &str) -> Result<
 /// The slots that the file of this name gives to the labels.
 ///
 /// # Errors
-/// `FileFault` and `TooLong` where the file is not loaded; `Refused` where it has no slots for these
+/// `FileFault` and `TooLong` where the file is not loaded; `InputRefused` where it has no slots for these
 /// labels; `Memory`.
 pub fn load_slots<F: Files>(
     alloc: Global,
@@ -56,8 +56,11 @@ pub fn load_slots<F: Files>(
     }
 }
 
-// The bytes of the file of this name.
-fn load<F: Files>(alloc: Global, files: &mut F, name: &str) -> Result<Vec<u8>, Stop>
+/// The bytes of the file of this name.
+///
+/// # Errors
+/// `FileFault`, `TooLong`, `Memory`.
+pub fn load<F: Files>(alloc: Global, files: &mut F, name: &str) -> Result<Vec<u8>, Stop>
     ensures ok { IfOk result (λ bytes. IsLoaded (F.told files.old) name.now most_bytes bytes.items) }
     ensures stop { IfErr result (IsLoadStop (F.told files.old) (F.faults files.old) (F.faults files.new) (F.failed_name files.new) name.now) }
     ensures same { F.told files.new ≡ F.told files.old }
@@ -73,32 +76,36 @@ fn load<F: Files>(alloc: Global, files: &mut F, name: &str) -> Result<Vec<u8>, S
 
 // Why a table is refused, as a line.
 fn table_refusal(alloc: Global, fault: TableFault) -> Stop
-    ensures { IsTableRefusal fault result }
+    ensures { IsInputRefusal (IsTableLine fault) result }
 {
     match fault {
-        TableFault::BadLine(k) => refusal(format!(in alloc; "table refused: 1 BadLine {k}\n")),
-        TableFault::SameId(k) => refusal(format!(in alloc; "table refused: 2 SameId {k}\n")),
-        TableFault::Full => refusal(format!(in alloc; "table refused: 3 Full\n")),
+        TableFault::BadLine(k) => input_refusal(format!(in alloc;
+            "table refused: 1 BadLine {k}\n"
+        )),
+        TableFault::SameId(k) => input_refusal(format!(in alloc; "table refused: 2 SameId {k}\n")),
+        TableFault::Full => input_refusal(format!(in alloc; "table refused: 3 Full\n")),
         TableFault::Memory => Stop::Memory,
     }
 }
 
 // Why slots are refused, as a line.
 fn slots_refusal(alloc: Global, fault: SlotsFault) -> Stop
-    ensures { IsSlotsRefusal fault result }
+    ensures { IsInputRefusal (IsSlotsLine fault) result }
 {
     match fault {
-        SlotsFault::BadLine(k) => refusal(format!(in alloc; "slots refused: 1 BadLine {k}\n")),
+        SlotsFault::BadLine(k) => input_refusal(format!(in alloc;
+            "slots refused: 1 BadLine {k}\n"
+        )),
         SlotsFault::Memory => Stop::Memory,
     }
 }
 
-// The line that refuses, if there was memory for it.
-fn refusal(line: Result<String, AllocError>) -> Stop
-    ensures { MatchResult line (λ line. result ≡ stop.Refused (string_bytes line)) (λ _. result ≡ stop.Memory) }
+/// The line that refuses an input, if there was memory for it.
+pub fn input_refusal(line: Result<String, AllocError>) -> Stop
+    ensures { MatchResult line (λ line. result ≡ stop.InputRefused (string_bytes line)) (λ _. result ≡ stop.Memory) }
 {
     match line {
-        Ok(line) => Stop::Refused(Seq::of_vec(line.into_bytes())),
+        Ok(line) => Stop::InputRefused(Seq::of_vec(line.into_bytes())),
         Err(_error) => Stop::Memory,
     }
 }

@@ -2,9 +2,10 @@
 //!
 //! - [`run`]: the top call ([`run`](run::run)); [`status`]: how it ends;
 //! - [`command`]: what the words ask for; [`answer`]: what they come to;
-//! - [`show`], [`slots`], [`check`]: one module a command;
-//! - [`inputs`]: the files that a command needs; [`stop`]: what ends a command early;
-//! - [`view_text`]: the JSON text of a view; [`verdict_text`]: the line of a verdict;
+//! - [`show`], [`slots`], [`check`], [`map_view`]: one module a command;
+//! - [`inputs`], [`map_inputs`]: the files that a command needs; [`stop`]: what ends a command early;
+//! - [`labels`]: the labels of a map; [`order`]: their order;
+//! - [`view_line`]: the line of a view; [`verdict_text`]: the line of a verdict;
 //! - [`laws`]: a law of what a run comes to.
 #![tactic(auto)]
 
@@ -12,14 +13,18 @@ pub mod answer;
 pub mod check;
 pub mod command;
 pub mod inputs;
+pub mod labels;
 pub mod laws;
+pub mod map_inputs;
+pub mod map_view;
+pub mod order;
 pub mod run;
 pub mod show;
 pub mod slots;
 pub mod status;
 pub mod stop;
 pub mod verdict_text;
-pub mod view_text;
+pub mod view_line;
 
 use crate::run::run;
 use crate::status::Status;
@@ -53,5 +58,7 @@ fn main(rt: HostRuntime) -> ExitCode {
     ExitCode::from(status.code())
 }
 
+#[cfg(test)]
+mod map_tests;
 #[cfg(test)]
 mod tests;

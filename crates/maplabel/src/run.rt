@@ -23,7 +23,8 @@ pub fn run<F: Files, K: Sink>(alloc: Global, words: &[String], files: &mut F, ou
     match answer(alloc, words, files) {
         Ok((status, text)) => print(out, text.as_slice(), status),
         Err(Stop::Usage) => print(out, USAGE.as_bytes(), Status::Usage),
-        Err(Stop::Refused(line)) => print(out, line.as_slice(), Status::InputRefused),
+        Err(Stop::StyleRefused(line)) => print(out, line.as_slice(), Status::StyleRefused),
+        Err(Stop::InputRefused(line)) => print(out, line.as_slice(), Status::InputRefused),
         Err(Stop::FileFault) => print(out, b"file fault\n", Status::FileFault),
         Err(Stop::TooLong) => print(out, b"file too long\n", Status::TooLong),
         Err(Stop::Memory) => print(out, b"", Status::Memory),

@@ -1,17 +1,36 @@
-//! The command that shows a view of a table's labels.
-ghost use Rattle.std.specs.Prelude.{◌≡◌, ◌≤◌, IfOk, IfErr};
+//! The command that shows a view of a table's labels, and the line of a view of any labels.
+ghost use Rattle.std.specs.Prelude.{◌≡◌, ◌≤◌, IfOk, IfErr, length};
 ghost use Rattle.maplabel.specs.Inputs.{IsTableStop};
-ghost use Rattle.maplabel.specs.Answers.{IsShowText};
+ghost use Rattle.maplabel.specs.Answers.{IsViewOf, IsShowText};
 
 use crate::inputs::load_table;
 use crate::stop::Stop;
-use crate::view_text::view_line;
-use ml_cone::View;
+use crate::view_line::view_line;
+use ml_cone::{Label, View};
 use ml_io::Files;
 use ml_pass::assign;
 use ml_ratio::Seq;
 use ml_view::shown;
-use std::alloc::Global;
+use std::alloc::{AllocError, Global};
+
+/// The line of the view of labels, each active as their longest choice says.
+///
+/// # Errors
+/// Want of memory.
+pub fn line_of(alloc: Global, labels: &[Label], view: &View) -> Result<Seq<u8>, AllocError>
+    requires few { length labels.now ≤ 32768 }
+    ensures { IfOk result (IsViewOf labels.now view.now) }
+{
+    let slots = assign(alloc, labels)?;
+    let places = shown(alloc, labels, slots.as_slice(), view)?;
+    view_line(
+        alloc,
+        labels,
+        slots.as_slice(),
+        places.as_slice(),
+        view.scale(),
+    )
+}
 
 /// The line of the view of a table's labels, each active as its longest choice says.
 ///
@@ -29,15 +48,6 @@ pub fn show<F: Files>(
     ensures later { F.faults files.old ≤ F.faults files.new }
 {
     let labels = load_table(alloc, files, table)?;
-    let slots = assign(alloc, labels.as_slice())?;
-    let places = shown(alloc, labels.as_slice(), slots.as_slice(), view)?;
-    let scale = view.scale();
-    let line = view_line(
-        alloc,
-        labels.as_slice(),
-        slots.as_slice(),
-        places.as_slice(),
-        &scale,
-    )?;
+    let line = line_of(alloc, labels.as_slice(), view)?;
     Ok(line)
 }

@@ -9,7 +9,9 @@ pub enum Status {
     NotBest,
     /// The words are none of the forms.
     Usage,
-    /// The table or the slots are refused.
+    /// The style is refused.
+    StyleRefused,
+    /// The table, the slots or the map are refused.
     InputRefused,
     /// A file is missing, or its reading failed.
     FileFault,
@@ -33,6 +35,7 @@ impl Status {
             Status::Done => 0,
             Status::NotBest => 1,
             Status::Usage => 2,
+            Status::StyleRefused => 3,
             Status::InputRefused => 4,
             Status::FileFault => 5,
             Status::WriteFault => 7,

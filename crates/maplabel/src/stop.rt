@@ -10,8 +10,10 @@ use std::alloc::{AllocError, AllocFailed};
 pub enum Stop {
     /// The words are none of the forms.
     Usage,
-    /// An input is refused; the line that says why.
-    Refused(Seq<u8>),
+    /// A style is refused; the line that says why.
+    StyleRefused(Seq<u8>),
+    /// A table, slots or a map are refused; the line that says why.
+    InputRefused(Seq<u8>),
     /// The file that is due is missing, or its reading failed.
     FileFault,
     /// The file that is due is too long.

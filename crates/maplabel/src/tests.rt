@@ -13,7 +13,7 @@ const A: &str = r#"{"at":[0,0],"boxes":[[-10,-5,10,5]],"id":"A","text":"A","unti
 const B: &str = r#"{"at":[400,0],"boxes":[[-10,-5,10,5]],"id":"B","text":"B","until":"20/1"}"#;
 
 /// The words of a line, cut at its spaces.
-fn words_of(alloc: Global, line: &str) -> Result<Vec<String>, Fail> {
+pub(crate) fn words_of(alloc: Global, line: &str) -> Result<Vec<String>, Fail> {
     let mut words = Vec::new(alloc);
     for word in line.split(' ') {
         words.push(String::from_str(alloc, word)?)?;
@@ -283,6 +283,7 @@ fn statuses_have_these_codes(rt: HostRuntime) {
         (Status::Done, 0),
         (Status::NotBest, 1),
         (Status::Usage, 2),
+        (Status::StyleRefused, 3),
         (Status::InputRefused, 4),
         (Status::FileFault, 5),
         (Status::WriteFault, 7),

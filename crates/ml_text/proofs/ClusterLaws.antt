@@ -89,6 +89,19 @@ module _ (font : Font) where
       let same = segments_total (is_grapheme_break true) text u in
       uncapped (graphemes true text) (omega arith) ∙ same
 
+  reaching : (pieces : List (List ℕ)) → min (sum_by (advance_sum font) pieces) 18446744073709551615 ≤ sum_by (λ (c : Cluster). c.advance) (map (cluster_of font) pieces)
+  reaching [] = omega arith
+  reaching (p ∷ ps) =
+      let one = sum_by-cons (λ (c : Cluster). c.advance) (cluster_of font p) (map (cluster_of font) ps) in
+      let two = sum_by-cons (advance_sum font) p ps in
+      omega (arith, one, two, reaching ps)
+
+  -- the advances of the clusters reach those of the text, or 2^64 - 1
+  pub clusters_reach : (text : List ℕ) → IsUtf8 text → min (advance_sum font text) 18446744073709551615 ≤ sum_by (λ (c : Cluster). c.advance) (clusters_of font text)
+  clusters_reach text u =
+      let same = segments_total (is_grapheme_break true) text u in
+      omega (arith, reaching (graphemes true text), same)
+
   pieces : (ps : List (List ℕ)) → concat (map (λ (c : Cluster). c.text) (map (cluster_of font) ps)) ≡ concat ps
   pieces [] = refl
   pieces (p ∷ ps) = ap (λ (t : List ℕ). p ++ t) (pieces ps)

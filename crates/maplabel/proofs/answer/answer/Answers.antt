@@ -1,7 +1,7 @@
 use Rattle.std.proofs.Common.{map, string_bytes, inl, inr, refl}
 use Rattle.std.proofs.lemmas.Result.{IfOk-weaker, IfErr-weaker}
-use Rattle.maplabel.specs.Outcome.{IsStop, showed, listed, judged}
-use Rattle.maplabel.proofs.Answering.{handed_on, table_stop, check_stop}
+use Rattle.maplabel.specs.Outcome.{IsStop, showed, listed, viewed, judged}
+use Rattle.maplabel.proofs.Answering.{handed_on, table_stop, check_stop, view_stop}
 use Rattle.maplabel.proofs.answer.answer.Goals as goal
 
 pub returns-in_err-text-in-Some-Show-clause-stop :
@@ -58,4 +58,24 @@ returns-in-Some-Check-clause-stop g c =
     let failed = g.F.Files.failed_name c.check.new.files in
     let table = c.in-Some-Check.table.now in
     let slots = c.in-Some-Check.slots.now in
-    IfErr-weaker c.check.result _ _ (λ s is. check_stop told before now failed words (inr (inr (table, slots, form))) table slots s form is) c.check.ensures.stop
+    IfErr-weaker c.check.result _ _ (λ s is. check_stop told before now failed words (inr (inr (inl (table, slots, form)))) table slots s form is) c.check.ensures.stop
+
+pub returns-in_ok-text-in-Some-MapView-clause-ok : goal.returns-in_ok-text-in-Some-MapView-clause-ok
+returns-in_ok-text-in-Some-MapView-clause-ok g c =
+    let form = rw c.in-Some-MapView.field-0-is at c.in-Some-MapView.ensures in
+    viewed c.in-Some-MapView.style.now c.in-Some-MapView.map.now c.in-Some-MapView.view form c.in_ok-text-in-Some-MapView.ensures.ok refl
+
+pub returns-in_err-text-in-Some-MapView-clause-stop : goal.returns-in_err-text-in-Some-MapView-clause-stop
+returns-in_err-text-in-Some-MapView-clause-stop g c =
+    let form = rw c.in-Some-MapView.field-0-is at c.in-Some-MapView.ensures in
+    let words = map string_bytes c.args.words.now in
+    let told = g.F.Files.told c.args.files.now in
+    let before = g.F.Files.faults c.args.files.now in
+    let now = g.F.Files.faults c.map_view.new.files in
+    let failed = g.F.Files.failed_name c.map_view.new.files in
+    let style = c.in-Some-MapView.style.now in
+    let map = c.in-Some-MapView.map.now in
+    let view = c.in-Some-MapView.view in
+    let s = c.in_err-text-in-Some-MapView.field-0.0 in
+    handed_on (IsStop told before now failed words) c.from_residual-in_err-text-in-Some-MapView.result s c.from_residual-in_err-text-in-Some-MapView.ensures.1
+    (view_stop told before now failed words (inr (inr (inr (style, map, view, form)))) style map view s form c.in_err-text-in-Some-MapView.ensures.stop)

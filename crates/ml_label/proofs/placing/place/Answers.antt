@@ -1,0 +1,5 @@
+use Rattle.ml_label.proofs.Along.{no_place}
+use Rattle.ml_label.proofs.placing.place.Goals as goal
+
+pub returns-in_default : goal.returns-in_default
+returns-in_default c = no_place c.args.font.now c.args.class.now c.args.shape.now c.args.text c.requires.utf8 c.in_default.ensures

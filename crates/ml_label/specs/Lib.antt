@@ -1,0 +1,6 @@
+pub mod Name
+pub mod Straight
+pub mod Placing
+pub mod Seen
+pub mod Labelling
+pub mod Labels

@@ -1,0 +1,19 @@
+//! Why a feature has no label.
+use thiserror::Error;
+
+/// Why a feature has no label. Of several the first holds.
+#[derive(Clone, Copy, Debug, PartialEq, Eq, Error)]
+pub enum Reason {
+    /// The feature has no geometry.
+    #[error("the feature has no geometry")]
+    NoGeometry,
+    /// No class of the style fits the feature.
+    #[error("no class fits the feature")]
+    NoClass,
+    /// Its name is absent, null, a truth value, empty or of spaces alone.
+    #[error("the feature has no name")]
+    NoName,
+    /// Its text is straight and reaches further than 512 pixels to the left or right.
+    #[error("the label is too wide")]
+    TooWide,
+}
