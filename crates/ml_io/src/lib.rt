@@ -8,7 +8,8 @@
 //! - [`failed`]: the answers that blame the outside;
 //! - [`sink`]: the trait [`Sink`], and [`put_all`] over it;
 //! - [`files`]: the trait [`Files`];
-//! - [`mem_sink`], [`mem_files`]: objects in memory that tell all, and fail at listed calls;
+//! - [`mem_sink`], [`mem_files`]: objects in memory that tell all, and fail at listed calls, over
+//!   [`failing`];
 //! - [`calm_sink`], [`calm_files`]: objects that never fail;
 //! - [`real`]: adapters over the system, which are trusted.
 #![tactic(auto)]
@@ -16,21 +17,20 @@
 pub mod calm_files;
 pub mod calm_sink;
 pub mod failed;
-mod failing;
+pub mod failing;
 pub mod files;
 pub mod mem_files;
 pub mod mem_sink;
 mod named;
 pub mod real;
 pub mod sink;
-#[cfg(test)]
-mod tests;
 
 pub use calm_files::CalmFiles;
 pub use calm_sink::CalmSink;
 pub use failed::{Failed, FileFault};
+pub use failing::FailingCalls;
 pub use files::Files;
 pub use mem_files::MemFiles;
 pub use mem_sink::MemSink;
-pub use real::{RealFiles, RealOutput};
+pub use real::{RealErrors, RealFiles, RealOutput};
 pub use sink::{Sink, put_all};

@@ -1,4 +1,5 @@
 pub mod Feature
+pub mod Floor
 pub mod Fraction
 pub mod Geometry
 pub mod JsonNumber
@@ -6,6 +7,8 @@ pub mod Lines
 pub mod Lowest
 pub mod Number
 pub mod Ratio
+pub mod RatioExact
 pub mod RatioOrder
 pub mod RatioText
+pub mod Refusal
 pub mod World
