@@ -1,19 +1,20 @@
 //! Labels of a zoomable map, and the definitions that the whole engine is about.
 //!
-//! A label is an anchor in the world with boxes of whole pixels, so over position and scale it is a
-//! cone, truncated to the range of scales in which it is active. Two labels conflict where their
-//! cones meet. `specs/` says when labels overlap, what a choice of active ranges is, which choice is
-//! the longest, what blocks a label, and which labels a view shows.
+//! A label is an anchor in the world with boxes of whole pixels, so the further a map is zoomed out,
+//! the more of the world it covers. `specs/` says when labels overlap, what a choice of active ranges
+//! is, which choice is the longest, what blocks a label, and which labels a view shows.
 //!
 //! - [`label`]: boxes and labels; [`order`]: the priority order;
 //! - [`slot`]: active ranges and what ends them; [`view`]: a window of the world at a scale;
-//! - [`edge`], [`overlap`], [`window`]: the tests of single labels at a scale;
+//! - [`overlap`], [`window`]: the tests of single labels at a scale, over `edge` and `margin`: where
+//!   edges lie, and boxes widened by a margin ([`widened`]);
 //! - [`laws`]: laws over the definitions alone.
 #![tactic(auto)]
 
-pub mod edge;
+mod edge;
 pub mod label;
 pub mod laws;
+mod margin;
 pub mod order;
 pub mod overlap;
 pub mod slot;
@@ -21,11 +22,9 @@ pub mod view;
 pub mod window;
 
 pub use label::{BoxPx, Label};
+pub use margin::widened;
 pub use order::Order;
 pub use overlap::overlaps;
 pub use slot::{Slot, Span, active};
 pub use view::View;
 pub use window::meets;
-
-#[cfg(test)]
-mod tests;
