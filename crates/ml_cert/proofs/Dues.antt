@@ -11,10 +11,14 @@ use Rattle.ml_cone.specs.Slots.{ends, no_slot}
 use Rattle.ml_cone.specs.Sound.{HasGoodEnd, AllowsAt}
 use Rattle.ml_cone.specs.declared.label.Label.{Label}
 use Rattle.ml_cone.specs.declared.slot.Slot.{Slot}
-use Rattle.ml_conflict.proofs.Greedy.{Allows-smaller}
-use Rattle.ml_conflict.proofs.Limits.{limit_same}
-use Rattle.ml_conflict.proofs.Own.{limit_blocks, blocks_limit}
 use Rattle.ml_cert.specs.Judged.{IsDue, IsClash}
+
+-- what is known of ends, limits and blockers
+pub record Known : Type 0 where
+  pub smaller : (low high : Label) (u v e f : Fraction) → IsAtMost v u → IsAtMost e f → Allows low high u f → Allows low high v e
+  pub same : (low high : Label) (u v f g : Fraction) → IsSame u v → IsSame f g → IsLimit low high u f → IsLimit low high v g
+  pub limits : (labels : List Label) (choice : Choice) (j i : ℕ) (d : Label) → IsEnd (get_or labels i d) (choice i) → Allows (get_or labels i d) (get_or labels j d) (choice j) (choice i) → Blocks labels choice j i → IsLimit (get_or labels i d) (get_or labels j d) (choice j) (choice i)
+  pub blocks : (labels : List Label) (choice : Choice) (j i : ℕ) → j < i → ((d : Label) → IsLess (choice i) (value_of (get_or labels i d).max)) → ((d : Label) → IsLimit (get_or labels i d) (get_or labels j d) (choice j) (choice i)) → Blocks labels choice j i
 
 pub is_none_of : (o : Option ℕ) → is_some o ≡ false → o ≡ None
 is_none_of None e = refl
@@ -51,18 +55,18 @@ pair_of labels slots i j a b s t lt in' same its other good =
     end_there : (labels : List Label) (c : Choice) (i : ℕ) (a : Label) (u : Fraction) → ((d : Label) → get_or labels i d ≡ a) → c i ≡ u → IsEnd (get_or labels i a) (c i) → IsEnd a u
     end_there labels c i a u its_label its_end h = rw (its_label a, its_end) at h
 
-module _ {labels : List Label} {c : Choice} {i j : ℕ} {a b : Label} {u v : Fraction} (pair : ArePair labels c i j a b u v) where
+module _ (known : Known) {labels : List Label} {c : Choice} {i j : ℕ} {a b : Label} {u v : Fraction} (pair : ArePair labels c i j a b u v) where
   allows_at : Allows a b v u → AllowsAt labels c j i
   allows_at h d = rw (pair.its_label d, pair.other_label d, pair.its_end, pair.other_end) h
 
   clear_at : Allows a b v u → (IsLimit a b v u → IsLess u (value_of a.max) → ⊥) → ¬ (Blocks labels c j i)
   clear_at allowed refuted blocks =
-      let limit = blocks_limit labels c j i a (rw (pair.its_label a, pair.its_end) pair.good) (allows_at allowed a) blocks in
+      let limit = known.limits labels c j i a (rw (pair.its_label a, pair.its_end) pair.good) (allows_at allowed a) blocks in
       refuted (rw (pair.its_label a, pair.other_label a, pair.its_end, pair.other_end) at limit) (rw (pair.its_label a, pair.its_end) at ((blocks a).1))
 
   blocks_at : IsLess u (value_of a.max) → IsLimit a b v u → Blocks labels c j i
   blocks_at below limit =
-      limit_blocks labels c j i pair.earlier (λ d. rw (pair.its_label d, pair.its_end) below) (λ d. rw (pair.its_label d, pair.other_label d, pair.its_end, pair.other_end) limit)
+      known.blocks labels c j i pair.earlier (λ d. rw (pair.its_label d, pair.its_end) below) (λ d. rw (pair.its_label d, pair.other_label d, pair.its_end, pair.other_end) limit)
 
   module _ {due : Option ℕ} (so_far : IsDue labels c i j due) where
     allowed_more : AllowsAt labels c j i → (k : ℕ) → k < j + 1 → AllowsAt labels c k i
@@ -82,20 +86,20 @@ module _ {labels : List Label} {c : Choice} {i j : ℕ} {a b : Label} {u v : Fra
     -- the label at j allows the maximum
     pub due_free : Allows a b v (value_of a.max) → IsDue labels c i (j + 1) due
     due_free h =
-        let allowed : Allows a b v u = Allows-smaller a b v v u (value_of a.max) (omega arith) pair.good.1 h in
+        let allowed : Allows a b v u = known.smaller a b v v u (value_of a.max) (omega arith) pair.good.1 h in
         let range : IsLess (value_of a.min) (value_of a.max) = a.range in
         due_clear allowed (clear_at allowed (λ limit below. let le : IsAtMost (value_of a.max) u = limit.greatest (value_of a.max) (omega arith, omega arith) h in omega arith))
 
     -- its limit is above the end
     pub due_above : {f : Fraction} → IsLimit a b v f → IsLess u f → IsDue labels c i (j + 1) due
     due_above {f} limit less =
-        let allowed : Allows a b v u = Allows-smaller a b v v u f (omega arith) (omega arith) limit.allowed in
+        let allowed : Allows a b v u = known.smaller a b v v u f (omega arith) (omega arith) limit.allowed in
         due_clear allowed (clear_at allowed (λ other below. let le : IsAtMost f u = other.greatest f limit.is_end limit.allowed in omega arith))
 
     -- its limit is the end, and no label before it blocks
     pub due_more : {f : Fraction} → IsLimit a b v f → IsLess f (value_of a.max) → IsSame f u → is_some due ≡ false → IsDue labels c i (j + 1) (Some j)
     due_more {f} limit below same none =
-        let here = limit_same a b v v f u (omega arith) same limit in
+        let here = known.same a b v v f u (omega arith) same limit in
         record {
           allowed = allowed_more (allows_at here.allowed);
           first = (blocks_at (at_most_less u f (value_of a.max) (omega arith) below) here, rw (is_none_of due none) at so_far.first);
@@ -105,7 +109,7 @@ module _ {labels : List Label} {c : Choice} {i j : ℕ} {a b : Label} {u v : Fra
     pub due_kept : {f : Fraction} → IsLimit a b v f → IsAtMost u f → is_some due ≡ true → IsDue labels c i (j + 1) due
     due_kept {f} limit le e =
         record {
-          allowed = allowed_more (allows_at (Allows-smaller a b v v u f (omega arith) le limit.allowed));
+          allowed = allowed_more (allows_at (known.smaller a b v v u f (omega arith) le limit.allowed));
           first = first due e so_far.first;
         }
       where

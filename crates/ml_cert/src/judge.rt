@@ -9,6 +9,7 @@ ghost use Rattle.ml_cert.specs.Judged.{AllSoundBefore, IsDue, IsClash, IsVerdict
 use crate::verdict::Verdict;
 use ml_cone::{Label, Slot};
 use ml_conflict::first_block;
+use ml_conflict::laws::{blocking, same_limits, smaller_ends, sound_slots};
 use ml_ratio::Ratio;
 
 /// The verdict on the slots of labels in priority order: what the first label with a wrong slot has
@@ -18,6 +19,7 @@ pub fn check(labels: &[Label], slots: &[Slot]) -> Verdict
     ensures verdict { IsVerdict labels.now slots.now result }
     ensures best { (result ≡ Verdict.Best) ↔ AreSlots (λ j. j) labels.now slots.now }
 {
+    sound_slots();
     for i in 0..labels.len() {
         if let Some(verdict) = judge_slot(labels, slots, i) {
             return verdict;
@@ -83,6 +85,9 @@ fn blocker_due(labels: &[Label], slots: &[Slot], i: usize) -> Result<Option<usiz
         (λ due. IsDue labels.now (ends slots.now) i i due)
         (λ clash. IsClash labels.now (ends slots.now) i clash.0 clash.1) }
 {
+    blocking();
+    smaller_ends();
+    same_limits();
     let low = &labels[i];
     let until = slots[i].until;
     let mut due = None;

@@ -1,23 +1,20 @@
 //! A judge of slots: whether given ends and blockers are the longest choice with its blockers.
 //!
-//! - [`verdict`]: what the judge answers ([`Verdict`]); [`judge`]: the judge itself ([`check`]);
+//! - `verdict`: what the judge answers ([`Verdict`]); `judge`: the judge itself ([`check`]);
 //! - [`laws`]: that only the longest choice with its blockers is found best;
-//! - [`slots_text`]: the text of slots ([`read_slots`]) and what refuses it ([`SlotsFault`]), over
+//! - `slots_text`: the text of slots ([`read_slots`]) and what refuses it ([`SlotsFault`]), over
 //!   `slot_line`: one line of it, and `places`: where each id stands.
 #![tactic(auto)]
 
-pub mod fault;
-pub mod judge;
+mod fault;
+mod judge;
 pub mod laws;
 mod places;
 mod slot_line;
-pub mod slots_text;
-pub mod verdict;
+mod slots_text;
+mod verdict;
 
 pub use fault::SlotsFault;
 pub use judge::check;
 pub use slots_text::read_slots;
 pub use verdict::Verdict;
-
-#[cfg(test)]
-mod tests;

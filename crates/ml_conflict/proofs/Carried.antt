@@ -6,17 +6,8 @@ use Rattle.ml_cone.specs.Choice.{IsEnd, Allows, IsLimit}
 use Rattle.ml_cone.specs.Slots.{Rival, RivalAllows, IsFirstAt, IsOwnSlot}
 use Rattle.ml_cone.specs.declared.label.Label.{Label}
 use Rattle.ml_cone.specs.declared.slot.Slot.{Slot}
+use Rattle.ml_conflict.specs.Carried.{IsFree, IsBeyond, AreAlike, AreCarried, AreJoined}
 use Rattle.ml_conflict.proofs.Greedy.{Allows-smaller}
-
--- the rival sets no limit
-abbrev pub IsFree : Label → Rival → Type 0
-IsFree low r = Allows low r.label (value_of r.until) (value_of low.max)
-
--- the two have one number and label, and one end by value
-pub record AreAlike (r s : Rival) : Type 0 where
-  pub number : r.number ≡ s.number
-  pub label : r.label ≡ s.label
-  pub until : IsSame (value_of r.until) (value_of s.until)
 
 pub alike_of : (r s : Rival) → r ≡ s → AreAlike r s
 alike_of r s e =
@@ -51,12 +42,6 @@ alike_limit low r s f same limit =
       allowed = alike_allows low r s f same limit.allowed;
       greatest = λ e e_end h. limit.greatest e e_end (alike_allows low s r e (alike_turned r s same) h);
     }
-
--- what sets a limit among the one sets it among the others, and in the same order
-pub record AreCarried (low : Label) (rivals others : ℕ → Rival) (stands stays : ℕ → Type 0) (link : ℕ → ℕ → Type 0) : Type 0 where
-  pub forth : (j : ℕ) → stands j → IsFree low (rivals j) ⊎ ((k : ℕ) × stays k × AreAlike (rivals j) (others k) × link j k)
-  pub back : (k : ℕ) → stays k → IsFree low (others k) ⊎ ((j : ℕ) × stands j × AreAlike (rivals j) (others k) × link j k)
-  pub order : (j k i m : ℕ) → link j k → link i m → m < k → i < j
 
 module _ (low : Label) (rivals others : ℕ → Rival) (stands stays : ℕ → Type 0) (link : ℕ → ℕ → Type 0) (carried : AreCarried low rivals others stands stays link) where
   allows_forth : (e : Fraction) → IsEnd low e → ((k : ℕ) → stays k → RivalAllows low e (others k)) → (j : ℕ) → stands j → RivalAllows low e (rivals j)
@@ -103,6 +88,41 @@ module _ (low : Label) (rivals others : ℕ → Rival) (stands stays : ℕ → T
         allowed = allows_back (value_of slot.until) own.is_end own.allowed;
         greatest = λ e e_end all. own.greatest e e_end (allows_forth e e_end all);
         setter = setter_forth (value_of slot.until) slot.blocker own.setter;
+      }
+
+-- an own slot stays one where rivals join that allow its end and do not set it
+module _ (low : Label) (rivals others : ℕ → Rival) (stands stays : ℕ → Type 0) (link : ℕ → ℕ → Type 0) (slot : Slot) (joined : AreJoined low (value_of slot.until) rivals others stands stays link) where
+  joined_first : (n : ℕ) → IsFirstAt rivals stands low (value_of slot.until) n → IsFirstAt others stays low (value_of slot.until) n
+  joined_first n at =
+      let there = joined.forth at.place at.is_standing in
+      record {
+        place = there.0;
+        is_standing = there.1;
+        its_number = sym there.2.number ∙ at.its_number;
+        sets = alike_limit low (others there.0) (rivals at.place) (value_of slot.until) (alike_turned (rivals at.place) (others there.0) there.2) at.sets;
+        first = λ m less h limit.
+            elim (joined.back m h) [
+              | inl beyond ↦ beyond.1 limit
+              | inr other ↦ at.first other.0 (joined.order at.place there.0 other.0 m there.3 other.3 less) other.1 (alike_limit low (rivals other.0) (others m) (value_of slot.until) other.2 limit)
+            ];
+      }
+
+  joined_setter : (b : Option ℕ) → MatchOption b (IsSame (value_of slot.until) (value_of low.max)) (λ n. IsLess (value_of slot.until) (value_of low.max) × IsFirstAt rivals stands low (value_of slot.until) n) → MatchOption b (IsSame (value_of slot.until) (value_of low.max)) (λ n. IsLess (value_of slot.until) (value_of low.max) × IsFirstAt others stays low (value_of slot.until) n)
+  joined_setter None h = h
+  joined_setter (Some n) h = (h.0, joined_first n h.1)
+
+  pub own_joined : IsOwnSlot rivals stands low slot → IsOwnSlot others stays low slot
+  own_joined own =
+      record {
+        is_end = own.is_end;
+        allowed = λ k h.
+            elim (joined.back k h) [
+              | inl beyond ↦ beyond.0
+              | inr there ↦ alike_allows low (others k) (rivals there.0) (value_of slot.until) (alike_turned (rivals there.0) (others k) there.2) (own.allowed there.0 there.1)
+            ];
+        greatest = λ e e_end all.
+            own.greatest e e_end (λ j h. let there = joined.forth j h in alike_allows low (rivals j) (others there.0) e there.2 (all there.0 there.1));
+        setter = joined_setter slot.blocker own.setter;
       }
 
 -- an own slot among the same rivals at the same places

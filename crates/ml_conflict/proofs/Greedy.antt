@@ -1,36 +1,16 @@
--- Smaller ends are allowed too; the law of the longest choice; that there is one at most.
+-- Smaller ends are allowed too; and there is at most one longest choice.
 use Rattle.std.proofs.Common.{ℕ, zero, suc, ◌*◌, ◌<◌, ◌≤◌, List, length, get_or, arith, inl, inr}
 use Rattle.std.proofs.lemmas.Bool.{cases_eq, cases_lt}
 use Rattle.ml_ratio.specs.Fraction.{Fraction, IsLess, IsAtMost, IsSame}
-use Rattle.ml_cone.specs.Choice.{Allows, Choice, IsConflictFree, IsLongest, IsLeastEnd}
+use Rattle.ml_cone.specs.Choice.{Allows, Choice, IsLongest}
 use Rattle.ml_cone.specs.declared.label.Label.{Label}
-use Rattle.ml_ratio.proofs.Fractions.{order, same_at_most}
+use Rattle.ml_ratio.proofs.Fractions.{order}
 
 -- a smaller end, and a smaller end of the other, are allowed too
 pub Allows-smaller : (low high : Label) (u v e f : Fraction) → IsAtMost v u → IsAtMost e f → Allows low high u f → Allows low high v e
 unfolding Allows
 Allows-smaller low high u v e f p q all s scale a b =
     all s scale (a.0, grind (arith, order)) (b.0, grind (arith, order))
-
--- ends that the labels before allow
-pub greedy_free : (labels : List Label) (c : Choice) → ((i : ℕ) → i < length labels → IsLeastEnd labels c i) → IsConflictFree labels c
-greedy_free labels c least j i d lt in' =
-    let b = (least i in').below j d lt in
-    Allows-smaller (get_or labels i d) (get_or labels j d) (c j) (c j) (c i) b.0 (omega arith) b.2 b.1.allowed
-
--- the law
-pub greedy_longest : (labels : List Label) (c : Choice) → ((i : ℕ) → i < length labels → IsLeastEnd labels c i) → IsLongest labels c
-greedy_longest labels c least =
-    record {
-      is_choice = λ i d in'. (least i in').is_end d;
-      free = greedy_free labels c least;
-      greatest = λ b choice free i in' first.
-          let most : IsAtMost (b i) (c i) =
-          (least i in').reached (b i) (λ d. choice i d in') (λ j d f lt limit.
-          limit.greatest (b i) (choice i d in') (Allows-smaller (get_or labels i d) (get_or labels j d) (b j) (c j) (b i) (b i) (same_at_most (c j) (b j) (first.before j lt)) (omega arith) (free j i d lt in'))) in
-          let not_same : ¬ (IsSame (b i) (c i)) = first.here in
-          omega arith;
-    }
 
 module _ (labels : List Label) (b c : Choice) (p : IsLongest labels b) (q : IsLongest labels c) where
   agree_here : (i : ℕ) → i < length labels → ((j : ℕ) → j < i → IsSame (b j) (c j)) → IsSame (b i) (c i)

@@ -35,10 +35,3 @@ half_down (negsuc a) (negsuc b) k m r e f p q g s =
     )
 half_down (pos a) v k m r e f p q g s = absurd (omega (arith, ints))
 half_down (negsuc a) (pos b) k m r e f p q g s = absurd (omega (arith, ints))
-
--- none
-pub half_none : (u v : ℤ) (s : Fraction) → pos 0 ≤ℤ u → v ≤ℤ pos 0 → ¬ ((u *ℤ pos s.den) <ℤ (v *ℤ pos s.num))
-half_none (pos a) (pos zero) s p q h = omega (arith, ints)
-half_none (pos a) (pos (suc b)) s p q h = omega (arith, ints)
-half_none (pos a) (negsuc b) s p q h = omega (arith, ints)
-half_none (negsuc a) v s p q h = absurd (omega (arith, ints))

@@ -7,5 +7,6 @@ pub mod Limits
 pub mod Own
 pub mod Carried
 pub mod OwnSlots
+pub mod SoundSlots
 pub mod RivalLemmas
 pub mod Evaluating

@@ -7,7 +7,7 @@ use Rattle.std.specs.Prelude.{Any}
 use Rattle.ml_ratio.specs.Fraction.{Fraction, IsLess, IsAtMost, IsScale}
 use Rattle.ml_conflict.specs.Begin.{Clear, Covers, Begins}
 use Rattle.ml_cone.specs.Plane.{IsBelow, SidesMeet, edge}
-use Rattle.ml_cone.specs.Overlap.{BoxesOverlap, BoxOverlaps, Overlap}
+use Rattle.ml_cone.specs.Overlap.{widened, RectanglesMeet, BoxesOverlap, BoxOverlaps, Overlap}
 use Rattle.ml_cone.specs.declared.label.Label.{Label}
 use Rattle.ml_cone.specs.declared.label.BoxPx.{BoxPx}
 use Rattle.ml_ratio.proofs.Fractions.{less_at_most, at_most_less, less_trans, at_most_trans, scale_above, greater_of}
@@ -226,12 +226,16 @@ pub below_open : (x u y v : ℤ) → IsOpen (IsBelow x u y v)
 unfolding IsOpen
 below_open x u y v = open_like (IsBelow x u y v) (λ s. ((x -ℤ y) *ℤ pos s.den) <ℤ ((v -ℤ u) *ℤ pos s.num)) (below_by_distance x u y v) (half_line (x -ℤ y) (v -ℤ u))
 
-pub boxes_open : (a : Label) (p : BoxPx) (b : Label) (q : BoxPx) → IsOpen (BoxesOverlap a p b q)
-unfolding BoxesOverlap
-boxes_open a p b q =
+rectangles_open : (a : Label) (p : BoxPx) (b : Label) (q : BoxPx) → IsOpen (RectanglesMeet a p b q)
+rectangles_open a p b q =
     open_both (SidesMeet a.x p.l p.r b.x q.l q.r) (SidesMeet a.y p.b p.t b.y q.b q.t)
     (open_both (IsBelow a.x p.l b.x q.r) (IsBelow b.x q.l a.x p.r) (below_open a.x p.l b.x q.r) (below_open b.x q.l a.x p.r))
     (open_both (IsBelow a.y p.b b.y q.t) (IsBelow b.y q.b a.y p.t) (below_open a.y p.b b.y q.t) (below_open b.y q.b a.y p.t))
+
+pub boxes_open : (a : Label) (p : BoxPx) (b : Label) (q : BoxPx) → IsOpen (BoxesOverlap a p b q)
+unfolding BoxesOverlap
+boxes_open a p b q =
+    rectangles_open a (widened a p) b (widened b q)
 
 pub overlap_begins : (a b : Label) → HasBeginning (Overlap a b)
 unfolding Overlap

@@ -1,5 +1,5 @@
 -- Choices whose every end is the greatest that the labels before allow.
-use Rattle.std.proofs.Common.{◌≡◌, ℕ, ◌*◌, ◌<◌, List, length, get_or, arith, [], ◌∷◌, true, false, cond, ltb, eqb, ◌⊎◌, inl, inr}
+use Rattle.std.proofs.Common.{◌≡◌, ℕ, ◌*◌, ◌<◌, List, length, get_or, arith, true, false, cond, ltb, eqb, ◌⊎◌, inl, inr}
 use Rattle.std.proofs.lemmas.Bool.{cases_lt, cases_order}
 use Rattle.std.proofs.lemmas.Bool.Decides.{nat_tests}
 use Rattle.std.proofs.lemmas.List.{get_or_default}
@@ -7,13 +7,9 @@ use Rattle.ml_ratio.specs.Fraction.{Fraction, value_of, IsLess, IsAtMost, IsSame
 use Rattle.ml_cone.specs.Choice.{IsEnd, Allows, IsLimit, Choice, IsChoice, IsConflictFree, FirstDifference, IsLongest, IsLeastEnd, IsOwnEnd, Blocks}
 use Rattle.ml_cone.specs.declared.label.Label.{Label}
 use Rattle.ml_ratio.proofs.Fractions.{same_at_most, at_most_trans}
+use Rattle.ml_ratio.proofs.Lists.{pick}
 use Rattle.ml_conflict.proofs.Greedy.{Allows-smaller}
 use Rattle.ml_conflict.proofs.Limits.{covers_of_limit, limit_of_covers}
-
--- some element
-pub pick : {X : Type 0} (xs : List X) (k : ℕ) → k < length xs → X
-pick [] k h = absurd (omega arith)
-pick (x ∷ xs) k h = x
 
 -- the least of the maximum and the limits is the greatest end that all allow
 pub own_of_least : (labels : List Label) (c : Choice) (i : ℕ) → IsLeastEnd labels c i → IsOwnEnd labels c i
@@ -39,6 +35,10 @@ own_longest labels c own =
           let not_same : ¬ (IsSame (b i) (c i)) = first.here in
           omega arith;
     }
+
+-- and so a choice in which each end is the least of the maximum and the limits
+pub greedy_longest : (labels : List Label) (c : Choice) → ((i : ℕ) → i < length labels → IsLeastEnd labels c i) → IsLongest labels c
+greedy_longest labels c least = own_longest labels c (λ i in'. own_of_least labels c i (least i in'))
 
 -- in a conflict-free choice a label below its maximum is blocked by just those before it whose limit is its end
 pub blocks_limit : (labels : List Label) (c : Choice) (j i : ℕ) (d : Label) → IsEnd (get_or labels i d) (c i) → Allows (get_or labels i d) (get_or labels j d) (c j) (c i) → Blocks labels c j i → IsLimit (get_or labels i d) (get_or labels j d) (c j) (c i)

@@ -6,16 +6,12 @@ use Rattle.ml_ratio.specs.Fraction.{value_of, IsLess, IsSame}
 use Rattle.ml_cone.specs.Choice.{IsOwnEnd, IsLimit}
 use Rattle.ml_cone.specs.declared.label.Label.{Label}
 use Rattle.ml_cone.specs.declared.slot.Slot.{Slot}
-use Rattle.ml_cone.specs.Slots.{ends, no_slot, row, IsFirstAt, IsOwnSlot, AreSlots, IsBlockerBy}
-use Rattle.ml_conflict.proofs.Own.{pick, own_longest, longest_own, blocks_limit, limit_blocks}
-
--- each label has the end and the blocker that the labels before it leave
-pub record AllOwn (number : ℕ → ℕ) (labels : List Label) (slots : List Slot) : Type 0 where
-  pub one_slot : length slots ≡ length labels
-  pub own : (d : Label) (i : ℕ) → i < length labels → IsOwnSlot (row number labels slots d) (λ j. j < i) (get_or labels i d) (get_or slots i no_slot)
+use Rattle.ml_cone.specs.Slots.{ends, no_slot, row, IsFirstAt, HaveOwnSlots, AreSlots, IsBlockerBy}
+use Rattle.ml_conflict.proofs.Own.{own_longest, longest_own, blocks_limit, limit_blocks}
+use Rattle.ml_ratio.proofs.Lists.{pick}
 
 module _ (number : ℕ → ℕ) (labels : List Label) (slots : List Slot) where
-  module _ (all : AllOwn number labels slots) where
+  module _ (all : HaveOwnSlots number labels slots) where
     own_end : (i : ℕ) → i < length labels → IsOwnEnd labels (ends slots) i
     own_end i in' =
         record {
@@ -69,7 +65,7 @@ module _ (number : ℕ → ℕ) (labels : List Label) (slots : List Slot) where
           },
         )
 
-    pub own_of_slots : AllOwn number labels slots
+    pub own_of_slots : HaveOwnSlots number labels slots
     own_of_slots =
         record {
           one_slot = are.one_slot;

@@ -1,9 +1,8 @@
 -- Two labels are rivals, or the one sets the other no limit.
-use Rattle.std.proofs.Common.{◌≡◌, ℕ, ◌*◌, ◌<◌, ◌⊎◌, inl, inr, arith, List, length, get_or, Option, Some, None, true, false, refl, ◌↔◌, IsTrue}
+use Rattle.std.proofs.Common.{◌≡◌, ℕ, ◌*◌, ◌⊎◌, inl, inr, arith, Option, Some, None, true, false, refl, ◌↔◌, IsTrue}
 use Rattle.std.specs.Prelude.{IfSome, IfNone, is_some}
 use Rattle.ml_ratio.specs.declared.ratio.Ratio.{Ratio}
 use Rattle.std.proofs.lemmas.Bool.{cases_lt}
-use Rattle.std.proofs.lemmas.List.{get_or_default}
 use Rattle.ml_ratio.specs.Fraction.{Fraction, value_of, IsLess, IsAtMost}
 use Rattle.ml_cone.specs.Choice.{Allows, IsLimit, CoversFrom}
 use Rattle.ml_cone.specs.Rivals.{AreRivals}
@@ -40,10 +39,6 @@ rivals_or_free low high =
       | inl less ↦ inl (rivals_of_limit low high g.0 g.1 less)
       | inr more ↦ inr (Allows-smaller low high (value_of high.max) (value_of high.max) (value_of low.max) g.0 (omega arith) more g.1.allowed)
     ]
-
--- at every default
-pub rivals_at : (labels : List Label) (i j : ℕ) (d : Label) → i < length labels → j < length labels → AreRivals (get_or labels i d) (get_or labels j d) → (e : Label) → AreRivals (get_or labels i e) (get_or labels j e)
-rivals_at labels i j d i_in j_in h e = rw (get_or_default labels i e d i_in, get_or_default labels j e d j_in) h
 
 -- one label limits another, at its own maximum, just where they are rivals
 pub rivals_of_block : (low high : Label) (o : Option Ratio) → IfSome o (λ f. IsLimit low high (value_of high.max) (value_of f) × IsLess (value_of f) (value_of low.max)) → IfNone o (Allows low high (value_of high.max) (value_of low.max)) → IsTrue (is_some o) ↔ AreRivals low high

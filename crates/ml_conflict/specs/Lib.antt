@@ -1,3 +1,4 @@
+pub mod Between
 pub mod Quotient
-pub mod Interval
 pub mod Begin
+pub mod Carried

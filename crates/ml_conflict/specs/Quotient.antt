@@ -1,29 +1,16 @@
-use Rattle.std.specs.Prelude.{◌≤◌, Option, Some, None, IfSome, MatchOption}
-use Rattle.ml_ratio.specs.Fraction.{Fraction, IsLess}
+use Rattle.std.specs.Prelude.{Option, IfSome}
+use Rattle.ml_ratio.specs.Fraction.{Fraction}
+use Rattle.ml_conflict.specs.Between.{AreLowParts, BothAre}
 use Rattle.ml_conflict.specs.declared.quotient.Quotient.{Quotient}
 
 -- the fraction that a quotient stands for
 abbrev pub worth : Quotient → Fraction
 worth q = record { num = q.num; den = q.den; positive = q.positive }
 
--- s is below the end; no end is beyond all
-abbrev pub IsUnderEnd : Option Quotient → Fraction → Type 0
-IsUnderEnd None s = Unit {0}
-IsUnderEnd (Some h) s = IsLess s (worth h)
+-- the quotient has a numerator below 2^32 and a denominator of at most 1152
+abbrev pub IsLow : Quotient → Type 0
+IsLow q = AreLowParts q.num q.den
 
--- s lies between the ends
-abbrev pub LiesBetween : Quotient × Option Quotient → Fraction → Type 0
-LiesBetween i s = IsLess (worth i.0) s × IsUnderEnd i.1 s
-
--- s lies in the interval, if there is one
-abbrev pub LiesIn : Option (Quotient × Option Quotient) → Fraction → Type 0
-LiesIn None s = ⊥
-LiesIn (Some i) s = LiesBetween i s
-
--- both ends have denominators of at most 1024
-abbrev pub HasLowParts : Option (Quotient × Option Quotient) → Type 0
-HasLowParts o = IfSome o (λ i. (i.0.den ≤ 1024) × IfSome i.1 (λ h. h.den ≤ 1024))
-
--- the lower end lies below the upper one, so that some scale lies between
-abbrev pub LeavesRoom : Quotient × Option Quotient → Type 0
-LeavesRoom i = MatchOption i.1 (Unit {0}) (λ h. IsLess (worth i.0) (worth h))
+-- the ends of the interval, if there is one, are such quotients
+abbrev pub HasLowEnds : Option (Quotient × Option Quotient) → Type 0
+HasLowEnds o = IfSome o (BothAre IsLow)

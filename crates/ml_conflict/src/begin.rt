@@ -3,7 +3,8 @@ ghost use Rattle.std.specs.Prelude.{◌↔◌};
 ghost use Rattle.ml_ratio.specs.Fraction.{Fraction, IsLess, IsAtMost};
 ghost use Rattle.ml_cone.specs.Plane.{IsBox};
 ghost use Rattle.ml_cone.specs.Overlap.{BoxOverlaps, Overlap};
-ghost use Rattle.ml_conflict.specs.Quotient.{worth, IsUnderEnd, LiesIn};
+ghost use Rattle.ml_conflict.specs.Between.{IsUnder, LiesIn};
+ghost use Rattle.ml_conflict.specs.Quotient.{worth};
 ghost use Rattle.ml_conflict.specs.Begin.{Begins};
 
 use crate::quotient::Quotient;
@@ -12,7 +13,7 @@ use ml_cone::{BoxPx, Label};
 
 // The smaller of `until` and the end, if there is one.
 fn stop(until: Quotient, end: Option<Quotient>) -> Quotient
-    ensures { (s : Fraction) → IsLess s (worth result) ↔ (IsLess s (worth until) × IsUnderEnd end s) }
+    ensures { (s : Fraction) → IsLess s (worth result) ↔ (IsLess s (worth until) × IsUnder worth end s) }
 {
     match end {
         Some(h) => until.smaller(h),
@@ -23,7 +24,7 @@ fn stop(until: Quotient, end: Option<Quotient>) -> Quotient
 // Where the interval begins, from `start` on, below `until` and `best`; `best` if it does not.
 fn begin_one(start: Quotient, until: Quotient, best: Quotient, between: Option<Between>) -> Quotient
     requires { IsAtMost (worth start) (worth best) }
-    ensures { Begins (LiesIn between) (worth start) (worth until) (worth best) (worth result) }
+    ensures { Begins (LiesIn worth between) (worth start) (worth until) (worth best) (worth result) }
 {
     match between {
         None => best,

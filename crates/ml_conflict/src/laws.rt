@@ -1,9 +1,14 @@
 //! Laws of the longest choice. Each function takes nothing and does nothing: its contract is the
-//! law, for all values.
-ghost use Rattle.std.specs.Prelude.{ℕ, ◌<◌, List, length};
-ghost use Rattle.ml_ratio.specs.Fraction.{IsSame};
-ghost use Rattle.ml_cone.specs.Choice.{Choice, IsLongest, IsLeastEnd};
+//! law, for all values. A crate above uses a law by calling it.
+ghost use Rattle.std.specs.Prelude.{ℕ, ◌≡◌, ◌<◌, ◌↔◌, ◌⊎◌, Bool, IsTrue, List, length, slice_index_or};
+ghost use Rattle.ml_ratio.specs.Fraction.{Fraction, value_of, IsLess, IsAtMost, IsSame};
+ghost use Rattle.ml_cone.specs.Choice.{Choice, IsEnd, Allows, IsLimit, IsLongest, IsLeastEnd, IsOwnEnd, Blocks};
+ghost use Rattle.ml_cone.specs.Rivals.{AreRivals};
+ghost use Rattle.ml_cone.specs.Slots.{Rival, IsOwnSlot, HaveOwnSlots, AreSlots};
+ghost use Rattle.ml_cone.specs.Sound.{IsSound};
 ghost use Rattle.ml_cone.specs.declared.label.Label.{Label};
+ghost use Rattle.ml_cone.specs.declared.slot.Slot.{Slot};
+ghost use Rattle.ml_conflict.specs.Carried.{holds, AreCarried, AreJoined};
 
 /// A choice in which each label's end is the least of its maximum and the limits that the labels
 /// before it set is the longest choice.
@@ -15,4 +20,73 @@ pub fn greedy()
 pub fn l0()
     ensures { (labels : List Label) (one other : Choice) → IsLongest labels one → IsLongest labels other →
         (i : ℕ) → i < length labels → IsSame (one i) (other i) }
+{}
+
+/// A choice is the longest exactly where each label's end is the greatest that the labels before it
+/// allow.
+pub fn own_ends()
+    ensures { (labels : List Label) (choice : Choice) →
+        ((i : ℕ) → i < length labels → IsOwnEnd labels choice i) ↔ IsLongest labels choice }
+{}
+
+/// Slots are the longest choice with its blockers exactly where each is what the labels before
+/// leave.
+pub fn own_slots()
+    ensures { (number : ℕ → ℕ) (labels : List Label) (slots : List Slot) →
+        HaveOwnSlots number labels slots ↔ AreSlots number labels slots }
+{}
+
+/// Slots, one for each label, are the longest choice with its blockers exactly where nothing is
+/// wrong with any of them.
+pub fn sound_slots()
+    ensures { (labels : List Label) (slots : List Slot) → length slots ≡ length labels →
+        ((i : ℕ) → i < length labels → IsSound labels slots i) ↔ AreSlots (λ j. j) labels slots }
+{}
+
+/// Where a label's end is in its range and allowed by a label before it, that label blocks it
+/// exactly where the end is below the maximum and is the limit that it sets.
+pub fn blocking()
+    ensures limits { (labels : List Label) (choice : Choice) (j i : ℕ) (d : Label) → IsEnd (slice_index_or labels i d) (choice i) →
+        Allows (slice_index_or labels i d) (slice_index_or labels j d) (choice j) (choice i) → Blocks labels choice j i →
+        IsLimit (slice_index_or labels i d) (slice_index_or labels j d) (choice j) (choice i) }
+    ensures blocks { (labels : List Label) (choice : Choice) (j i : ℕ) → j < i →
+        ((d : Label) → IsLess (choice i) (value_of (slice_index_or labels i d).max)) →
+        ((d : Label) → IsLimit (slice_index_or labels i d) (slice_index_or labels j d) (choice j) (choice i)) → Blocks labels choice j i }
+{}
+
+/// A label that is active until an earlier end allows another one more, and an end below one that
+/// is allowed is allowed.
+pub fn smaller_ends()
+    ensures { (low high : Label) (u v e f : Fraction) → IsAtMost v u → IsAtMost e f → Allows low high u f → Allows low high v e }
+{}
+
+/// A limit is one by value: of the limit, and of the end until which the other label is active.
+pub fn same_limits()
+    ensures { (low high : Label) (u v f g : Fraction) → IsSame u v → IsSame f g → IsLimit low high u f → IsLimit low high v g }
+{}
+
+/// Two labels are rivals, or the one sets the other no limit even where it is active up to its
+/// maximum.
+pub fn rivals_or_free()
+    ensures { (low high : Label) → AreRivals low high ⊎ Allows low high (value_of high.max) (value_of low.max) }
+{}
+
+/// A label has the same slot among the same rivals at the same places.
+pub fn same_rivals()
+    ensures { (low : Label) (rivals others : ℕ → Rival) (n : ℕ) → ((j : ℕ) → j < n → rivals j ≡ others j) → (slot : Slot) →
+        IsOwnSlot rivals (λ j. j < n) low slot → IsOwnSlot others (λ j. j < n) low slot }
+{}
+
+/// Rivals that set no limit may be left out, and alike ones in the same order may stand in.
+pub fn carried()
+    ensures { (low : Label) (rivals others : ℕ → Rival) (stands stays : ℕ → Bool) (link : ℕ → ℕ → Bool) →
+        AreCarried low rivals others (holds stands) (holds stays) (λ j k. IsTrue (link j k)) → (slot : Slot) →
+        IsOwnSlot rivals (holds stands) low slot → IsOwnSlot others (holds stays) low slot }
+{}
+
+/// Rivals may join that allow the end that was found and do not set it.
+pub fn joined()
+    ensures { (low : Label) (rivals others : ℕ → Rival) (stands stays : ℕ → Bool) (link : ℕ → ℕ → Bool) (slot : Slot) →
+        AreJoined low (value_of slot.until) rivals others (holds stands) (holds stays) (λ j k. IsTrue (link j k)) →
+        IsOwnSlot rivals (holds stands) low slot → IsOwnSlot others (holds stays) low slot }
 {}

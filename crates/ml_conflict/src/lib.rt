@@ -1,23 +1,20 @@
 //! Conflicts between labels, and the end that a label's rivals leave it.
 //!
-//! - [`scales`]: the open interval of scales at which two boxes overlap ([`interval`]);
-//! - [`begin`]: where labels begin to overlap; [`block`]: the limit that one label sets another
-//!   ([`first_block`]);
+//! - `scales`: the open interval of scales at which two boxes overlap ([`interval`]);
+//! - `begin`: where labels begin to overlap; `block`: the limit that one label sets another
+//!   ([`first_block`]), and whether they are rivals ([`are_rivals`]);
 //! - [`rivals`]: the list of rivals of a label, and its slot among them ([`evaluate`]);
-//! - [`quotient`]: fractions that are not reduced, for the comparisons in between;
+//! - `quotient`: fractions that are not reduced, for the comparisons in between;
 //! - [`laws`]: what makes a choice of active ranges the longest.
 #![tactic(auto)]
 
-pub mod begin;
-pub mod block;
+mod begin;
+mod block;
 pub mod laws;
-pub mod quotient;
+mod quotient;
 pub mod rivals;
-pub mod scales;
+mod scales;
 
 pub use block::{are_rivals, first_block};
 pub use rivals::{RivalList, evaluate};
 pub use scales::interval;
-
-#[cfg(test)]
-mod tests;

@@ -15,7 +15,7 @@ pub struct Quotient {
 }
 
 impl Quotient {
-    ghost use Rattle.ml_conflict.specs.Quotient.{worth};
+    ghost use Rattle.ml_conflict.specs.Quotient.{worth, IsLow};
 
     /// The fraction `num/den`.
     pub fn new(num: u64, den: u64) -> Quotient
@@ -42,7 +42,7 @@ impl Quotient {
     /// The same value in lowest terms.
     pub fn reduced(self) -> Ratio
         ensures same { IsSame (worth self) (value_of result) }
-        ensures low { result.den ≤ self.den }
+        ensures low { (result.num ≤ self.num) × (result.den ≤ self.den) }
     {
         match Ratio::of(self.num, self.den) {
             Some(ratio) => ratio,
@@ -61,7 +61,7 @@ impl Quotient {
     pub fn larger(self, other: Quotient) -> Quotient
         ensures above { (s : Fraction) → IsLess (worth result) s ↔ (IsLess (worth self) s × IsLess (worth other) s) }
         ensures at_most { (s : Fraction) → IsAtMost (worth result) s ↔ (IsAtMost (worth self) s × IsAtMost (worth other) s) }
-        ensures low { (n : ℕ) → self.den ≤ n → other.den ≤ n → result.den ≤ n }
+        ensures low { IsLow self → IsLow other → IsLow result }
     {
         if self.is_less(other) { other } else { self }
     }
@@ -69,7 +69,7 @@ impl Quotient {
     /// The smaller of the two values.
     pub fn smaller(self, other: Quotient) -> Quotient
         ensures same { (s : Fraction) → IsLess s (worth result) ↔ (IsLess s (worth self) × IsLess s (worth other)) }
-        ensures low { (n : ℕ) → self.den ≤ n → other.den ≤ n → result.den ≤ n }
+        ensures low { IsLow self → IsLow other → IsLow result }
     {
         if self.is_less(other) { self } else { other }
     }

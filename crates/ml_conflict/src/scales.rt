@@ -3,16 +3,16 @@
 //! For one pair of boxes, overlap is four strict inequalities `u < v * s` with whole `u` and `v`.
 //! Each holds on an open interval of scales `s`, and so do all four.
 ghost use Rattle.std.specs.Prelude.{ℕ, ℤ, pos, ◌≡◌, ◌*◌, ◌<◌, ◌≤◌, ◌^◌, ◌↔◌, ◌*ℤ◌, ◌<ℤ◌, IfSome, unsigned_abs, length, slice_index_or};
-ghost use Rattle.ml_ratio.specs.Fraction.{Fraction, IsScale};
-ghost use Rattle.ml_cone.specs.Plane.{IsOffset, IsBox, SidesMeet};
+ghost use Rattle.ml_ratio.specs.Fraction.{Fraction, IsScale, value_of};
+ghost use Rattle.ml_cone.specs.Plane.{IsWideOffset, IsWideBox, IsBox, SidesMeet};
 ghost use Rattle.ml_ratio.specs.World.{IsInWorld};
-ghost use Rattle.ml_cone.specs.Overlap.{BoxesOverlap};
+ghost use Rattle.ml_cone.specs.Overlap.{RectanglesMeet, BoxesOverlap};
 ghost use Rattle.ml_cone.specs.declared.label.BoxPx.{BoxPx};
-ghost use Rattle.ml_conflict.specs.Quotient.{IsUnderEnd, LiesBetween, LiesIn, HasLowParts, LeavesRoom};
-ghost use Rattle.ml_conflict.specs.Interval.{HoldsScale, HasRoom, HasLowEnds};
+ghost use Rattle.ml_conflict.specs.Between.{IsUnder, LiesBetween, LiesIn, LeavesRoom, AreLowParts, BothAre};
+ghost use Rattle.ml_conflict.specs.Quotient.{worth, IsLow, HasLowEnds};
 
 use crate::quotient::Quotient;
-use ml_cone::{BoxPx, Label};
+use ml_cone::{BoxPx, Label, widened};
 use ml_ratio::Ratio;
 
 /// An open interval of fractions: its lower end, and its upper end if it has one.
@@ -21,9 +21,9 @@ pub type Between = (Quotient, Option<Quotient>);
 // The scales s with u < v * s.
 fn half_line(u: i64, v: i64) -> Option<Between>
     requires u_small { unsigned_abs u ≤ 4000000000 }
-    requires v_small { unsigned_abs v ≤ 1024 }
-    ensures scales { (s : Fraction) → IsScale s → ((u *ℤ pos s.den) <ℤ (v *ℤ pos s.num)) ↔ LiesIn result s }
-    ensures low { HasLowParts result }
+    requires v_small { unsigned_abs v ≤ 1152 }
+    ensures scales { (s : Fraction) → IsScale s → ((u *ℤ pos s.den) <ℤ (v *ℤ pos s.num)) ↔ LiesIn worth result s }
+    ensures low { HasLowEnds result }
 {
     let far = u.unsigned_abs();
     let wide = v.unsigned_abs();
@@ -45,8 +45,8 @@ fn half_line(u: i64, v: i64) -> Option<Between>
 
 // The nearer of two upper ends.
 fn nearer(a: Option<Quotient>, b: Option<Quotient>) -> Option<Quotient>
-    ensures same { (s : Fraction) → IsUnderEnd result s ↔ (IsUnderEnd a s × IsUnderEnd b s) }
-    ensures low { IfSome a (λ h. h.den ≤ 1024) → IfSome b (λ h. h.den ≤ 1024) → IfSome result (λ h. h.den ≤ 1024) }
+    ensures same { (s : Fraction) → IsUnder worth result s ↔ (IsUnder worth a s × IsUnder worth b s) }
+    ensures low { IfSome a IsLow → IfSome b IsLow → IfSome result IsLow }
 {
     match (a, b) {
         (Some(x), Some(y)) => Some(x.smaller(y)),
@@ -57,17 +57,17 @@ fn nearer(a: Option<Quotient>, b: Option<Quotient>) -> Option<Quotient>
 
 // The scales in both intervals.
 fn meet(a: Between, b: Between) -> Between
-    ensures same { (s : Fraction) → LiesBetween result s ↔ (LiesBetween a s × LiesBetween b s) }
-    ensures low { HasLowParts (Some a) → HasLowParts (Some b) → HasLowParts (Some result) }
+    ensures same { (s : Fraction) → LiesBetween worth result s ↔ (LiesBetween worth a s × LiesBetween worth b s) }
+    ensures low { BothAre IsLow a → BothAre IsLow b → BothAre IsLow result }
 {
     (a.0.larger(b.0), nearer(a.1, b.1))
 }
 
 // The interval, where it holds a scale.
 fn kept(a: Between) -> Option<Between>
-    ensures same { (s : Fraction) → LiesIn result s ↔ LiesBetween a s }
-    ensures room { IfSome result LeavesRoom }
-    ensures low { HasLowParts (Some a) → HasLowParts result }
+    ensures same { (s : Fraction) → LiesIn worth result s ↔ LiesBetween worth a s }
+    ensures room { IfSome result (LeavesRoom worth) }
+    ensures low { BothAre IsLow a → HasLowEnds result }
 {
     match a.1 {
         Some(end) => { if a.0.is_less(end) { Some(a) } else { None } }
@@ -77,9 +77,9 @@ fn kept(a: Between) -> Option<Between>
 
 // The scales in both, if there are any.
 fn both(a: Option<Between>, b: Option<Between>) -> Option<Between>
-    ensures same { (s : Fraction) → LiesIn result s ↔ (LiesIn a s × LiesIn b s) }
-    ensures room { IfSome result LeavesRoom }
-    ensures low { HasLowParts a → HasLowParts b → HasLowParts result }
+    ensures same { (s : Fraction) → LiesIn worth result s ↔ (LiesIn worth a s × LiesIn worth b s) }
+    ensures room { IfSome result (LeavesRoom worth) }
+    ensures low { HasLowEnds a → HasLowEnds b → HasLowEnds result }
 {
     match (a, b) {
         (Some(x), Some(y)) => kept(meet(x, y)),
@@ -91,25 +91,26 @@ fn both(a: Option<Between>, b: Option<Between>) -> Option<Between>
 fn sides(x: i64, l: i32, r: i32, y: i64, k: i32, t: i32) -> Option<Between>
     requires x_in_world { IsInWorld x }
     requires y_in_world { IsInWorld y }
-    requires l_in_range { IsOffset l }
-    requires r_in_range { IsOffset r }
-    requires k_in_range { IsOffset k }
-    requires t_in_range { IsOffset t }
-    ensures scales { (s : Fraction) → IsScale s → SidesMeet x l r y k t s ↔ LiesIn result s }
-    ensures low { HasLowParts result }
+    requires l_in_range { IsWideOffset l }
+    requires r_in_range { IsWideOffset r }
+    requires k_in_range { IsWideOffset k }
+    requires t_in_range { IsWideOffset t }
+    ensures scales { (s : Fraction) → IsScale s → SidesMeet x l r y k t s ↔ LiesIn worth result s }
+    ensures low { HasLowEnds result }
 {
     let ahead = t as i64 - l as i64;
     let behind = r as i64 - k as i64;
     both(half_line(x - y, ahead), half_line(y - x, behind))
 }
 
-/// The scales at which the box `p` of `a` and the box `q` of `b` overlap.
-pub fn boxes_interval(a: &Label, p: &BoxPx, b: &Label, q: &BoxPx) -> Option<Between>
-    requires p_is_box { IsBox p.now.l p.now.b p.now.r p.now.t }
-    requires q_is_box { IsBox q.now.l q.now.b q.now.r q.now.t }
-    ensures scales { (s : Fraction) → IsScale s → BoxesOverlap a.now p.now b.now q.now s ↔ LiesIn result s }
-    ensures room { IfSome result LeavesRoom }
-    ensures low { HasLowParts result }
+// The scales at which the rectangles that `p` covers about the anchor of `a`, and `q` about that of
+// `b`, meet.
+fn rectangles_interval(a: &Label, p: &BoxPx, b: &Label, q: &BoxPx) -> Option<Between>
+    requires p_is_wide { IsWideBox p.now.l p.now.b p.now.r p.now.t }
+    requires q_is_wide { IsWideBox q.now.l q.now.b q.now.r q.now.t }
+    ensures scales { (s : Fraction) → IsScale s → RectanglesMeet a.now p.now b.now q.now s ↔ LiesIn worth result s }
+    ensures room { IfSome result (LeavesRoom worth) }
+    ensures low { HasLowEnds result }
 {
     both(
         sides(a.x(), p.l, p.r, b.x(), q.l, q.r),
@@ -117,11 +118,24 @@ pub fn boxes_interval(a: &Label, p: &BoxPx, b: &Label, q: &BoxPx) -> Option<Betw
     )
 }
 
+/// The scales at which the box `p` of `a` and the box `q` of `b` overlap, each widened by its
+/// label's margin.
+#[tactic(auto, unfolding(ml_cone::specs::Overlap::BoxesOverlap))]
+pub fn boxes_interval(a: &Label, p: &BoxPx, b: &Label, q: &BoxPx) -> Option<Between>
+    requires p_is_box { IsBox p.now.l p.now.b p.now.r p.now.t }
+    requires q_is_box { IsBox q.now.l q.now.b q.now.r q.now.t }
+    ensures scales { (s : Fraction) → IsScale s → BoxesOverlap a.now p.now b.now q.now s ↔ LiesIn worth result s }
+    ensures room { IfSome result (LeavesRoom worth) }
+    ensures low { HasLowEnds result }
+{
+    rectangles_interval(a, &widened(a, p), b, &widened(b, q))
+}
+
 // The ends in lowest terms.
 fn reduced(between: Between) -> (Ratio, Option<Ratio>)
-    ensures same { (s : Fraction) → HoldsScale (Some result) s ↔ LiesBetween between s }
-    ensures room { LeavesRoom between → HasRoom result }
-    ensures low { HasLowParts (Some between) → HasLowEnds result }
+    ensures same { (s : Fraction) → LiesBetween value_of result s ↔ LiesBetween worth between s }
+    ensures room { LeavesRoom worth between → LeavesRoom value_of result }
+    ensures low { BothAre IsLow between → BothAre (λ end. AreLowParts end.num end.den) result }
 {
     match between.1 {
         Some(end) => (between.0.reduced(), Some(end.reduced())),
@@ -130,16 +144,17 @@ fn reduced(between: Between) -> (Ratio, Option<Ratio>)
 }
 
 /// The open interval of positive scales at which the box `i` of `a` and the box `j` of `b` overlap,
-/// with both ends in lowest terms and no upper end where the overlap never ends.
+/// each widened on every side by its label's margin, with both ends in lowest terms and no upper end
+/// where the overlap never ends. Numerators are below 2^32, denominators at most 1152.
 ///
 /// None exactly where they overlap at no scale.
 pub fn interval(a: &Label, i: usize, b: &Label, j: usize) -> Option<(Ratio, Option<Ratio>)>
     requires i_is_box { i < length a.now.boxes }
     requires j_is_box { j < length b.now.boxes }
     ensures scales { (d : BoxPx) (s : Fraction) → IsScale s →
-        BoxesOverlap a.now (slice_index_or a.now.boxes i d) b.now (slice_index_or b.now.boxes j d) s ↔ HoldsScale result s }
-    ensures room { IfSome result HasRoom }
-    ensures low { IfSome result HasLowEnds }
+        BoxesOverlap a.now (slice_index_or a.now.boxes i d) b.now (slice_index_or b.now.boxes j d) s ↔ LiesIn value_of result s }
+    ensures room { IfSome result (LeavesRoom value_of) }
+    ensures low { IfSome result (BothAre (λ end. AreLowParts end.num end.den)) }
 {
     let p = &a.boxes().as_slice()[i];
     let q = &b.boxes().as_slice()[j];

@@ -3,11 +3,9 @@ use Rattle.std.proofs.Common.{◌≡◌, ℕ, ◌+◌, ◌<◌, List, [], ◌∷
 use Rattle.std.proofs.lemmas.Bool.{cases_lt}
 use Rattle.std.proofs.lemmas.List.{get_or_default, get_or_push}
 use Rattle.std.proofs.Math.ListN.{get_or-append}
-use Rattle.ml_cone.specs.Slots.{Rival, IsOwnSlot, IsSlotAmong, AreSlots, rival_at, row, no_slot}
+use Rattle.ml_cone.specs.Slots.{Rival, IsOwnSlot, IsSlotAmong, HaveOwnSlots, rival_at, row, no_slot}
 use Rattle.ml_cone.specs.declared.label.Label.{Label}
 use Rattle.ml_cone.specs.declared.slot.Slot.{Slot}
-use Rattle.ml_conflict.proofs.Carried.{own_like}
-use Rattle.ml_conflict.proofs.OwnSlots.{slots_of_own}
 use Rattle.ml_pass.specs.Before.{rivals_from}
 use Rattle.ml_pass.proofs.RivalLemmas.{length-rivals, rival_is}
 
@@ -19,8 +17,12 @@ pub record Assigned (labels : List Label) (i : ℕ) (slots : List Slot) : Type 0
 pub assigned_none : (labels : List Label) → Assigned labels 0 []
 assigned_none labels = record { one_each = refl; own = λ d k h. absurd (omega arith) }
 
-pub assigned_more : (labels : List Label) (i : ℕ) (slots : List Slot) (s : Slot) (b : Label) → i < length labels → Assigned labels i slots → IsSlotAmong (get_or labels i b) (rivals_from 0 labels slots) s → Assigned labels (i + 1) (slots ++ s ∷ [])
-assigned_more labels i slots s b in' so_far among =
+-- a label has the same slot among the same rivals at the same places
+abbrev pub LikeRivals : Type 0
+LikeRivals = (low : Label) (rivals others : ℕ → Rival) (n : ℕ) → ((j : ℕ) → j < n → rivals j ≡ others j) → (slot : Slot) → IsOwnSlot rivals (λ j. j < n) low slot → IsOwnSlot others (λ j. j < n) low slot
+
+pub assigned_more : LikeRivals → (labels : List Label) (i : ℕ) (slots : List Slot) (s : Slot) (b : Label) → i < length labels → Assigned labels i slots → IsSlotAmong (get_or labels i b) (rivals_from 0 labels slots) s → Assigned labels (i + 1) (slots ++ s ∷ [])
+assigned_more like labels i slots s b in' so_far among =
     let n : length slots ≡ i = so_far.one_each in
     let count : length (rivals_from 0 labels slots) ≡ i = length-rivals 0 labels slots (omega arith) ∙ n in
     let same_row : (d : Label) (j : ℕ) → j < i → row (λ j. j) labels slots d j ≡ row (λ j. j) labels (slots ++ s ∷ []) d j =
@@ -32,16 +34,16 @@ assigned_more labels i slots s b in' so_far among =
           elim (cases_lt k i) [
             | inl less ↦
                 rw (get_or-append slots (s ∷ []) no_slot k (omega arith))
-                (own_like (get_or labels k d) (row (λ j. j) labels slots d) (row (λ j. j) labels (slots ++ s ∷ []) d) (λ j. j < k) (λ j. j < k) (λ j h. (h, same_row d j (omega arith))) (λ j h. h) (get_or slots k no_slot) (so_far.own d k less))
+                (like (get_or labels k d) (row (λ j. j) labels slots d) (row (λ j. j) labels (slots ++ s ∷ []) d) k (λ j h. same_row d j (omega arith)) (get_or slots k no_slot) (so_far.own d k less))
             | inr more ↦
                 let same : k ≡ i = omega arith in
                 rw (same, last, get_or_default labels i d b in')
-                (own_like (get_or labels i b) (rival_at (get_or labels i b) (rivals_from 0 labels slots)) (row (λ j. j) labels (slots ++ s ∷ []) d) (λ j. j < length (rivals_from 0 labels slots)) (λ j. j < i)
-                (λ j h. let l : j < i = omega arith in (l, rival_is 0 labels slots j _ d no_slot (omega arith) (omega arith) ∙ ap (λ (m : ℕ). let r : Rival = record { number = m; label = get_or labels j d; until = (get_or slots j no_slot).until } in r) (omega arith) ∙ same_row d j l))
-                (λ j h. omega arith) s among)
+                (like (get_or labels i b) (rival_at (get_or labels i b) (rivals_from 0 labels slots)) (row (λ j. j) labels (slots ++ s ∷ []) d) i
+                (λ j l. rival_is 0 labels slots j _ d no_slot (omega arith) (omega arith) ∙ ap (λ (m : ℕ). let r : Rival = record { number = m; label = get_or labels j d; until = (get_or slots j no_slot).until } in r) (omega arith) ∙ same_row d j l)
+                s (rw count at among))
           ];
     }
 
-pub assigned_all : (labels : List Label) (i : ℕ) (slots : List Slot) → i ≡ length labels → Assigned labels i slots → AreSlots (λ j. j) labels slots
+pub assigned_all : (labels : List Label) (i : ℕ) (slots : List Slot) → i ≡ length labels → Assigned labels i slots → HaveOwnSlots (λ j. j) labels slots
 assigned_all labels i slots e done =
-    slots_of_own (λ j. j) labels slots (record { one_slot = done.one_each ∙ e; own = λ d k in'. done.own d k (omega arith) })
+    (record { one_slot = done.one_each ∙ e; own = λ d k in'. done.own d k (omega arith) })

@@ -119,7 +119,7 @@ abbrev top : Fraction
 top = record { num = 2 ^ 28; den = 1; positive = lit< tt }
 
 module _ (id x y min max : List ℕ) (boxes : List (List ℕ)) (place : ℕ) (order : Order) (xv yv : ℤ) (bs : List BoxPx) (pieces : List (List ℕ)) (minv maxv : Ratio) (good : IsId id) (class_is : order.class ≡ place) (rank_is : order.rank ≡ 0) (id_is : order.id ≡ id) (x_is : whole_number x ≡ Some xv) (y_is : whole_number y ≡ Some yv) (min_is : ReadsRatio min (Some minv)) (max_is : ReadsRatio max (Some maxv)) (boxes_are : AllZip ReadsBox boxes bs) (pieces_are : pieces ≡ id ∷ replicate (length bs - 1) []) where
-  parts_of_label : (label : Label) → WritesLabel id x y min max boxes place label → AreLabelParts xv yv bs pieces minv maxv
+  parts_of_label : (label : Label) → WritesLabel id x y min max boxes place label → AreLabelParts xv yv bs pieces minv maxv 0
   parts_of_label label w =
       let fx : Some xv ≡ Some label.x = sym x_is ∙ w.x_is in
       let fy : Some yv ≡ Some label.y = sym y_is ∙ w.y_is in
@@ -143,9 +143,10 @@ module _ (id x y min max : List ℕ) (boxes : List (List ℕ)) (place : ℕ) (or
         low_max =
             let most : IsAtMost (value_of maxv) top = at_most_trans (value_of maxv) (value_of label.max) top (omega arith) low in
             omega arith;
+        low_margin = omega arith;
       }
 
-  pub label_from : (o : Option Label) → IsLabelOf order xv yv bs pieces minv maxv o → IsLabelWritten id x y min max boxes place o
+  pub label_from : (o : Option Label) → IsLabelOf order xv yv bs pieces minv maxv 0 o → IsLabelWritten id x y min max boxes place o
   label_from None h = λ label w. h (parts_of_label label w)
   label_from (Some label) h =
       let has = h.1 in
@@ -159,6 +160,7 @@ module _ (id x y min max : List ℕ) (boxes : List (List ℕ)) (place : ℕ) (or
         y_is = y_is ∙ ap Some (sym has.y_is);
         min_is = rw has.min_is min_is;
         max_is = rw has.max_is max_is;
+        margin_is = has.margin_is;
         boxes_are = rw has.boxes_are boxes_are;
         pieces_are = has.pieces_are ∙ pieces_are ∙ ap (λ (n : ℕ). id ∷ replicate (n - 1) []) long;
       }

@@ -32,7 +32,7 @@ pub record ReadsBox (text : List ℕ) (p : BoxPx) : Type 0 where
   pub split : parts 44 text ≡ l ∷ b ∷ r ∷ t ∷ []
   pub numbers : WritesBox l b r t p
 
--- the fields write the label of class `place` and rank 0; its first piece is the id, the others are empty
+-- the fields write the label of class `place`, rank 0 and margin 0; its first piece is the id, the others are empty
 pub record WritesLabel (id x y min max : List ℕ) (boxes : List (List ℕ)) (place : ℕ) (label : Label) : Type 0 where
   pub good_id : IsId id
   pub class_is : label.order.class ≡ place
@@ -42,6 +42,7 @@ pub record WritesLabel (id x y min max : List ℕ) (boxes : List (List ℕ)) (pl
   pub y_is : whole_number y ≡ Some label.y
   pub min_is : ReadsRatio min (Some label.min)
   pub max_is : ReadsRatio max (Some label.max)
+  pub margin_is : label.margin ≡ 0
   pub boxes_are : AllZip ReadsBox boxes label.boxes
   pub pieces_are : label.pieces ≡ id ∷ replicate (length boxes - 1) []
 

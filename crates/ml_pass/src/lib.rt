@@ -1,21 +1,20 @@
 //! The choice of a whole list of labels in one pass, and the text files of labels and slots.
 //!
-//! - [`pass`]: the longest choice with its blockers ([`assign`]);
-//! - [`table`]: label tables ([`read_table`]), over [`row`]: one line of a table;
-//! - [`slots_text`]: the text of a choice ([`write_slots`]).
+//! - `pass`: the longest choice with its blockers ([`assign`]), over `before`: the labels before a
+//!   place as rivals;
+//! - `table`: label tables ([`read_table`]), over `row`: one line of a table, and `fault`: why one is
+//!   refused ([`TableFault`]);
+//! - `slots_text`: the text of a choice ([`write_slots`]).
 #![tactic(auto)]
 
-pub mod before;
-pub mod fault;
-pub mod pass;
-pub mod row;
-pub mod slots_text;
-pub mod table;
+mod before;
+mod fault;
+mod pass;
+mod row;
+mod slots_text;
+mod table;
 
 pub use fault::TableFault;
 pub use pass::assign;
 pub use slots_text::write_slots;
 pub use table::read_table;
-
-#[cfg(test)]
-mod tests;

@@ -12,8 +12,8 @@ use ml_ratio::{Ratio, Seq, Text, read_whole};
 use std::alloc::{AllocError, Global};
 
 /// The label of class `place` that a line writes, as `A 400 0 0 1000 -10,-5,10,5`: an id, the
-/// anchor, the selectable range and 1 to 64 boxes, with one space between. Its id in the line comes
-/// with it.
+/// anchor, the selectable range and 1 to 64 boxes, with one space between. Its margin is 0. Its id
+/// in the line comes with it.
 ///
 /// None where the line is no such text.
 ///
@@ -82,7 +82,7 @@ fn read_label(alloc: Global, place: u32, fields: &Fields<'_>) -> Result<Option<L
         rank: 0,
         id,
     };
-    Ok(Label::of(order, x, y, boxes, pieces, min, max))
+    Ok(Label::of(order, x, y, boxes, pieces, min, max, 0))
 }
 
 // The id, and an empty piece for each further box.

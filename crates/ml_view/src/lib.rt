@@ -12,6 +12,3 @@ pub mod words;
 
 pub use filter::shown;
 pub use words::read_view;
-
-#[cfg(test)]
-mod tests;

@@ -9,9 +9,9 @@ loop-i-preserved c = below_more _ _ c.loop-i.invariant c.in_default.ensures
 
 pub returns-in-Some-clause-best : goal.returns-in-Some-clause-best
 returns-in-Some-clause-best c =
-    best_exactly c.args.labels.now c.args.slots.now c.in-Some.verdict c.requires c.in-Some.ensures
+    best_exactly c.sound_slots.ensures c.args.labels.now c.args.slots.now c.in-Some.verdict c.requires c.in-Some.ensures
 
 pub returns-clause-best : goal.returns-clause-best
 returns-clause-best c =
     let sound : (i : ℕ) → i < length c.args.labels.now → IsSound c.args.labels.now c.args.slots.now i = (λ (i : ℕ) (h : i < length c.args.labels.now). c.loop-i.invariant i (omega arith)) in
-    best_exactly c.args.labels.now c.args.slots.now Best c.requires sound
+    best_exactly c.sound_slots.ensures c.args.labels.now c.args.slots.now Best c.requires sound

@@ -1,10 +1,8 @@
 use Rattle.std.proofs.Common.{arith, FitsSigned, w32, w64}
 use Rattle.std.proofs.lemmas.Int.{ints, to_z-of_z}
-use Rattle.ml_cone.specs.Overlap.{BoxesOverlap}
-use Rattle.ml_conflict.proofs.scales.boxes_interval.Goals as goal
+use Rattle.ml_conflict.proofs.scales.rectangles_interval.Goals as goal
 
 pub returns-clause-scales : goal.returns-clause-scales
-unfolding BoxesOverlap
 returns-clause-scales c s scale =
     let f1 : FitsSigned w64 c.args.a.now.x = omega (arith, ints, c.args.a.now.world_x) in
     let f2 : FitsSigned w64 c.args.a.now.y = omega (arith, ints, c.args.a.now.world_y) in

@@ -1,0 +1,7 @@
+use Rattle.std.specs.Prelude.{IsTrue}
+use Rattle.ml_conflict.specs.Carried.{holds}
+use Rattle.ml_conflict.proofs.Carried.{own_carried}
+use Rattle.ml_conflict.proofs.laws.carried.Goals as goal
+
+pub returns : goal.returns
+returns c low rivals others stands stays link = own_carried low rivals others (holds stands) (holds stays) (λ j k. IsTrue (link j k))
