@@ -1,0 +1,5 @@
+pub mod Line
+pub mod Puts
+pub mod Hearing
+pub mod Blank
+pub mod MemWatcher

@@ -1,0 +1,18 @@
+//! Laws of what watchers hear. Each function takes nothing and does nothing: its contract is the law,
+//! for all values. A crate above uses a law by calling it.
+ghost use Rattle.std.specs.Prelude.{◌++◌, [], List};
+ghost use Rattle.ml_watch.specs.Hearing.{AllHear};
+ghost use Rattle.ml_watch.specs.declared.change.Change.{Change};
+
+use crate::watcher::Watcher;
+
+/// Watchers that were told nothing are as they were.
+pub fn hear_nothing<W: Watcher>()
+    ensures { (watchers : List W) → AllHear W.hearing [] watchers watchers }
+{}
+
+/// Watchers that were told some changes and then others were told them all.
+pub fn hear_twice<W: Watcher>()
+    ensures { (first second : List Change) (old between new : List W) →
+        AllHear W.hearing first old between → AllHear W.hearing second between new → AllHear W.hearing (first ++ second) old new }
+{}

@@ -1,0 +1,22 @@
+//! Watchers, who are told what each edit of a map changes in the active ranges of its labels.
+//!
+//! - [`change`]: what an edit changes of one label; `line`: the line that says it;
+//! - [`watcher`]: one who is told changes ([`Watcher`]); [`crowd`]: watchers, each in its place
+//!   ([`Crowd`]);
+//! - [`mem_watcher`], [`line_watcher`]: a watcher in memory, and one that writes lines into a sink;
+//! - [`laws`]: to be told some changes and then others is to be told them all.
+#![tactic(auto)]
+
+pub mod change;
+pub mod crowd;
+pub mod laws;
+mod line;
+pub mod line_watcher;
+pub mod mem_watcher;
+pub mod watcher;
+
+pub use change::Change;
+pub use crowd::Crowd;
+pub use line_watcher::LineWatcher;
+pub use mem_watcher::MemWatcher;
+pub use watcher::Watcher;
