@@ -1,0 +1,12 @@
+pub mod Lists
+pub mod Entries
+pub mod Greatest
+pub mod Forks
+pub mod Found
+pub mod Rising
+pub mod Depth
+pub mod Members
+pub mod Placed
+pub mod Raised
+pub mod Results
+pub mod Wanted

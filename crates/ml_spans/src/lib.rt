@@ -1,0 +1,30 @@
+//! An ordered index of spans: entries with a key, an end and a value, found by a range of keys and a
+//! least end.
+//!
+//! - [`key`]: values that can be keys, ends and values of an index;
+//! - [`entry`]: one entry, and the order of entries;
+//! - [`span_tree`]: the index itself ([`SpanTree`]);
+//! - [`laws`]: what a change or a search says of single entries.
+//!
+//! Within: [`shape`] has the nodes of the tree, [`ends`] their greatest ends, [`node`] one node over
+//! two sides, [`balance`] the turns that keep sides almost as high as one another; [`insertion`] and
+//! [`removal`] change a tree by one entry, [`query`] and [`search`] look through it.
+#![tactic(auto)]
+
+mod balance;
+mod change;
+mod ends;
+pub mod entry;
+mod insertion;
+pub mod key;
+pub mod laws;
+mod node;
+mod query;
+mod removal;
+mod search;
+mod shape;
+pub mod span_tree;
+
+pub use entry::Entry;
+pub use key::Key;
+pub use span_tree::SpanTree;

@@ -1,0 +1,206 @@
+//! The index: a balanced tree of entries, and spare nodes for those to come.
+ghost use Rattle.std.specs.Prelude.{◌≡◌, ℕ, ◌+◌, ◌*◌, ◌^◌, ◌<◌, ◌≤◌, ◌++◌, ◌↔◌, [], length, vec_len, vec_capacity, OnOk, OnErr, MatchBool, IsTrue, Contains, if◌then◌else◌, max};
+ghost use Rattle.ml_spans.specs.Order.{entry_order, IsRising, IsAdded};
+ghost use Rattle.ml_spans.specs.Search.{is_in_range, is_stabbed, values_where, IsPart};
+ghost use Rattle.ml_spans.specs.Spans.{entry_of};
+
+use crate::entry::Entry;
+use crate::insertion::put;
+use crate::key::Key;
+use crate::node::height_of;
+use crate::query::Query;
+use crate::removal::take;
+use crate::search::collect;
+use crate::shape::{Node, Tree};
+use ml_ratio::Seq;
+use std::alloc::{AllocError, Global};
+use std::marker::Model;
+use std::mem;
+
+/// Entries in order, with spare nodes for more: a balanced tree, in which each node knows the greatest
+/// end below it.
+///
+/// Contracts see the list of entries, in order of key, then value, then end, without repeats; the
+/// number of spare nodes; and the height.
+#[derive(Drop)]
+pub struct SpanTree<K: Key, E: Key, V: Key> {
+    root: Tree<K, E, V>,
+    spares: Vec<Box<Node<K, E, V>>>,
+    count: usize,
+}
+
+impl<K: Key, E: Key, V: Key> Model for SpanTree<K, E, V> {
+    ghost use Rattle.ml_spans.specs.Spans.{Spans};
+
+    ghost Value = { Spans K E V };
+
+    ghost use Rattle.std.specs.Prelude.{vec_len, vec_capacity};
+    ghost use Rattle.ml_spans.specs.Sound.{entries as tree_entries, depth};
+    ghost use Rattle.ml_spans.specs.Index.{IsIndex};
+
+    ghost view = { λ a. record { entries = tree_entries a.root; spare = vec_len a.spares; height = depth a.root } };
+
+    ghost invariant = { λ a. IsIndex K.order E.order V.order a.root a.count (vec_len a.spares) (vec_capacity a.spares) };
+}
+
+impl<K: Key, E: Key, V: Key> SpanTree<K, E, V> {
+    /// No entries and no spare nodes. It takes no memory; the allocator serves later calls.
+    pub fn new(alloc: Global) -> SpanTree<K, E, V>
+        ensures { result ≡ record { entries = []; spare = 0; height = 0 } }
+    {
+        SpanTree {
+            root: Tree::Leaf,
+            spares: Vec::new(alloc),
+            count: 0,
+        }
+    }
+
+    /// How many entries there are. They are in order, without repeats.
+    pub fn len(&self) -> usize
+        ensures count { result ≡ length self.now.entries }
+        ensures rising { IsRising (entry_order K.order E.order V.order) self.now.entries }
+    {
+        self.count
+    }
+
+    /// How many entries can be put in before the next call of [`SpanTree::reserve`].
+    pub fn spare(&self) -> usize
+        ensures { result ≡ self.now.spare }
+    {
+        self.spares.len()
+    }
+
+    /// How many nodes the longest path down from the root has, 0 for an empty tree: at most twice the
+    /// number of binary digits of `len + 1`.
+    pub fn height(&self) -> u32
+        ensures value { result ≡ self.now.height }
+        ensures low { (digits : ℕ) →
+            length self.now.entries + 1 < 2 ^ digits → result ≤ 2 * digits }
+    {
+        height_of(&self.root)
+    }
+
+    /// Makes sure that at least `n` entries can be put in. It adds no more spare nodes than are missing.
+    ///
+    /// # Errors
+    /// Want of memory, after which there may be more spare nodes than before.
+    pub fn reserve(&mut self, n: usize) -> Result<(), AllocError>
+        ensures ok { OnOk result (n ≤ self.new.spare) }
+        ensures same { (self.new.entries ≡ self.old.entries) × (self.new.height ≡ self.old.height) }
+        ensures grows { self.old.spare ≤ self.new.spare }
+        ensures room { self.new.spare ≤ max self.old.spare n }
+    {
+        let present = self.spares.len();
+        if n <= present {
+            return Ok(());
+        }
+        add_spares(&mut self.spares, n - present, self.count)
+    }
+
+    /// Puts an entry in that is not there, in a spare node. It takes no memory and cannot fail.
+    pub fn insert(&mut self, key: K, end: E, value: V)
+        requires spare { 0 < self.old.spare }
+        requires new { ¬ (Contains self.old.entries (entry_of key end value)) }
+        ensures added { IsAdded (entry_of key end value) self.old.entries self.new.entries }
+        ensures rising { IsRising (entry_order K.order E.order V.order) self.new.entries }
+        ensures spare { self.new.spare + 1 ≡ self.old.spare }
+    {
+        let entry = Entry { key, end, value };
+        let Some(node) = self.spares.pop() else {
+            unreachable!()
+        };
+        let root = mem::replace(&mut self.root, Tree::Leaf);
+        self.root = put(root, node, &entry);
+        self.count += 1;
+    }
+
+    /// Takes an entry out, whose node is spare then. True exactly where it was there. It takes no memory
+    /// and cannot fail.
+    pub fn remove(&mut self, key: &K, end: &E, value: &V) -> bool
+        ensures there { IsTrue result ↔ Contains self.old.entries (entry_of key.now end.now value.now) }
+        ensures removed { MatchBool result
+            (IsAdded (entry_of key.now end.now value.now) self.new.entries self.old.entries)
+            (self.new.entries ≡ self.old.entries) }
+        ensures gone { ¬ (Contains self.new.entries (entry_of key.now end.now value.now)) }
+        ensures rising { IsRising (entry_order K.order E.order V.order) self.new.entries }
+        ensures spare { self.new.spare ≡ self.old.spare + (if result then 1 else 0) }
+    {
+        let entry = Entry {
+            key: *key,
+            end: *end,
+            value: *value,
+        };
+        let root = mem::replace(&mut self.root, Tree::Leaf);
+        let (root, gone) = take(root, &entry);
+        self.root = root;
+        match gone {
+            None => false,
+            Some(node) => {
+                self.count -= 1;
+                self.spares.push_reserved(node);
+                true
+            }
+        }
+    }
+
+    /// Appends the values of the entries with a key in the closed range and an end of at least `at`, in
+    /// the order of the entries. Parts of the tree without such an end are passed over.
+    ///
+    /// # Errors
+    /// Want of memory, after which a first part of them was appended.
+    pub fn stab(&self, from: &K, to: &K, at: &E, out: &mut Seq<V>) -> Result<(), AllocError>
+        ensures ok { OnOk result (out.new ≡ out.old
+            ++ values_where (is_stabbed K.order E.order from.now to.now at.now) self.now.entries) }
+        ensures err { OnErr result (IsPart out.old out.new
+            (values_where (is_stabbed K.order E.order from.now to.now at.now) self.now.entries)) }
+    {
+        let query = Query {
+            from: *from,
+            to: *to,
+            at: Some(*at),
+        };
+        collect(&self.root, &query, out)
+    }
+
+    /// Appends the values of the entries with a key in the closed range, in the order of the entries.
+    ///
+    /// # Errors
+    /// Want of memory, after which a first part of them was appended.
+    pub fn range(&self, from: &K, to: &K, out: &mut Seq<V>) -> Result<(), AllocError>
+        ensures ok { OnOk result (out.new ≡ out.old
+            ++ values_where (is_in_range K.order from.now to.now) self.now.entries) }
+        ensures err { OnErr result (IsPart out.old out.new
+            (values_where (is_in_range K.order from.now to.now) self.now.entries)) }
+    {
+        let query = Query {
+            from: *from,
+            to: *to,
+            at: None,
+        };
+        collect(&self.root, &query, out)
+    }
+}
+
+// Adds spare nodes, with room for these and for as many more as are in use.
+fn add_spares<K: Key, E: Key, V: Key>(
+    spares: &mut Vec<Box<Node<K, E, V>>>,
+    missing: usize,
+    used: usize,
+) -> Result<(), AllocError>
+    requires { vec_len spares.old + used ≤ vec_capacity spares.old }
+    ensures ok { OnOk result (vec_len spares.new ≡ vec_len spares.old + missing) }
+    ensures grows { vec_len spares.old ≤ vec_len spares.new }
+    ensures most { vec_len spares.new ≤ vec_len spares.old + missing }
+    ensures room { vec_len spares.new + used ≤ vec_capacity spares.new }
+{
+    let Some(room) = missing.checked_add(used) else {
+        return Err(AllocError);
+    };
+    spares.reserve(room)?;
+    let alloc = *spares.allocator();
+    for _added in 0..missing {
+        let node = Box::new(alloc, Node::spare())?;
+        spares.push_reserved(node);
+    }
+    Ok(())
+}
