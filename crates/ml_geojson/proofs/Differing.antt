@@ -1,14 +1,13 @@
 -- The ids that features get all differ.
-use Rattle.std.proofs.Common.{◌≡◌, ◌≢◌, ℕ, zero, suc, ◌+◌, ◌<◌, ◌≤◌, List, [], ◌∷◌, length, get_or, take, Bool, true, false, ◌||◌, Option, Some, None, Result, Ok, Err, refl, sym, ap, ◌∙◌, arith}
+use Rattle.std.proofs.Common.{◌≡◌, ℕ, zero, suc, ◌<◌, List, [], ◌∷◌, length, get_or, take, Bool, true, false, ◌||◌, Option, Some, None, Result, Ok, Err, refl, sym, ap, ◌∙◌, arith}
 use Rattle.std.specs.Result.{IfOk}
 use Rattle.std.specs.Str.{bytes_eq}
-use Rattle.std.proofs.lemmas.List.{get_or_default}
 use Rattle.std.proofs.lemmas.Slice.Eq.{bytes_eq-Decides}
 use Rattle.ml_ratio.specs.declared.feature.Feature.{Feature}
 use Rattle.ml_geojson.specs.Positions.{Reading}
 use Rattle.ml_geojson.specs.Collection.{Parts}
 use Rattle.ml_geojson.specs.Ids.{is_among, IsIdOf}
-use Rattle.ml_geojson.specs.Map.{ids, HaveOwnIds, AreMadeOf, AreRead}
+use Rattle.ml_geojson.specs.Map.{ids, HaveDifferentIds, AreMadeOf, AreRead}
 use Rattle.ml_geojson.specs.declared.fault.GeoFault.{GeoFault}
 
 module _ (taken : List ℕ → Bool) (k : ℕ) (id : List ℕ) where
@@ -35,7 +34,7 @@ among_front (g ∷ fs) i zero f less lt = absurd (omega arith)
 among_front (g ∷ fs) zero (suc k) f less lt = first_true (bytes_eq g.id g.id) (is_among (take k (ids fs)) g.id) ((bytes_eq-Decides g.id g.id).1 refl)
 among_front (g ∷ fs) (suc i) (suc k) f less lt = later_true (bytes_eq (get_or fs i f).id g.id) (is_among (take k (ids fs)) (get_or fs i f).id) (among_front fs i k f (omega arith) (omega arith))
 
-made_differ : (parts : List Parts) (fs : List Feature) (p : Parts) → AreMadeOf parts fs → HaveOwnIds fs
+made_differ : (parts : List Parts) (fs : List Feature) (p : Parts) → AreMadeOf parts fs → HaveDifferentIds fs
 made_differ parts fs p are i j d less lt same =
     let n = are.one_each in
     let new : is_among (take j (ids fs)) (get_or fs j d).id ≡ false = id_new (is_among (take j (ids fs))) j (get_or fs j d).id (get_or parts j p).own (are.named j p d (omega arith)) in
@@ -47,6 +46,6 @@ no_parts : Parts
 no_parts = record { own = None; shape = None; props = [] }
 
 -- the features of a map file have ids of their own
-pub read_differs : (answer : Result (List Feature) GeoFault) (reading : Reading (List Parts)) → AreRead answer reading → IfOk answer HaveOwnIds
+pub read_differs : (answer : Result (List Feature) GeoFault) (reading : Reading (List Parts)) → AreRead answer reading → IfOk answer HaveDifferentIds
 read_differs (Ok fs) reading h = made_differ h.0 fs no_parts h.2
 read_differs (Err fault) reading h = tt

@@ -1,12 +1,16 @@
-pub mod EachLemmas
-pub mod RingLemmas
-pub mod IdLemmas
-pub mod PropLemmas
-pub mod Kept
-pub mod FaultLemmas
-pub mod MadeLemmas
-pub mod Settling
-pub mod ReadsBack
-pub mod Printable
-pub mod Written
-pub mod Differing
+mod JsonLaws
+mod EachLemmas
+mod RingLemmas
+mod IdLemmas
+mod PropLemmas
+mod Kept
+mod FaultLemmas
+mod MadeLemmas
+mod Settling
+mod ReadsBack
+mod Printable
+mod Written
+mod Differing
+mod SameLemmas
+mod Once
+mod Exact

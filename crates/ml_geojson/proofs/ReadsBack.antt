@@ -5,7 +5,6 @@ use Rattle.std.proofs.lemmas.Bool.Decides.{Decides-int_eq}
 use Rattle.ml_json.specs.Tree.{Tree, map}
 use Rattle.ml_json.specs.View.{trees_of}
 use Rattle.ml_json.specs.Canonical.{settled}
-use Rattle.ml_json.proofs.FixedLemmas.{text_back}
 use Rattle.ml_ratio.specs.Geometry.{HasParts, IsClosed, IsRing, IsPolygon, IsGeometry, IsSomeGeometry}
 use Rattle.ml_ratio.specs.declared.geometry.Pos.{Pos}
 use Rattle.ml_ratio.specs.declared.geometry.Geometry.{Geometry}
@@ -18,8 +17,9 @@ use Rattle.ml_geojson.specs.Shape.{Shape, points, line, lines, polygon, polygons
 use Rattle.ml_geojson.specs.Positions.{Reading, then_made, then_read, each, position, in_list, positions, is_same, last_place, closed, long_ring, ring, filled, line_parts, rings, polygon_parts}
 use Rattle.ml_geojson.specs.Geometry.{some_shape, geometry}
 use Rattle.ml_geojson.specs.Properties.{scalar, scalars, with_scalar, properties}
-use Rattle.ml_geojson.specs.Collection.{Parts, feature, features, collection}
+use Rattle.ml_geojson.specs.Collection.{own_parts, feature, features, collection}
 use Rattle.ml_geojson.specs.Text.{place_tree, line_tree, lines_tree, geometry_tree, scalar_tree, prop_pairs, feature_tree, collection_tree}
+use Rattle.ml_geojson.proofs.JsonLaws.{JsonLaws}
 use Rattle.ml_geojson.proofs.RingLemmas.{long}
 use Rattle.ml_geojson.proofs.Settling.{each_settled, places_stay, lines_stay, polygons_stay, props_stay}
 
@@ -46,9 +46,9 @@ some_made : {A B : Type 0} (f : List B → Shape) (view : A → B) (xs : List A)
 some_made f view [] some = absurd (omega arith)
 some_made f view (x ∷ xs) some = refl
 
-module _ (k : ℕ) where
+module _ (laws : JsonLaws) (k : ℕ) where
   place_back : (p : Pos) → in_list k (position k) (place_tree (place_of p)) ≡ Ok (place_of p)
-  place_back p = rw (text_back p.x p.world_x, text_back p.y p.world_y) refl
+  place_back p = rw (laws.back p.x p.world_x, laws.back p.y p.world_y) refl
 
   positions_back : (line' : List Pos) → positions k (trees_of (mapped place_tree (places_of line'))) ≡ Ok (places_of line')
   positions_back line' = each_back (λ (p : Pos). Unit {0}) (in_list k (position k)) place_tree place_of (λ p h. place_back p) line' (λ i d lt. tt)
@@ -115,21 +115,17 @@ scalars_back : (props : List Prop) → scalars (prop_pairs props) ≡ props
 scalars_back [] = refl
 scalars_back (p ∷ props) = with_back p.key p.value (scalars (prop_pairs props)) ∙ ap (λ rest. p ∷ rest) (scalars_back props)
 
--- what a feature is made of, its id being its own
-abbrev pub own_parts : Feature → Parts
-own_parts f = record { own = Some f.id; shape = some_shape_of f.geometry; props = f.props }
-
 -- the tree of a feature reads as it
-pub feature_back : (k : ℕ) (f : Feature) → feature k (settled (feature_tree f)) ≡ Ok (own_parts f)
-feature_back k f =
-    let props : properties (Some (settled (map (prop_pairs f.props)))) ≡ f.props = ap (λ t. properties (Some t)) (props_stay f.props f.ascending) ∙ scalars_back f.props in
-    ap (then_made (λ shape. record { own = Some f.id; shape = shape; props = properties (Some (settled (map (prop_pairs f.props)))) })) (geometry_back k f.geometry f.shaped)
+pub feature_back : (laws : JsonLaws) (k : ℕ) (f : Feature) → feature k (settled (feature_tree f)) ≡ Ok (own_parts f)
+feature_back laws k f =
+    let props : properties (Some (settled (map (prop_pairs f.props)))) ≡ f.props = ap (λ t. properties (Some t)) (props_stay laws f.props f.ascending) ∙ scalars_back f.props in
+    ap (then_made (λ shape. record { own = Some f.id; shape = shape; props = properties (Some (settled (map (prop_pairs f.props)))) })) (geometry_back laws k f.geometry f.shaped)
     ∙ ap (λ ps. Ok (record { own = Some f.id; shape = some_shape_of f.geometry; props = ps })) props
 
-features_back : (k : ℕ) (fs : List Feature) → features k (trees_of (mapped (λ (f : Feature). settled (feature_tree f)) fs)) ≡ Ok (mapped own_parts fs)
-features_back k [] = refl
-features_back k (f ∷ fs) = rw (feature_back k f, features_back (k + 1) fs) refl
+features_back : (laws : JsonLaws) (k : ℕ) (fs : List Feature) → features k (trees_of (mapped (λ (f : Feature). settled (feature_tree f)) fs)) ≡ Ok (mapped own_parts fs)
+features_back laws k [] = refl
+features_back laws k (f ∷ fs) = rw (feature_back laws k f, features_back laws (k + 1) fs) refl
 
 -- the tree of a collection reads as its features
-pub collection_back : (fs : List Feature) → collection (settled (collection_tree fs)) ≡ Ok (mapped own_parts fs)
-collection_back fs = ap (features 0) (each_settled feature_tree (λ (f : Feature). settled (feature_tree f)) (λ f. refl) fs) ∙ features_back 0 fs
+pub collection_back : (laws : JsonLaws) (fs : List Feature) → collection (settled (collection_tree fs)) ≡ Ok (mapped own_parts fs)
+collection_back laws fs = ap (features 0) (each_settled feature_tree (λ (f : Feature). settled (feature_tree f)) (λ f. refl) fs) ∙ features_back laws 0 fs

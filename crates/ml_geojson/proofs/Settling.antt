@@ -4,11 +4,11 @@ use Rattle.std.proofs.Common.{suc, arith}
 use Rattle.ml_json.specs.Tree.{Tree, list, map, more, no_pairs, pair, put_all}
 use Rattle.ml_json.specs.View.{trees_of}
 use Rattle.ml_json.specs.Canonical.{settled, items_settled, members_settled, IsAscending}
-use Rattle.ml_json.proofs.SortedPairs.{ascending_stays}
 use Rattle.ml_ratio.specs.Feature.{AreAscending}
 use Rattle.ml_ratio.specs.declared.feature.Prop.{Prop}
 use Rattle.ml_ratio.specs.declared.feature.Scalar.{Scalar}
 use Rattle.ml_ratio.specs.declared.feature.Scalar.TheVariants.{Null, Flag, Num, Str}
+use Rattle.ml_geojson.proofs.JsonLaws.{JsonLaws}
 use Rattle.ml_geojson.specs.Shape.{Place}
 use Rattle.ml_geojson.specs.Text.{list_tree, place_tree, line_tree, lines_tree, scalar_tree, prop_pairs}
 
@@ -55,5 +55,5 @@ pairs_ascending (p ∷ []) h = tt
 pairs_ascending (p ∷ q ∷ props) h = (h 0 1 p (omega arith) (omega arith), pairs_ascending (q ∷ props) (tail_ascending p (q ∷ props) h))
 
 -- the properties of a feature are in order already
-pub props_stay : (props : List Prop) → AreAscending props → settled (map (prop_pairs props)) ≡ map (prop_pairs props)
-props_stay props h = ap map (ap (put_all no_pairs) (props_settled props) ∙ ascending_stays (prop_pairs props) (pairs_ascending props h))
+pub props_stay : (laws : JsonLaws) (props : List Prop) → AreAscending props → settled (map (prop_pairs props)) ≡ map (prop_pairs props)
+props_stay laws props h = ap map (ap (put_all no_pairs) (props_settled props) ∙ laws.ascending (prop_pairs props) (pairs_ascending props h))

@@ -1,6 +1,5 @@
 -- The text of features reads back as them.
-use Rattle.std.proofs.Common.{◌≡◌, ◌≢◌, ℕ, zero, suc, ◌<◌, List, [], ◌∷◌, length, map as mapped, get_or, take, Bool, true, false, ◌||◌, Result, Ok, Err, refl, sym, ◌∙◌, subst, arith}
-use Rattle.std.specs.List.{AllPairs}
+use Rattle.std.proofs.Common.{◌≡◌, ℕ, zero, suc, ◌<◌, List, [], ◌∷◌, length, map as mapped, get_or, take, Bool, true, false, ◌||◌, Result, Ok, Err, refl, sym, ◌∙◌, subst, arith}
 use Rattle.std.specs.Result.{IfOk}
 use Rattle.std.specs.Str.{bytes_eq}
 use Rattle.std.specs.declared.alloc.AllocError.{AllocError}
@@ -10,21 +9,19 @@ use Rattle.ml_json.specs.Tree.{Tree}
 use Rattle.ml_json.specs.Answer.{IsText}
 use Rattle.ml_json.specs.Canonical.{settled, IsPrintable}
 use Rattle.ml_ratio.specs.declared.feature.Feature.{Feature}
-use Rattle.ml_geojson.specs.Collection.{Parts}
+use Rattle.ml_geojson.specs.Collection.{Parts, own_parts, feature, collection}
 use Rattle.ml_geojson.specs.Ids.{is_among}
-use Rattle.ml_geojson.specs.Map.{ids, AreMadeOf, IsMap, IsFeature, HaveOwnIds}
+use Rattle.ml_geojson.specs.Map.{ids, AreMadeOf, IsMap, IsFeature, HaveDifferentIds}
 use Rattle.ml_geojson.specs.Text.{feature_tree, collection_tree}
-use Rattle.ml_geojson.proofs.ReadsBack.{own_parts, feature_back, collection_back}
-use Rattle.ml_geojson.proofs.Printable.{printable, feature_flat, collection_flat}
 
-module _ (f : Feature) (tree : Tree) (same : tree ≡ feature_tree f) where
+module _ (f : Feature) (tree : Tree) (same : tree ≡ feature_tree f) (prints : IsPrintable (feature_tree f)) (back : feature 0 (settled (feature_tree f)) ≡ Ok (own_parts f)) where
   -- a feature's text
   pub feature_written : (result : Result (List ℕ) AllocError) → (IsPrintable tree → IfOk result (λ text. IsText text (settled tree))) → IfOk result (λ text. IsFeature text f)
   feature_written (Ok text) h = record {
     tree = settled (feature_tree f);
-    text = subst (λ t. IsText text (settled t)) same (h (subst IsPrintable (sym same) (printable 6 (feature_tree f) (omega arith) (feature_flat f))));
+    text = subst (λ t. IsText text (settled t)) same (h (subst IsPrintable (sym same) prints));
     parts = own_parts f;
-    reads = feature_back 0 f;
+    reads = back;
     named = refl;
     made = record { shape = refl; props = refl };
   }
@@ -51,7 +48,7 @@ front_new (g ∷ fs) (suc k) f text h =
     let one = not_same text g.id (h 0 (omega arith) (omega arith)) (bytes_eq text g.id) refl in
     either (bytes_eq text g.id) (is_among (take k (ids fs)) text) one (front_new fs k f text (λ i less lt. h (suc i) (omega arith) (omega arith)))
 
-module _ (fs : List Feature) (differ : HaveOwnIds fs) where
+module _ (fs : List Feature) (differ : HaveDifferentIds fs) where
   made_of : AreMadeOf (mapped own_parts fs) fs
   made_of = record {
     one_each = sym (length-map fs own_parts);
@@ -63,12 +60,12 @@ module _ (fs : List Feature) (differ : HaveOwnIds fs) where
   }
 
   -- a collection's text
-  pub collection_written : (tree : Tree) → tree ≡ collection_tree fs → (result : Result (List ℕ) AllocError) → (IsPrintable tree → IfOk result (λ text. IsText text (settled tree))) → IfOk result (λ text. IsMap text fs)
-  collection_written tree same (Ok text) h = record {
+  pub collection_written : (tree : Tree) → tree ≡ collection_tree fs → IsPrintable (collection_tree fs) → collection (settled (collection_tree fs)) ≡ Ok (mapped own_parts fs) → (result : Result (List ℕ) AllocError) → (IsPrintable tree → IfOk result (λ text. IsText text (settled tree))) → IfOk result (λ text. IsMap text fs)
+  collection_written tree same prints back (Ok text) h = record {
     tree = settled (collection_tree fs);
-    text = subst (λ t. IsText text (settled t)) same (h (subst IsPrintable (sym same) (printable 8 (collection_tree fs) (omega arith) (collection_flat fs))));
+    text = subst (λ t. IsText text (settled t)) same (h (subst IsPrintable (sym same) prints));
     parts = mapped own_parts fs;
-    reads = collection_back fs;
+    reads = back;
     made = made_of;
   }
-  collection_written tree same (Err e) h = tt
+  collection_written tree same prints back (Err e) h = tt

@@ -1,5 +1,5 @@
 -- A feature's geometry, as a map with a type and coordinates.
-use Rattle.std.specs.Prelude.{ℕ, List, [], ◌∷◌, cond, Option, Some, None, Ok, Err, codes}
+use Rattle.std.specs.Prelude.{ℕ, List, [], ◌∷◌, Option, Some, None, Ok, Err, codes, if◌then◌else◌}
 use Rattle.ml_json.specs.Tree.{Tree, null, map, Trees, none, more, Pairs}
 use Rattle.ml_geojson.specs.Shape.{Shape, point, points, line, lines, polygon, polygons}
 use Rattle.ml_geojson.specs.Members.{member, is_text}
@@ -30,12 +30,12 @@ shape_by k MultiPolygon items = then_made (some_shape polygons) (polygon_parts k
 -- the kind that a type names
 abbrev pub kind_of : Option Tree → Option Kind
 kind_of type =
-    cond (is_text (codes "Point") type) (Some Point)
-    (cond (is_text (codes "MultiPoint") type) (Some MultiPoint)
-    (cond (is_text (codes "LineString") type) (Some LineString)
-    (cond (is_text (codes "MultiLineString") type) (Some MultiLineString)
-    (cond (is_text (codes "Polygon") type) (Some Polygon)
-    (cond (is_text (codes "MultiPolygon") type) (Some MultiPolygon) None)))))
+    if is_text (codes "Point") type then Some Point
+    else (if is_text (codes "MultiPoint") type then Some MultiPoint
+    else (if is_text (codes "LineString") type then Some LineString
+    else (if is_text (codes "MultiLineString") type then Some MultiLineString
+    else (if is_text (codes "Polygon") type then Some Polygon
+    else (if is_text (codes "MultiPolygon") type then Some MultiPolygon else None)))))
 
 -- the shape of a kind; the kind has to be known, and the coordinates a list
 abbrev pub kind_shape : ℕ → Option Kind → Option Tree → Reading (Option Shape)
@@ -45,7 +45,7 @@ kind_shape k (Some kind) (Some tree) = in_list k (shape_by k kind) tree
 
 -- the shape of a map with a type; a collection of geometries has none, and its content is not looked at
 abbrev pub typed_shape : ℕ → Pairs → Reading (Option Shape)
-typed_shape k ps = cond (is_text (codes "GeometryCollection") (member (codes "type") ps)) (Ok None) (kind_shape k (kind_of (member (codes "type") ps)) (member (codes "coordinates") ps))
+typed_shape k ps = if is_text (codes "GeometryCollection") (member (codes "type") ps) then Ok None else kind_shape k (kind_of (member (codes "type") ps)) (member (codes "coordinates") ps)
 
 -- the shape of a geometry; absent or null, there is none
 abbrev pub geometry : ℕ → Option Tree → Reading (Option Shape)

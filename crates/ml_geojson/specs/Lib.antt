@@ -1,3 +1,7 @@
+pub use Rattle.ml_ratio.specs.Refusal
+pub use Rattle.ml_json.specs.Answer
+pub use Rattle.ml_json.specs.Tree
+pub use Rattle.ml_json.specs.Canonical
 pub mod Shape
 pub mod Positions
 pub mod Fault

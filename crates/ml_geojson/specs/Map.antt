@@ -22,14 +22,25 @@ abbrev pub ids : List Feature → List (List ℕ)
 ids features = map (λ (f : Feature). f.id) features
 
 -- no two features have the same id
-abbrev pub HaveOwnIds : List Feature → Type 0
-HaveOwnIds features = AllPairs (λ (f g : Feature). f.id ≢ g.id) features
+abbrev pub HaveDifferentIds : List Feature → Type 0
+HaveDifferentIds features = AllPairs (λ (f g : Feature). f.id ≢ g.id) features
 
 -- one feature for each, in order, with the id that it gets behind those before it
 pub record AreMadeOf (parts : List Parts) (features : List Feature) : Type 0 where
   pub one_each : length features ≡ length parts
   pub made : (k : ℕ) (p : Parts) (f : Feature) → k < length parts → IsMadeOf (slice_index_or parts k p) (slice_index_or features k f)
   pub named : (k : ℕ) (p : Parts) (f : Feature) → k < length parts → IsIdOf (is_among (take k (ids features))) k (slice_index_or parts k p).own (slice_index_or features k f).id
+
+-- two features have the same id, the same shape and the same properties
+pub record IsSameFeature (one other : Feature) : Type 0 where
+  pub id : one.id ≡ other.id
+  pub shape : some_shape_of one.geometry ≡ some_shape_of other.geometry
+  pub props : one.props ≡ other.props
+
+-- the same features in the same order
+pub record AreSameFeatures (features others : List Feature) : Type 0 where
+  pub one_each : length features ≡ length others
+  pub same : (k : ℕ) (f : Feature) → k < length features → IsSameFeature (slice_index_or features k f) (slice_index_or others k f)
 
 -- an answer gives features made of what is read, or the reading's refusal
 abbrev pub AreRead : Result (List Feature) GeoFault → Reading (List Parts) → Type 0
@@ -50,6 +61,12 @@ IsMapFault bytes (NotJson at) = IsNotJson bytes at
 IsMapFault bytes (Deep at) = IsDeep bytes at
 IsMapFault bytes Memory = Unit {0}
 IsMapFault bytes fault = (tree : Tree) × IsText bytes tree × (collection tree ≡ Err fault)
+
+-- the answer is the same features, or want of memory
+abbrev pub GivesMap : Result (List Feature) GeoFault → List Feature → Type 0
+GivesMap (Ok found) features = AreSameFeatures found features
+GivesMap (Err Memory) features = Unit {0}
+GivesMap (Err fault) features = ⊥
 
 -- an answer gives a feature made of what is read, with its own id; or says that it has none; or gives the reading's refusal
 abbrev pub IsRead : Result Feature GeoFault → Reading Parts → Type 0
@@ -81,3 +98,9 @@ IsFeatureFault bytes (Deep at) = IsDeep bytes at
 IsFeatureFault bytes NoId = HasNoId bytes
 IsFeatureFault bytes Memory = Unit {0}
 IsFeatureFault bytes fault = (tree : Tree) × IsText bytes tree × (feature 0 tree ≡ Err fault)
+
+-- the answer is the same feature, or want of memory
+abbrev pub GivesFeature : Result Feature GeoFault → Feature → Type 0
+GivesFeature (Ok found) one = IsSameFeature found one
+GivesFeature (Err Memory) one = Unit {0}
+GivesFeature (Err fault) one = ⊥

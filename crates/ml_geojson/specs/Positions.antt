@@ -1,5 +1,5 @@
 -- Positions, and rings of them, as lists of JSON numbers; each reading gives a value or the first fault from left to right.
-use Rattle.std.specs.Prelude.{ℕ, ℤ, List, [], ◌∷◌, ◌++◌, length, Bool, true, false, cond, nat_lt, ◌&&◌, filter, Option, Some, None, Result, Ok, Err}
+use Rattle.std.specs.Prelude.{ℕ, ℤ, List, [], ◌∷◌, ◌++◌, length, Bool, true, false, nat_lt, ◌&&◌, filter, Option, Some, None, Result, Ok, Err, if◌then◌else◌}
 use Rattle.std.specs.Ordering.{int_eq}
 use Rattle.ml_json.specs.Tree.{Tree, num, list, Trees, none, more}
 use Rattle.ml_json.specs.Decimal.{e7_of}
@@ -70,12 +70,12 @@ last_place first (next ∷ rest) = last_place next rest
 -- a ring whose last place is the first; where it differs, the first comes again
 abbrev pub closed : List Place → List Place
 closed [] = []
-closed (first ∷ rest) = cond (is_same first (last_place first rest)) (first ∷ rest) ((first ∷ rest) ++ first ∷ [])
+closed (first ∷ rest) = if is_same first (last_place first rest) then first ∷ rest else ((first ∷ rest) ++ first ∷ [])
 
 -- a closed ring of at least four places, or none at all
 abbrev pub long_ring : ℕ → List Place → Reading (List Place)
 long_ring k [] = Ok []
-long_ring k (first ∷ rest) = cond (nat_lt (length (first ∷ rest)) 4) (Err (ShortRing k)) (Ok (first ∷ rest))
+long_ring k (first ∷ rest) = if nat_lt (length (first ∷ rest)) 4 then Err (ShortRing k) else Ok (first ∷ rest)
 
 -- a ring
 abbrev pub ring : ℕ → Trees → Reading (List Place)

@@ -18,7 +18,7 @@ use ml_json::{Json, Pair};
 use ml_ratio::{Feature, Text};
 use std::alloc::{AllocError, Global};
 
-/// The id that a feature has of its own: the text of a string or of a number.
+// The id that a feature has of its own: the text of a string or of a number.
 fn own_id(value: Option<&Json>) -> Result<Option<Text>, AllocError>
     ensures { IfOk result (λ own. own ≡ spec_own_id (option_map tree_of (option_copied value.entry))) }
 {
@@ -29,7 +29,7 @@ fn own_id(value: Option<&Json>) -> Result<Option<Text>, AllocError>
     })
 }
 
-/// The draft of a map whose type is Feature.
+// The draft of a map whose type is Feature.
 fn draft_of(alloc: Global, pairs: &[Pair], k: usize) -> Result<Draft, GeoFault>
     requires { IsOrderly (map (pairs_view pairs.now)) }
     ensures { Answers parts_of result (feature k (map (pairs_view pairs.now))) }

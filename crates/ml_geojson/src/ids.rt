@@ -8,14 +8,14 @@ use ml_ratio::Text;
 use std::alloc::{AllocError, Global};
 use std::collections::BTreeSet;
 
-/// A number sign and the place.
+// A number sign and the place.
 fn numbered(alloc: Global, k: usize) -> Result<Text, AllocError>
     ensures { IfOk result (λ id. id ≡ spec_numbered k) }
 {
     Ok(Text::of_string(format!(in alloc; "#{k}")?))
 }
 
-/// The text with a number sign before it.
+// The text with a number sign before it.
 fn marked(alloc: Global, id: &Text) -> Result<Text, AllocError>
     ensures { IfOk result (λ marked. marked ≡ codes "#" ++ id.now) }
 {
@@ -24,7 +24,7 @@ fn marked(alloc: Global, id: &Text) -> Result<Text, AllocError>
     Ok(Text::of_string(marked))
 }
 
-/// A number sign and the place `k`, with as few further number signs before it as make it new.
+// A number sign and the place `k`, with as few further number signs before it as make it new.
 fn fresh_id(alloc: Global, taken: &BTreeSet<Text>, k: usize) -> Result<Text, AllocError>
     ensures { IfOk result (IsFresh (is_taken taken.now) k) }
 {

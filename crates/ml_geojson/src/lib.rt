@@ -4,7 +4,8 @@
 //!   [`properties`] and [`parts`] of a feature, [`members`] of JSON maps, and the [`ids`] that
 //!   features get;
 //! - [`writer`]: features to text, by way of JSON [`values`];
-//! - [`fault`]: why bytes are refused.
+//! - [`fault`]: why bytes are refused;
+//! - [`laws`]: laws over the definitions alone.
 #![tactic(auto)]
 
 mod draft;
@@ -12,6 +13,7 @@ pub mod fault;
 mod features;
 mod ids;
 mod kind;
+pub mod laws;
 mod members;
 mod parts;
 mod positions;
@@ -24,6 +26,3 @@ pub mod writer;
 pub use fault::GeoFault;
 pub use reader::{read_collection, read_feature};
 pub use writer::{write_collection, write_feature};
-
-#[cfg(test)]
-mod tests;

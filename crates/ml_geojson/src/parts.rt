@@ -12,7 +12,7 @@ use ml_json::Json;
 use ml_ratio::{Pos, Seq};
 use std::alloc::{AllocError, Global};
 
-/// Adds a part, unless it is empty.
+// Adds a part, unless it is empty.
 fn push_filled<T: Drop>(parts: &mut Seq<Seq<T>>, part: Seq<T>) -> Result<(), AllocError>
     ensures { OnOk result (parts.new ≡ parts.old ++ filled (part ∷ [])) }
 {
@@ -22,7 +22,7 @@ fn push_filled<T: Drop>(parts: &mut Seq<Seq<T>>, part: Seq<T>) -> Result<(), All
     Ok(())
 }
 
-/// A line within a list of them.
+// A line within a list of them.
 fn line_in(alloc: Global, item: &Json, k: usize) -> Result<Seq<Pos>, GeoFault>
     ensures { Answers places_of result (in_list k (spec_positions k) (tree_of item.now)) }
 {
@@ -47,7 +47,7 @@ pub fn read_lines(alloc: Global, items: &[Json], k: usize) -> Result<Seq<Seq<Pos
     Ok(lines)
 }
 
-/// A ring within a list of them.
+// A ring within a list of them.
 fn ring_in(alloc: Global, item: &Json, k: usize) -> Result<Seq<Pos>, GeoFault>
     ensures places { Answers places_of result (in_list k (spec_ring k) (tree_of item.now)) }
     ensures ring { IfOk result (λ ring. 0 < length ring → IsRing ring) }
@@ -73,7 +73,7 @@ pub fn read_rings(alloc: Global, items: &[Json], k: usize) -> Result<Seq<Seq<Pos
     Ok(rings)
 }
 
-/// A polygon within a list of them.
+// A polygon within a list of them.
 fn polygon_in(alloc: Global, item: &Json, k: usize) -> Result<Seq<Seq<Pos>>, GeoFault>
     ensures lines { Answers lines_of result (in_list k (spec_rings k) (tree_of item.now)) }
     ensures rings { IfOk result (λ rings. All IsRing rings) }

@@ -13,7 +13,7 @@ use ml_json::{Json, e7};
 use ml_ratio::{Pos, Seq, Text};
 use std::alloc::{AllocError, Global};
 
-/// The text of a number.
+// The text of a number.
 fn number(value: &Json) -> Option<&Text>
     ensures { option_copied result ≡ spec_number (tree_of value.now) }
 {
@@ -23,7 +23,7 @@ fn number(value: &Json) -> Option<&Text>
     }
 }
 
-/// The position with this longitude and latitude.
+// The position with this longitude and latitude.
 fn place(x: &Text, y: &Text, k: usize) -> Result<Pos, GeoFault>
     ensures { Answers place_of result (in_world k (e7_of x.now) (e7_of y.now)) }
 {
@@ -33,7 +33,7 @@ fn place(x: &Text, y: &Text, k: usize) -> Result<Pos, GeoFault>
     }
 }
 
-/// The position of two numbers.
+// The position of two numbers.
 fn place_of(x: Option<&Text>, y: Option<&Text>, k: usize) -> Result<Pos, GeoFault>
     ensures { Answers place_of result (numbers k (option_copied x.entry) (option_copied y.entry)) }
 {
@@ -53,7 +53,7 @@ pub fn read_position(items: &[Json], k: usize) -> Result<Pos, GeoFault>
     }
 }
 
-/// A position within a list of them.
+// A position within a list of them.
 fn position_in(item: &Json, k: usize) -> Result<Pos, GeoFault>
     ensures { Answers place_of result (in_list k (spec_position k) (tree_of item.now)) }
 {
@@ -77,7 +77,7 @@ pub fn read_positions(alloc: Global, items: &[Json], k: usize) -> Result<Seq<Pos
     Ok(positions)
 }
 
-/// Adds the first position at the end, where the last one is another.
+// Adds the first position at the end, where the last one is another.
 fn close(ring: &mut Seq<Pos>) -> Result<(), AllocError>
     ensures places { OnOk result (places_of ring.new ≡ closed (places_of ring.old)) }
     ensures closed { OnOk result (IsClosed ring.new) }

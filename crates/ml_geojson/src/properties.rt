@@ -8,7 +8,7 @@ use ml_json::{Json, Pair};
 use ml_ratio::{Prop, Scalar, Seq};
 use std::alloc::{AllocError, Global};
 
-/// The value of a property; none of lists and maps.
+// The value of a property; none of lists and maps.
 fn scalar(value: &Json) -> Result<Option<Scalar>, AllocError>
     ensures { IfOk result (λ scalar. scalar ≡ spec_scalar (tree_of value.now)) }
 {
@@ -21,7 +21,7 @@ fn scalar(value: &Json) -> Result<Option<Scalar>, AllocError>
     })
 }
 
-/// Adds a member as a property, unless its value is a list or a map.
+// Adds a member as a property, unless its value is a list or a map.
 fn push_scalar(props: &mut Seq<Prop>, pair: &Pair) -> Result<(), AllocError>
     ensures { OnOk result (props.new ≡ props.old ++ with_scalar (pair_of pair.now).0 (spec_scalar (pair_of pair.now).1) []) }
 {
@@ -32,7 +32,7 @@ fn push_scalar(props: &mut Seq<Prop>, pair: &Pair) -> Result<(), AllocError>
     Ok(())
 }
 
-/// The members whose values are no lists and no maps.
+// The members whose values are no lists and no maps.
 fn read_scalars(alloc: Global, pairs: &[Pair]) -> Result<Seq<Prop>, AllocError>
     ensures { IfOk result (λ props. props ≡ scalars (pairs_view pairs.now)) }
 {

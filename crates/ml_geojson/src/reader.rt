@@ -1,6 +1,8 @@
 //! Bytes to features.
-ghost use Rattle.std.specs.Prelude.{◌≡◌, IfOk, IfErr, OnOk, Ok};
+ghost use Rattle.std.specs.Prelude.{◌≡◌, ℕ, List, IfOk, IfErr, OnOk, Ok};
 ghost use Rattle.std.specs.Option.{option_map, option_copied};
+ghost use Rattle.ml_ratio.specs.Refusal.{RefusesExactly};
+ghost use Rattle.ml_json.specs.Answer.{IsNotJson, IsDeep};
 ghost use Rattle.ml_json.specs.Tree.{map};
 ghost use Rattle.ml_json.specs.Canonical.{IsOrderly, AllOrderly};
 ghost use Rattle.ml_json.specs.View.{tree_of, trees_view, pairs_view};
@@ -8,7 +10,7 @@ ghost use Rattle.ml_geojson.specs.Fault.{Refuses};
 ghost use Rattle.ml_geojson.specs.Collection.{feature, features as spec_features, listed, collected, collection, IsSomeOrderly};
 ghost use Rattle.ml_geojson.specs.Taken.{HasIds};
 ghost use Rattle.ml_geojson.specs.Draft.{parts_of, IsAdded};
-ghost use Rattle.ml_geojson.specs.Map.{ids, HaveOwnIds, AreRead, IsRead, IsMap, IsMapFault, IsFeature, IsFeatureFault};
+ghost use Rattle.ml_geojson.specs.Map.{ids, HaveDifferentIds, AreRead, IsRead, IsMap, IsMapFault, IsFeature, IsFeatureFault, HasNoId, GivesMap, GivesFeature};
 
 use crate::draft::Draft;
 use crate::fault::GeoFault;
@@ -20,7 +22,7 @@ use ml_ratio::{Feature, Seq, Text};
 use std::alloc::{AllocError, Global};
 use std::collections::BTreeSet;
 
-/// Adds a feature at the end, with the id that it gets.
+// Adds a feature at the end, with the id that it gets.
 fn push_feature(
     alloc: Global,
     features: &mut Seq<Feature>,
@@ -37,7 +39,7 @@ fn push_feature(
     Ok(())
 }
 
-/// The features of a list.
+// The features of a list.
 fn read_items(alloc: Global, items: &[Json]) -> Result<Seq<Feature>, GeoFault>
     requires { AllOrderly (trees_view items.now) }
     ensures { AreRead result (spec_features 0 (trees_view items.now)) }
@@ -53,7 +55,7 @@ fn read_items(alloc: Global, items: &[Json]) -> Result<Seq<Feature>, GeoFault>
     Ok(features)
 }
 
-/// The features of a value, which has to be a list.
+// The features of a value, which has to be a list.
 fn read_listed(alloc: Global, value: Option<&Json>) -> Result<Seq<Feature>, GeoFault>
     requires { IsSomeOrderly (option_map tree_of (option_copied value)) }
     ensures { AreRead result (listed (option_map tree_of (option_copied value.entry))) }
@@ -64,7 +66,7 @@ fn read_listed(alloc: Global, value: Option<&Json>) -> Result<Seq<Feature>, GeoF
     }
 }
 
-/// The features of a map whose type is FeatureCollection.
+// The features of a map whose type is FeatureCollection.
 fn read_collected(alloc: Global, pairs: &[Pair]) -> Result<Seq<Feature>, GeoFault>
     requires { IsOrderly (map (pairs_view pairs.now)) }
     ensures { AreRead result (collected (pairs_view pairs.now)) }
@@ -75,7 +77,7 @@ fn read_collected(alloc: Global, pairs: &[Pair]) -> Result<Seq<Feature>, GeoFaul
     Err(GeoFault::NotCollection)
 }
 
-/// The features of a map file.
+// The features of a map file.
 fn read_tree(alloc: Global, json: &Json) -> Result<Seq<Feature>, GeoFault>
     requires { IsOrderly (tree_of json.now) }
     ensures { AreRead result (collection (tree_of json.now)) }
@@ -104,8 +106,16 @@ fn read_tree(alloc: Global, json: &Json) -> Result<Seq<Feature>, GeoFault>
 /// [`GeoFault::ShortRing`]; want of memory.
 pub fn read_collection(alloc: Global, bytes: &[u8]) -> Result<Seq<Feature>, GeoFault>
     ensures ok { IfOk result (IsMap bytes.now) }
-    ensures own_ids { IfOk result HaveOwnIds }
+    ensures different_ids { IfOk result HaveDifferentIds }
     ensures fault { IfErr result (IsMapFault bytes.now) }
+    ensures reads { (features : List Feature) → IsMap bytes.now features → GivesMap result features }
+    ensures not_json { (at : ℕ) → RefusesExactly result (GeoFault.NotJson at) GeoFault.Memory (IsNotJson bytes.now at) }
+    ensures deep { (at : ℕ) → RefusesExactly result (GeoFault.Deep at) GeoFault.Memory (IsDeep bytes.now at) }
+    ensures not_collection { RefusesExactly result GeoFault.NotCollection GeoFault.Memory (IsMapFault bytes.now GeoFault.NotCollection) }
+    ensures not_feature { (k : ℕ) → RefusesExactly result (GeoFault.NotFeature k) GeoFault.Memory (IsMapFault bytes.now (GeoFault.NotFeature k)) }
+    ensures bad_geometry { (k : ℕ) → RefusesExactly result (GeoFault.BadGeometry k) GeoFault.Memory (IsMapFault bytes.now (GeoFault.BadGeometry k)) }
+    ensures out_of_range { (k : ℕ) → RefusesExactly result (GeoFault.OutOfRange k) GeoFault.Memory (IsMapFault bytes.now (GeoFault.OutOfRange k)) }
+    ensures short_ring { (k : ℕ) → RefusesExactly result (GeoFault.ShortRing k) GeoFault.Memory (IsMapFault bytes.now (GeoFault.ShortRing k)) }
 {
     match ml_json::read(alloc, bytes) {
         Ok(json) => read_tree(alloc, &json),
@@ -113,7 +123,7 @@ pub fn read_collection(alloc: Global, bytes: &[u8]) -> Result<Seq<Feature>, GeoF
     }
 }
 
-/// The feature of a tree, which has to have an id.
+// The feature of a tree, which has to have an id.
 fn read_named(alloc: Global, json: &Json) -> Result<Feature, GeoFault>
     requires { IsOrderly (tree_of json.now) }
     ensures { IsRead result (feature 0 (tree_of json.now)) }
@@ -132,6 +142,14 @@ fn read_named(alloc: Global, json: &Json) -> Result<Feature, GeoFault>
 pub fn read_feature(alloc: Global, bytes: &[u8]) -> Result<Feature, GeoFault>
     ensures ok { IfOk result (IsFeature bytes.now) }
     ensures fault { IfErr result (IsFeatureFault bytes.now) }
+    ensures reads { (one : Feature) → IsFeature bytes.now one → GivesFeature result one }
+    ensures not_json { (at : ℕ) → RefusesExactly result (GeoFault.NotJson at) GeoFault.Memory (IsNotJson bytes.now at) }
+    ensures deep { (at : ℕ) → RefusesExactly result (GeoFault.Deep at) GeoFault.Memory (IsDeep bytes.now at) }
+    ensures not_feature { (k : ℕ) → RefusesExactly result (GeoFault.NotFeature k) GeoFault.Memory (IsFeatureFault bytes.now (GeoFault.NotFeature k)) }
+    ensures bad_geometry { (k : ℕ) → RefusesExactly result (GeoFault.BadGeometry k) GeoFault.Memory (IsFeatureFault bytes.now (GeoFault.BadGeometry k)) }
+    ensures out_of_range { (k : ℕ) → RefusesExactly result (GeoFault.OutOfRange k) GeoFault.Memory (IsFeatureFault bytes.now (GeoFault.OutOfRange k)) }
+    ensures short_ring { (k : ℕ) → RefusesExactly result (GeoFault.ShortRing k) GeoFault.Memory (IsFeatureFault bytes.now (GeoFault.ShortRing k)) }
+    ensures no_id { RefusesExactly result GeoFault.NoId GeoFault.Memory (HasNoId bytes.now) }
 {
     match ml_json::read(alloc, bytes) {
         Ok(json) => read_named(alloc, &json),

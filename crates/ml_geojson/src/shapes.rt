@@ -17,7 +17,7 @@ use ml_json::{Json, Pair};
 use ml_ratio::Geometry;
 use std::alloc::Global;
 
-/// A point.
+// A point.
 fn read_point(items: &[Json], k: usize) -> Result<Option<Geometry>, GeoFault>
     ensures shape { Answers some_shape_of result (shape_by k kinds.Point (trees_view items.now)) }
     ensures formed { IfOk result IsSomeGeometry }
@@ -31,7 +31,7 @@ fn read_point(items: &[Json], k: usize) -> Result<Option<Geometry>, GeoFault>
     }
 }
 
-/// Points.
+// Points.
 fn read_points(alloc: Global, items: &[Json], k: usize) -> Result<Option<Geometry>, GeoFault>
     ensures shape { Answers some_shape_of result (shape_by k kinds.MultiPoint (trees_view items.now)) }
     ensures formed { IfOk result IsSomeGeometry }
@@ -43,7 +43,7 @@ fn read_points(alloc: Global, items: &[Json], k: usize) -> Result<Option<Geometr
     }
 }
 
-/// A line.
+// A line.
 fn read_line(alloc: Global, items: &[Json], k: usize) -> Result<Option<Geometry>, GeoFault>
     ensures shape { Answers some_shape_of result (shape_by k kinds.LineString (trees_view items.now)) }
     ensures formed { IfOk result IsSomeGeometry }
@@ -55,7 +55,7 @@ fn read_line(alloc: Global, items: &[Json], k: usize) -> Result<Option<Geometry>
     }
 }
 
-/// Lines.
+// Lines.
 fn read_line_parts(alloc: Global, items: &[Json], k: usize) -> Result<Option<Geometry>, GeoFault>
     ensures shape { Answers some_shape_of result (shape_by k kinds.MultiLineString (trees_view items.now)) }
     ensures formed { IfOk result IsSomeGeometry }
@@ -67,7 +67,7 @@ fn read_line_parts(alloc: Global, items: &[Json], k: usize) -> Result<Option<Geo
     }
 }
 
-/// A polygon.
+// A polygon.
 fn read_polygon(alloc: Global, items: &[Json], k: usize) -> Result<Option<Geometry>, GeoFault>
     ensures shape { Answers some_shape_of result (shape_by k kinds.Polygon (trees_view items.now)) }
     ensures formed { IfOk result IsSomeGeometry }
@@ -79,7 +79,7 @@ fn read_polygon(alloc: Global, items: &[Json], k: usize) -> Result<Option<Geomet
     }
 }
 
-/// Polygons.
+// Polygons.
 fn read_polygon_parts(alloc: Global, items: &[Json], k: usize) -> Result<Option<Geometry>, GeoFault>
     ensures shape { Answers some_shape_of result (shape_by k kinds.MultiPolygon (trees_view items.now)) }
     ensures formed { IfOk result IsSomeGeometry }
@@ -91,7 +91,7 @@ fn read_polygon_parts(alloc: Global, items: &[Json], k: usize) -> Result<Option<
     }
 }
 
-/// The shape of a kind that coordinates make.
+// The shape of a kind that coordinates make.
 fn read_by(
     alloc: Global,
     kind: Kind,
@@ -111,7 +111,7 @@ fn read_by(
     }
 }
 
-/// The shape of a kind; the kind has to be known, and the coordinates a list.
+// The shape of a kind; the kind has to be known, and the coordinates a list.
 fn read_kind(
     alloc: Global,
     kind: Option<Kind>,
@@ -127,7 +127,7 @@ fn read_kind(
     }
 }
 
-/// The shape of a map with a type. The content of a GeometryCollection is not looked at.
+// The shape of a map with a type. The content of a GeometryCollection is not looked at.
 fn read_typed(alloc: Global, pairs: &[Pair], k: usize) -> Result<Option<Geometry>, GeoFault>
     ensures shape { Answers some_shape_of result (typed_shape k (pairs_view pairs.now)) }
     ensures formed { IfOk result IsSomeGeometry }

@@ -8,7 +8,7 @@ use ml_json::{Json, Pair, write_e7};
 use ml_ratio::{Feature, Geometry, Pos, Prop, Scalar, Seq, Text};
 use std::alloc::{AllocError, Global};
 
-/// A position: longitude and latitude, each with seven decimals.
+// A position: longitude and latitude, each with seven decimals.
 fn position_value(alloc: Global, position: &Pos) -> Result<Json, AllocError>
     ensures { IfOk result (λ value. tree_of value ≡ place_tree (place_of position.now)) }
 {
@@ -18,7 +18,7 @@ fn position_value(alloc: Global, position: &Pos) -> Result<Json, AllocError>
     Ok(Json::List(items))
 }
 
-/// A line or ring.
+// A line or ring.
 fn line_value(alloc: Global, line: &[Pos]) -> Result<Json, AllocError>
     ensures { IfOk result (λ value. tree_of value ≡ line_tree (places_of line.now)) }
 {
@@ -29,7 +29,7 @@ fn line_value(alloc: Global, line: &[Pos]) -> Result<Json, AllocError>
     Ok(Json::List(items))
 }
 
-/// Lines or rings.
+// Lines or rings.
 fn lines_value(alloc: Global, lines: &[Seq<Pos>]) -> Result<Json, AllocError>
     ensures { IfOk result (λ value. tree_of value ≡ lines_tree (lines_of lines.now)) }
 {
@@ -40,7 +40,7 @@ fn lines_value(alloc: Global, lines: &[Seq<Pos>]) -> Result<Json, AllocError>
     Ok(Json::List(items))
 }
 
-/// Polygons.
+// Polygons.
 fn polygons_value(alloc: Global, parts: &[Seq<Seq<Pos>>]) -> Result<Json, AllocError>
     ensures { IfOk result (λ value. tree_of value ≡ list_tree lines_tree (polygons_of parts.now)) }
 {
@@ -51,7 +51,7 @@ fn polygons_value(alloc: Global, parts: &[Seq<Seq<Pos>>]) -> Result<Json, AllocE
     Ok(Json::List(items))
 }
 
-/// Adds a member at the end.
+// Adds a member at the end.
 fn push_member(
     alloc: Global,
     pairs: &mut Vec<Pair>,
@@ -65,7 +65,7 @@ fn push_member(
     Ok(())
 }
 
-/// A geometry of this type.
+// A geometry of this type.
 fn typed_value(alloc: Global, kind: &str, coordinates: Json) -> Result<Json, AllocError>
     ensures { IfOk result (λ value. tree_of value ≡ typed_tree kind.now (tree_of coordinates)) }
 {
@@ -75,7 +75,7 @@ fn typed_value(alloc: Global, kind: &str, coordinates: Json) -> Result<Json, All
     Ok(Json::Map(pairs))
 }
 
-/// A geometry.
+// A geometry.
 fn shape_value(alloc: Global, shape: &Geometry) -> Result<Json, AllocError>
     ensures { IfOk result (λ value. tree_of value ≡ shape_tree (shape_of shape.now)) }
 {
@@ -107,7 +107,7 @@ fn shape_value(alloc: Global, shape: &Geometry) -> Result<Json, AllocError>
     }
 }
 
-/// A geometry, or null.
+// A geometry, or null.
 fn geometry_value(alloc: Global, geometry: &Option<Geometry>) -> Result<Json, AllocError>
     ensures { IfOk result (λ value. tree_of value ≡ geometry_tree (some_shape_of geometry.now)) }
 {
@@ -117,7 +117,7 @@ fn geometry_value(alloc: Global, geometry: &Option<Geometry>) -> Result<Json, Al
     }
 }
 
-/// The value of a property.
+// The value of a property.
 fn scalar_value(value: &Scalar) -> Result<Json, AllocError>
     ensures { IfOk result (λ json. tree_of json ≡ scalar_tree value.now) }
 {
@@ -129,7 +129,7 @@ fn scalar_value(value: &Scalar) -> Result<Json, AllocError>
     })
 }
 
-/// Properties as the members of a map.
+// Properties as the members of a map.
 fn props_value(alloc: Global, props: &[Prop]) -> Result<Vec<Pair>, AllocError>
     ensures { IfOk result (λ pairs. mapped pair_of pairs.items ≡ mapped prop_pair props.now) }
 {
@@ -165,7 +165,7 @@ pub fn feature_value(alloc: Global, feature: &Feature) -> Result<Json, AllocErro
     Ok(Json::Map(pairs))
 }
 
-/// The features of a collection.
+// The features of a collection.
 fn items_value(alloc: Global, features: &[Feature]) -> Result<Json, AllocError>
     ensures { IfOk result (λ value. tree_of value ≡ list_tree feature_tree features.now) }
 {

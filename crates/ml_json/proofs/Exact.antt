@@ -5,7 +5,8 @@ use Rattle.std.proofs.lemmas.Bool.{cases_lt}
 use Rattle.ml_json.specs.Tree.{Tree}
 use Rattle.ml_json.specs.Grammar.{IsGood, IsPrefix}
 use Rattle.ml_json.specs.Depth.{depth}
-use Rattle.ml_json.specs.Answer.{IsText, IsNotJson, IsDeep, Answers, GivesTree, RefusesExactly}
+use Rattle.ml_json.specs.Answer.{IsText, IsNotJson, IsDeep, Refuses, Answers, GivesTree}
+use Rattle.ml_ratio.specs.Refusal.{RefusesExactly}
 use Rattle.ml_json.specs.View.{tree_of}
 use Rattle.ml_json.specs.declared.value.Json.{Json}
 use Rattle.ml_json.specs.declared.value.JsonFault.{JsonFault}
@@ -76,10 +77,10 @@ deep_only (Err (faults.NotJson b)) bytes h at p = absurd (deep_or_not bytes at b
 deep_only (Err (faults.Deep b)) bytes h at p = inl (ap (λ x. Err (faults.Deep x)) (one_place (IsDeep bytes) b at (deep_later bytes) h p))
 deep_only (Err faults.Memory) bytes h at p = inr refl
 
-pub not_json_exactly : (result : Result Json JsonFault) (bytes : List ℕ) → Answers result bytes → (at : ℕ) → RefusesExactly result (faults.NotJson at) (IsNotJson bytes at)
+pub not_json_exactly : (result : Result Json JsonFault) (bytes : List ℕ) → Answers result bytes → (at : ℕ) → RefusesExactly result (faults.NotJson at) faults.Memory (IsNotJson bytes at)
 not_json_exactly result bytes h at = ((λ e. subst (λ r. Answers r bytes) e h), not_json_only result bytes h at)
 
-pub deep_exactly : (result : Result Json JsonFault) (bytes : List ℕ) → Answers result bytes → (at : ℕ) → RefusesExactly result (faults.Deep at) (IsDeep bytes at)
+pub deep_exactly : (result : Result Json JsonFault) (bytes : List ℕ) → Answers result bytes → (at : ℕ) → RefusesExactly result (faults.Deep at) faults.Memory (IsDeep bytes at)
 deep_exactly result bytes h at = ((λ e. subst (λ r. Answers r bytes) e h), deep_only result bytes h at)
 
 pub ok_text : (result : Result Json JsonFault) (bytes : List ℕ) → Answers result bytes → IfOk result (λ v. IsText bytes (tree_of v))
@@ -89,3 +90,9 @@ ok_text (Err e) bytes h = tt
 pub ok_writable : (result : Result Json JsonFault) (bytes : List ℕ) → Answers result bytes → IfOk result (λ v. IsWritable (tree_of v))
 ok_writable (Ok v) bytes h = text_writable bytes (tree_of v) h
 ok_writable (Err e) bytes h = tt
+
+-- a text of a tree is refused for want of memory alone
+pub text_or_fault : (bytes : List ℕ) (tree : Tree) (fault : JsonFault) → IsText bytes tree → Refuses fault bytes → fault ≡ faults.Memory
+text_or_fault bytes tree (faults.NotJson at) accepted refused = absurd (text_or_not bytes tree at accepted refused)
+text_or_fault bytes tree (faults.Deep at) accepted refused = absurd (text_or_deep bytes tree at accepted refused)
+text_or_fault bytes tree faults.Memory accepted refused = refl

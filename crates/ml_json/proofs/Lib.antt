@@ -1,30 +1,30 @@
-pub mod Runs
-pub mod TokenRuns
-pub mod StringRuns
-pub mod ValueRuns
-pub mod Remainders
-pub mod RunsRead
-pub mod Completions
-pub mod DepthRuns
-pub mod FrameLemmas
-pub mod ViewLemmas
-pub mod StepLemmas
-pub mod Utf8Table
-pub mod PartialLemmas
-pub mod PutLemmas
-pub mod NumberLemmas
-pub mod Quiet
-pub mod Places
-pub mod EndLemmas
-pub mod KnownNumbers
-pub mod Exact
-pub mod Cutting
-pub mod Scaling
-pub mod FixedLemmas
-pub mod EncodeTable
-pub mod SortedPairs
-pub mod CanonicalStrings
-pub mod CanonicalReads
-pub mod CanonicalDepth
-pub mod CanonicalText
-pub mod ReadWritable
+mod Runs
+mod TokenRuns
+mod StringRuns
+mod ValueRuns
+mod Remainders
+mod RunsRead
+mod Completions
+mod DepthRuns
+mod FrameLemmas
+mod ViewLemmas
+mod StepLemmas
+mod Utf8Table
+mod PartialLemmas
+mod PutLemmas
+mod NumberLemmas
+mod Quiet
+mod Places
+mod EndLemmas
+mod KnownNumbers
+mod Exact
+mod Cutting
+mod Scaling
+mod FixedLemmas
+mod EncodeTable
+mod SortedPairs
+mod CanonicalStrings
+mod CanonicalReads
+mod CanonicalDepth
+mod CanonicalText
+mod ReadWritable

@@ -44,7 +44,3 @@ GivesTree (Ok v) tree = tree_of v ≡ tree
 GivesTree (Err (faults.NotJson at)) tree = ⊥
 GivesTree (Err (faults.Deep at)) tree = ⊥
 GivesTree (Err faults.Memory) tree = Unit {0}
-
--- the refusal comes only where the fact holds, and where it holds comes this refusal or want of memory
-abbrev pub RefusesExactly : Result Json JsonFault → JsonFault → Type 0 → Type 0
-RefusesExactly result fault Fact = (result ≡ Err fault → Fact) × (Fact → (result ≡ Err fault) ⊎ (result ≡ Err faults.Memory))

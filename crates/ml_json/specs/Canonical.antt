@@ -1,5 +1,5 @@
 -- The canonical text of a tree: no white space, strings with as few escapes as can be, numbers as their texts.
-use Rattle.std.specs.Prelude.{◌≡◌, ℕ, ◌+◌, ◌/◌, ◌%◌, ◌≤◌, List, [], ◌∷◌, ◌++◌, true, false, cond, nat_lt, ◌==◌, max}
+use Rattle.std.specs.Prelude.{◌≡◌, ℕ, ◌+◌, ◌/◌, ◌%◌, ◌≤◌, List, [], ◌∷◌, ◌++◌, true, false, nat_lt, ◌==◌, max, if◌then◌else◌}
 use Rattle.std.specs.Ordering.{nat_cmp}
 use Rattle.std.specs.Cmp.Lexicographic.{slice_cmp}
 use Rattle.std.specs.Str.{IsUtf8}
@@ -9,13 +9,19 @@ use Rattle.ml_ratio.specs.JsonNumber.{IsNumber}
 
 -- a hexadecimal digit, in lower case
 abbrev pub hex_byte : ℕ → ℕ
-hex_byte d = cond (nat_lt d 10) (48 + d) (87 + d)
+hex_byte d = if nat_lt d 10 then 48 + d else (87 + d)
 
 -- a byte of a string as it is written, and what follows
 abbrev pub byte_on : ℕ → List ℕ → List ℕ
 byte_on b r =
-    cond (b == 34) (92 ∷ 34 ∷ r) (cond (b == 92) (92 ∷ 92 ∷ r) (cond (b == 8) (92 ∷ 98 ∷ r) (cond (b == 9) (92 ∷ 116 ∷ r) (cond (b == 10) (92 ∷ 110 ∷ r)
-    (cond (b == 12) (92 ∷ 102 ∷ r) (cond (b == 13) (92 ∷ 114 ∷ r) (cond (nat_lt b 32) (92 ∷ 117 ∷ 48 ∷ 48 ∷ hex_byte (b / 16) ∷ hex_byte (b % 16) ∷ r) (b ∷ r))))))))
+    if b == 34 then 92 ∷ 34 ∷ r
+    else (if b == 92 then 92 ∷ 92 ∷ r
+    else (if b == 8 then 92 ∷ 98 ∷ r
+    else (if b == 9 then 92 ∷ 116 ∷ r
+    else (if b == 10 then 92 ∷ 110 ∷ r
+    else (if b == 12 then 92 ∷ 102 ∷ r
+    else (if b == 13 then 92 ∷ 114 ∷ r
+    else (if nat_lt b 32 then 92 ∷ 117 ∷ 48 ∷ 48 ∷ hex_byte (b / 16) ∷ hex_byte (b % 16) ∷ r else (b ∷ r))))))))
 
 -- a string's bytes as they are written, and what follows
 abbrev pub bytes_on : List ℕ → List ℕ → List ℕ

@@ -1,6 +1,6 @@
 -- Characters of more than one byte in UTF-8, by the table of RFC 3629.
 use Rattle.ml_ratio.specs.JsonNumber.{is_between}
-use Rattle.std.specs.Prelude.{◌≡◌, ℕ, List, [], ◌∷◌, true, cond, ◌==◌, Option, Some, None}
+use Rattle.std.specs.Prelude.{◌≡◌, ℕ, List, [], ◌∷◌, true, ◌==◌, Option, Some, None, if◌then◌else◌}
 
 -- what a character still wants: so many bytes, of which the first behind E0, ED, F0 and F4 has narrower bounds
 pub data Tail : Type 0 where
@@ -14,8 +14,14 @@ pub data Tail : Type 0 where
 
 -- what follows a first byte
 abbrev pub lead : ℕ → Option Tail
-lead b = cond (is_between 194 223 b) (Some one) (cond (b == 224) (Some after_e0) (cond (b == 237) (Some after_ed) (cond (is_between 225 239 b) (Some two)
-    (cond (b == 240) (Some after_f0) (cond (b == 244) (Some after_f4) (cond (is_between 241 243 b) (Some three) None))))))
+lead b =
+    if is_between 194 223 b then Some one
+    else (if b == 224 then Some after_e0
+    else (if b == 237 then Some after_ed
+    else (if is_between 225 239 b then Some two
+    else (if b == 240 then Some after_f0
+    else (if b == 244 then Some after_f4
+    else (if is_between 241 243 b then Some three else None))))))
 
 -- the least next byte
 abbrev pub low : Tail → ℕ

@@ -1,5 +1,5 @@
 -- The decimal fraction that a number's text writes, of any size, and the numbers of a map that are read from it.
-use Rattle.std.specs.Prelude.{ℕ, ◌+◌, ◌*◌, ◌/◌, ◌^◌, List, [], ◌∷◌, length, Bool, cond, if◌then◌else◌, nat_le, ◌==◌, ◌||◌, min, Option, Some, None, ℤ, pos, neg_ℤ, filter}
+use Rattle.std.specs.Prelude.{ℕ, ◌+◌, ◌*◌, ◌/◌, ◌^◌, List, [], ◌∷◌, length, Bool, if◌then◌else◌, nat_le, ◌==◌, ◌||◌, min, Option, Some, None, ℤ, pos, neg_ℤ, filter}
 use Rattle.std.specs.Str.Parse.{digits_value, starts_with_minus}
 use Rattle.ml_ratio.specs.JsonNumber.{is_digit}
 
@@ -10,12 +10,12 @@ is_either x y b = (b == x) || (b == y)
 -- the bytes before the first one that is one of two
 abbrev pub before : ℕ → ℕ → List ℕ → List ℕ
 before x y [] = []
-before x y (b ∷ bs) = cond (is_either x y b) [] (b ∷ before x y bs)
+before x y (b ∷ bs) = if is_either x y b then [] else (b ∷ before x y bs)
 
 -- the bytes behind the first one that is one of two
 abbrev pub behind : ℕ → ℕ → List ℕ → List ℕ
 behind x y [] = []
-behind x y (b ∷ bs) = cond (is_either x y b) bs (behind x y bs)
+behind x y (b ∷ bs) = if is_either x y b then bs else behind x y bs
 
 -- what stands before the exponent
 abbrev pub mantissa : List ℕ → List ℕ

@@ -1,5 +1,5 @@
 -- How many lists and maps are open behind bytes: brackets and braces outside strings.
-use Rattle.std.specs.Prelude.{ℕ, ◌+◌, ◌-◌, ◌≤◌, List, [], ◌∷◌, take, cond, ◌==◌, ◌||◌}
+use Rattle.std.specs.Prelude.{ℕ, ◌+◌, ◌-◌, ◌≤◌, List, [], ◌∷◌, take, ◌==◌, ◌||◌, if◌then◌else◌}
 
 -- where the next byte stands
 pub data Where : Type 0 where
@@ -13,8 +13,13 @@ Seen = Where × ℕ
 
 -- what one byte changes: a quote, a bracket or a brace
 abbrev pub see : Where → ℕ → ℕ → Seen
-see outside d b = cond (b == 34) (inside, d) (cond ((b == 91) || (b == 123)) (outside, d + 1) (cond ((b == 93) || (b == 125)) (outside, d - 1) (outside, d)))
-see inside d b = cond (b == 34) (outside, d) (cond (b == 92) (behind_backslash, d) (inside, d))
+see outside d b =
+    if b == 34 then (inside, d)
+    else (if (b == 91) || (b == 123) then (outside, d + 1)
+    else (if (b == 93) || (b == 125) then (outside, d - 1) else (outside, d)))
+see inside d b =
+    if b == 34 then (outside, d)
+    else (if b == 92 then (behind_backslash, d) else (inside, d))
 see behind_backslash d b = (inside, d)
 
 -- what bytes change, one after another

@@ -1,3 +1,6 @@
+pub use Rattle.ml_ratio.specs.JsonNumber
+pub use Rattle.ml_ratio.specs.Refusal
+pub use Rattle.ml_ratio.specs.World
 pub mod Tree
 pub mod Characters
 pub mod Strings

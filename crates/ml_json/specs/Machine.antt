@@ -1,5 +1,5 @@
 -- The reader as a machine with a stack, one byte at a time: what its private functions compute. No public clause speaks of it.
-use Rattle.std.specs.Prelude.{ℕ, zero, suc, ◌+◌, ◌*◌, List, [], ◌∷◌, ◌++◌, length, Bool, true, false, cond, nat_lt, ◌==◌, ◌||◌, Option, Some, None}
+use Rattle.std.specs.Prelude.{ℕ, zero, suc, ◌+◌, ◌*◌, List, [], ◌∷◌, ◌++◌, length, Bool, true, false, nat_lt, ◌==◌, ◌||◌, Option, Some, None, if◌then◌else◌}
 use Rattle.ml_json.specs.Tree.{Tree, null, flag, num, str, list, map, Trees, none, more, Pairs, no_pairs, put}
 use Rattle.ml_json.specs.Characters.{Tail, lead, low, high, later}
 use Rattle.ml_ratio.specs.JsonNumber.{is_between, is_digit}
@@ -74,49 +74,62 @@ to m st = Some (m, st)
 -- the first byte of a value
 abbrev pub open_step : List Frame → ℕ → Option State
 open_step st b =
-    cond (b == 34) (to (text as_value None []) st)
-    (cond (b == 91) (to first st)
-    (cond (b == 123) (to first_key st)
-    (cond (b == 45) (to (number minus (45 ∷ [])) st)
-    (cond (b == 48) (to (number nought (48 ∷ [])) st)
-    (cond (is_between 49 57 b) (to (number whole (b ∷ [])) st)
-    (cond (b == 110) (to (word so_n) st)
-    (cond (b == 116) (to (word so_t) st)
-    (cond (b == 102) (to (word so_f) st) None))))))))
+    if b == 34 then to (text as_value None []) st
+    else (if b == 91 then to first st
+    else (if b == 123 then to first_key st
+    else (if b == 45 then to (number minus (45 ∷ [])) st
+    else (if b == 48 then to (number nought (48 ∷ [])) st
+    else (if is_between 49 57 b then to (number whole (b ∷ [])) st
+    else (if b == 110 then to (word so_n) st
+    else (if b == 116 then to (word so_t) st
+    else (if b == 102 then to (word so_f) st else None))))))))
 
 -- a byte where a value is awaited
 abbrev pub value_step : List Frame → ℕ → Option State
-value_step st b = cond (is_space b) (to value st) (open_step st b)
+value_step st b = if is_space b then to value st else open_step st b
 
 -- the first byte of all
 abbrev pub begin_step : List Frame → ℕ → Option State
-begin_step st b = cond (b == 0xEF) (to mark_two st) (value_step st b)
+begin_step st b = if b == 0xEF then to mark_two st else value_step st b
 
 -- a byte behind an opening bracket
 abbrev pub first_step : List Frame → ℕ → Option State
-first_step st b = cond (is_space b) (to first st) (cond (b == 93) (to (after (list none)) st) (open_step (in_list none ∷ st) b))
+first_step st b =
+    if is_space b then to first st
+    else (if b == 93 then to (after (list none)) st else open_step (in_list none ∷ st) b)
 
 -- a byte behind an opening brace
 abbrev pub first_key_step : List Frame → ℕ → Option State
-first_key_step st b = cond (is_space b) (to first_key st) (cond (b == 125) (to (after (map no_pairs)) st) (cond (b == 34) (to (text (as_key no_pairs) None []) st) None))
+first_key_step st b =
+    if is_space b then to first_key st
+    else (if b == 125 then to (after (map no_pairs)) st
+    else (if b == 34 then to (text (as_key no_pairs) None []) st else None))
 
 -- a byte behind a comma in a map
 abbrev pub key_step : Pairs → List Frame → ℕ → Option State
-key_step ps st b = cond (is_space b) (to (key ps) st) (cond (b == 34) (to (text (as_key ps) None []) st) None)
+key_step ps st b =
+    if is_space b then to (key ps) st
+    else (if b == 34 then to (text (as_key ps) None []) st else None)
 
 -- a byte behind a key
 abbrev pub colon_step : Pairs → List ℕ → List Frame → ℕ → Option State
-colon_step ps k st b = cond (is_space b) (to (colon ps k) st) (cond (b == 58) (to value (at_key ps k ∷ st)) None)
+colon_step ps k st b =
+    if is_space b then to (colon ps k) st
+    else (if b == 58 then to value (at_key ps k ∷ st) else None)
 
 -- a byte behind a value that is no white space
 abbrev pub close_step : Tree → List Frame → ℕ → Option State
 close_step v [] b = None
-close_step v (in_list ws ∷ st) b = cond (b == 44) (to value (in_list (snoc ws v) ∷ st)) (cond (b == 93) (to (after (list (snoc ws v))) st) None)
-close_step v (at_key ps k ∷ st) b = cond (b == 44) (to (key (put k v ps)) st) (cond (b == 125) (to (after (map (put k v ps))) st) None)
+close_step v (in_list ws ∷ st) b =
+    if b == 44 then to value (in_list (snoc ws v) ∷ st)
+    else (if b == 93 then to (after (list (snoc ws v))) st else None)
+close_step v (at_key ps k ∷ st) b =
+    if b == 44 then to (key (put k v ps)) st
+    else (if b == 125 then to (after (map (put k v ps))) st else None)
 
 -- a byte behind a value
 abbrev pub after_step : Tree → List Frame → ℕ → Option State
-after_step v st b = cond (is_space b) (to (after v) st) (close_step v st b)
+after_step v st b = if is_space b then to (after v) st else close_step v st b
 
 -- what follows a string
 abbrev pub ended : Purpose → List ℕ → Mode
@@ -135,11 +148,10 @@ lead_step purpose p c st b (Some t) = to (bytes purpose p c t (b ∷ [])) st
 -- a byte within a string
 abbrev pub text_step : Purpose → Option ℕ → List ℕ → List Frame → ℕ → Option State
 text_step purpose p c st b =
-    cond (b == 34) (to (ended purpose (c ++ lone p)) st)
-    (cond (b == 92) (to (escape purpose p c) st)
-    (cond (nat_lt b 32) None
-    (cond (nat_lt b 128) (to (text purpose None (add_char p c (b ∷ []))) st)
-    (lead_step purpose p c st b (lead b)))))
+    if b == 34 then to (ended purpose (c ++ lone p)) st
+    else (if b == 92 then to (escape purpose p c) st
+    else (if nat_lt b 32 then None
+    else (if nat_lt b 128 then to (text purpose None (add_char p c (b ∷ []))) st else lead_step purpose p c st b (lead b))))
 
 -- a byte behind a backslash that stands for a character, or for none
 abbrev pub short_step : Purpose → Option ℕ → List ℕ → List Frame → Option ℕ → Option State
@@ -148,12 +160,14 @@ short_step purpose p c st (Some x) = to (text purpose None (add_char p c (x ∷ 
 
 -- a byte behind a backslash
 abbrev pub escape_step : Purpose → Option ℕ → List ℕ → List Frame → ℕ → Option State
-escape_step purpose p c st b = cond (b == 117) (to (hex purpose p c 3 0) st) (short_step purpose p c st (escaped b))
+escape_step purpose p c st b = if b == 117 then to (hex purpose p c 3 0) st else short_step purpose p c st (escaped b)
 
 -- a unit after what has come
 abbrev pub add_unit : Purpose → Option ℕ → List ℕ → ℕ → Mode
-add_unit purpose None c u = cond (is_high u) (text purpose (Some u) c) (text purpose None (c ++ single u))
-add_unit purpose (Some h) c u = cond (is_high u) (text purpose (Some u) (c ++ replacement)) (cond (is_low u) (text purpose None (c ++ both h u)) (text purpose None (c ++ (replacement ++ single u))))
+add_unit purpose None c u = if is_high u then text purpose (Some u) c else text purpose None (c ++ single u)
+add_unit purpose (Some h) c u =
+    if is_high u then text purpose (Some u) (c ++ replacement)
+    else (if is_low u then text purpose None (c ++ both h u) else text purpose None (c ++ (replacement ++ single u)))
 
 -- what follows a digit of an escape
 abbrev pub hex_to : Purpose → Option ℕ → List ℕ → ℕ → ℕ → Mode
@@ -172,7 +186,7 @@ bytes_to purpose p c (Some t) got = bytes purpose p c t got
 
 -- a byte within a character
 abbrev pub bytes_step : Purpose → Option ℕ → List ℕ → Tail → List ℕ → List Frame → ℕ → Option State
-bytes_step purpose p c t got st b = cond (is_between (low t) (high t) b) (to (bytes_to purpose p c (later t) (got ++ b ∷ [])) st) None
+bytes_step purpose p c t got st b = if is_between (low t) (high t) b then to (bytes_to purpose p c (later t) (got ++ b ∷ [])) st else None
 
 -- the letter of an exponent
 abbrev pub is_letter : ℕ → Bool
@@ -184,14 +198,17 @@ is_sign b = (b == 43) || (b == 45)
 
 -- what has come of a number with one byte more
 abbrev pub go_on : Part → ℕ → Option Part
-go_on minus b = cond (b == 48) (Some nought) (cond (is_between 49 57 b) (Some whole) None)
-go_on nought b = cond (b == 46) (Some dot) (cond (is_letter b) (Some letter) None)
-go_on whole b = cond (is_digit b) (Some whole) (cond (b == 46) (Some dot) (cond (is_letter b) (Some letter) None))
-go_on dot b = cond (is_digit b) (Some digits) None
-go_on digits b = cond (is_digit b) (Some digits) (cond (is_letter b) (Some letter) None)
-go_on letter b = cond (is_digit b) (Some power) (cond (is_sign b) (Some sign) None)
-go_on sign b = cond (is_digit b) (Some power) None
-go_on power b = cond (is_digit b) (Some power) None
+go_on minus b = if b == 48 then Some nought else (if is_between 49 57 b then Some whole else None)
+go_on nought b = if b == 46 then Some dot else (if is_letter b then Some letter else None)
+go_on whole b =
+    if is_digit b then Some whole
+    else (if b == 46 then Some dot
+    else (if is_letter b then Some letter else None))
+go_on dot b = if is_digit b then Some digits else None
+go_on digits b = if is_digit b then Some digits else (if is_letter b then Some letter else None)
+go_on letter b = if is_digit b then Some power else (if is_sign b then Some sign else None)
+go_on sign b = if is_digit b then Some power else None
+go_on power b = if is_digit b then Some power else None
 
 -- whether a number may end there
 abbrev pub may_end : Part → Bool
@@ -207,7 +224,7 @@ may_end power = true
 -- a byte within a number or just behind it
 abbrev pub number_step : Part → List ℕ → List Frame → ℕ → Option Part → Option State
 number_step part s st b (Some q) = to (number q (s ++ b ∷ [])) st
-number_step part s st b None = cond (may_end part) (after_step (num s) st b) None
+number_step part s st b None = if may_end part then after_step (num s) st b else None
 
 -- the byte that a word goes on with
 abbrev pub wanted : Word → ℕ
@@ -237,13 +254,13 @@ grown so_fals = after (flag false)
 
 -- a byte within a word
 abbrev pub word_step : Word → List Frame → ℕ → Option State
-word_step w st b = cond (b == wanted w) (to (grown w) st) None
+word_step w st b = if b == wanted w then to (grown w) st else None
 
 -- any byte
 unfoldable pub step : Mode → List Frame → ℕ → Option State
 step begin st b = begin_step st b
-step mark_two st b = cond (b == 0xBB) (to mark_one st) None
-step mark_one st b = cond (b == 0xBF) (to value st) None
+step mark_two st b = if b == 0xBB then to mark_one st else None
+step mark_one st b = if b == 0xBF then to value st else None
 step value st b = value_step st b
 step first st b = first_step st b
 step first_key st b = first_key_step st b
@@ -260,7 +277,7 @@ step (word w) st b = word_step w st b
 -- the tree, where the bytes may end here
 abbrev pub finish : Mode → List Frame → Option Tree
 finish (after v) [] = Some v
-finish (number part s) [] = cond (may_end part) (Some (num s)) None
+finish (number part s) [] = if may_end part then Some (num s) else None
 finish _ _ = None
 
 -- the same with the map whose key a string is

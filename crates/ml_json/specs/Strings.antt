@@ -1,5 +1,5 @@
 -- A string as it is written, and the text that it stands for.
-use Rattle.std.specs.Prelude.{◌≡◌, ℕ, suc, ◌+◌, ◌-◌, ◌*◌, List, [], ◌∷◌, ◌++◌, Bool, true, false, cond, nat_lt, nat_le, ◌==◌, ◌&&◌, Option, Some, None}
+use Rattle.std.specs.Prelude.{◌≡◌, ℕ, suc, ◌+◌, ◌-◌, ◌*◌, List, [], ◌∷◌, ◌++◌, Bool, true, false, nat_lt, nat_le, ◌==◌, ◌&&◌, Option, Some, None, if◌then◌else◌}
 use Rattle.std.specs.Char.{encode_utf8}
 use Rattle.ml_json.specs.Characters.{Tail, lead, Follows}
 use Rattle.ml_ratio.specs.JsonNumber.{is_between, is_digit}
@@ -11,16 +11,27 @@ pub data Piece : Type 0 where
 
 -- the character that a byte behind a backslash stands for
 abbrev pub escaped : ℕ → Option ℕ
-escaped b = cond (b == 34) (Some 34) (cond (b == 92) (Some 92) (cond (b == 47) (Some 47) (cond (b == 98) (Some 8)
-    (cond (b == 102) (Some 12) (cond (b == 110) (Some 10) (cond (b == 114) (Some 13) (cond (b == 116) (Some 9) None)))))))
+escaped b =
+    if b == 34 then Some 34
+    else (if b == 92 then Some 92
+    else (if b == 47 then Some 47
+    else (if b == 98 then Some 8
+    else (if b == 102 then Some 12
+    else (if b == 110 then Some 10
+    else (if b == 114 then Some 13
+    else (if b == 116 then Some 9 else None)))))))
 
 -- the value of a hexadecimal digit
 abbrev pub hex_digit : ℕ → Option ℕ
-hex_digit b = cond (is_digit b) (Some (b - 48)) (cond (is_between 65 70 b) (Some (b - 55)) (cond (is_between 97 102 b) (Some (b - 87)) None))
+hex_digit b =
+    if is_digit b then Some (b - 48)
+    else (if is_between 65 70 b then Some (b - 55)
+    else (if is_between 97 102 b then Some (b - 87) else None))
 
 -- whether an ASCII byte stands for itself in a string: no control character, no quote, no backslash
 abbrev pub is_plain : ℕ → Bool
-is_plain b = nat_le 32 b && (nat_lt b 128 && (cond (b == 34) false (cond (b == 92) false true)))
+is_plain b = nat_le 32 b && (nat_lt b 128 && (if b == 34 then false
+    else (if b == 92 then false else true)))
 
 -- so many more hexadecimal digits behind the number so far make the unit
 pub data Hex : ℕ → ℕ → ℕ → List ℕ → List ℕ → Type 0 where
@@ -49,7 +60,7 @@ replacement = 0xEF ∷ 0xBF ∷ 0xBD ∷ []
 
 -- the text of a unit that is no first half
 abbrev pub single : ℕ → List ℕ
-single u = cond (is_low u) replacement (encode_utf8 u)
+single u = if is_low u then replacement else encode_utf8 u
 
 -- the character of a surrogate pair
 abbrev pub both : ℕ → ℕ → List ℕ
@@ -64,5 +75,7 @@ lone (Some h) = replacement
 abbrev pub text_of : Option ℕ → List Piece → List ℕ
 text_of p [] = lone p
 text_of p (char bs ∷ us) = lone p ++ (bs ++ text_of None us)
-text_of None (unit u ∷ us) = cond (is_high u) (text_of (Some u) us) (single u ++ text_of None us)
-text_of (Some h) (unit u ∷ us) = cond (is_high u) (replacement ++ text_of (Some u) us) (cond (is_low u) (both h u ++ text_of None us) (replacement ++ (single u ++ text_of None us)))
+text_of None (unit u ∷ us) = if is_high u then text_of (Some u) us else (single u ++ text_of None us)
+text_of (Some h) (unit u ∷ us) =
+    if is_high u then replacement ++ text_of (Some u) us
+    else (if is_low u then both h u ++ text_of None us else (replacement ++ (single u ++ text_of None us)))

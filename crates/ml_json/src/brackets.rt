@@ -34,7 +34,7 @@ pub fn is_space(byte: u8) -> bool
     byte == b' ' || byte == b'\t' || byte == b'\n' || byte == b'\r'
 }
 
-/// The mode behind the first byte of a value.
+// The mode behind the first byte of a value.
 #[tactic(auto, using(crate::proofs::FrameLemmas::frames_length), unfolding(crate::specs::Machine::open_of))]
 fn open_value(alloc: Global, frames: &Vec<Frame>, byte: u8) -> Result<Mode, Stop>
     requires { length frames.now.items ≤ 64 }

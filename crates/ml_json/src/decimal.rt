@@ -7,10 +7,10 @@ ghost use Rattle.ml_ratio.specs.World.{IsInWorld};
 
 use ml_ratio::Text;
 
-/// The greatest size of a world coordinate, in units of 10^-7.
+// The greatest size of a world coordinate, in units of 10^-7.
 const FARTHEST: u128 = 2_000_000_000;
 
-/// 2^53, the greatest whole part that is told apart.
+// 2^53, the greatest whole part that is told apart.
 const GREATEST_WHOLE: u128 = 9_007_199_254_740_992;
 
 /// The value of a JSON number's text times 10^7, rounded to the nearest whole number, a half away from
@@ -39,7 +39,7 @@ pub fn whole_part(num: &Text) -> u64
     scaled(text, 0, GREATEST_WHOLE) as u64
 }
 
-/// The size with a sign.
+// The size with a sign.
 fn with_sign(minus: bool, size: u64) -> i64
     requires { size ≤ 2000000000 }
     ensures { result ≡ signed minus size }
@@ -47,11 +47,11 @@ fn with_sign(minus: bool, size: u64) -> i64
     if minus { -(size as i64) } else { size as i64 }
 }
 
-/// The value's size times 10^`power` without its fraction, or `most` where that is less.
-///
-/// No power of ten is built: of the digits before the exponent those are read that stand before the
-/// cut, and zeros are put behind them only until `most` is reached. An exponent is read up to a bound
-/// that already moves every digit of the text past `most` or below the cut.
+// The value's size times 10^`power` without its fraction, or `most` where that is less.
+//
+// No power of ten is built: of the digits before the exponent those are read that stand before the
+// cut, and zeros are put behind them only until `most` is reached. An exponent is read up to a bound
+// that already moves every digit of the text past `most` or below the cut.
 fn scaled(text: &[u8], power: u128, most: u128) -> u128
     requires power { power ≤ 8 }
     requires most { most < 10 ^ 18 }
@@ -74,7 +74,7 @@ fn scaled(text: &[u8], power: u128, most: u128) -> u128
     )
 }
 
-/// Whether the text begins with a minus.
+// Whether the text begins with a minus.
 fn is_negative(text: &[u8]) -> bool
     ensures { result ≡ starts_with_minus text.now }
 {
@@ -84,14 +84,14 @@ fn is_negative(text: &[u8]) -> bool
     }
 }
 
-/// Whether the byte is a decimal digit.
+// Whether the byte is a decimal digit.
 fn is_digit(byte: u8) -> bool
     ensures { result ≡ spec_is_digit byte }
 {
     b'0' <= byte && byte <= b'9'
 }
 
-/// The place of the first byte that is one of two, or the length.
+// The place of the first byte that is one of two, or the length.
 fn place_of(text: &[u8], first: u8, second: u8) -> usize
     ensures within { result ≤ length text.now }
     ensures before { take result text.now ≡ spec_before first second text.now }
@@ -105,7 +105,7 @@ fn place_of(text: &[u8], first: u8, second: u8) -> usize
     text.len()
 }
 
-/// The bytes before the first one that is one of two.
+// The bytes before the first one that is one of two.
 fn before(text: &[u8], first: u8, second: u8) -> &[u8]
     ensures { result.now ≡ spec_before first second text.now }
 {
@@ -113,7 +113,7 @@ fn before(text: &[u8], first: u8, second: u8) -> &[u8]
     front
 }
 
-/// The bytes behind the first one that is one of two.
+// The bytes behind the first one that is one of two.
 fn behind(text: &[u8], first: u8, second: u8) -> &[u8]
     ensures { result.now ≡ spec_behind first second text.now }
 {
@@ -124,14 +124,14 @@ fn behind(text: &[u8], first: u8, second: u8) -> &[u8]
     &text[at + 1..]
 }
 
-/// How many of the bytes are decimal digits.
+// How many of the bytes are decimal digits.
 fn digit_count(text: &[u8]) -> usize
     ensures { result ≡ length (digits_in text.now) }
 {
     text.iter().filter(|byte| is_digit(**byte)).count()
 }
 
-/// The number that the first `kept` digits among the bytes write, or `most` where that is less.
+// The number that the first `kept` digits among the bytes write, or `most` where that is less.
 fn leading(text: &[u8], kept: u128, most: u128) -> u128
     requires { most < 2 ^ 70 }
     ensures { result ≡ min (digits_value 10 (take kept (digits_in text.now))) most }
@@ -150,7 +150,7 @@ fn leading(text: &[u8], kept: u128, most: u128) -> u128
     number
 }
 
-/// The number with zeros put behind it, or `most` where that is less.
+// The number with zeros put behind it, or `most` where that is less.
 fn grown(front: u128, zeros: u128, most: u128) -> u128
     requires within { front ≤ most }
     requires most { most < 2 ^ 70 }

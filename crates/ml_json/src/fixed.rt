@@ -27,7 +27,7 @@ pub fn write_e7(alloc: Global, v: i64) -> Result<Text, AllocError>
     Ok(Text::of_string(text))
 }
 
-/// Puts the last seven decimal digits behind the text.
+// Puts the last seven decimal digits behind the text.
 fn push_last_digits(text: &mut String, number: u64) -> Result<(), AllocError>
     ensures { OnOk result (string_bytes text.new ≡ string_bytes text.old ++ last_digits 7 number) }
 {
@@ -40,7 +40,7 @@ fn push_last_digits(text: &mut String, number: u64) -> Result<(), AllocError>
     push_digit(text, number)
 }
 
-/// Puts the last decimal digit behind the text.
+// Puts the last decimal digit behind the text.
 fn push_digit(text: &mut String, number: u64) -> Result<(), AllocError>
     ensures { OnOk result (string_bytes text.new ≡ string_bytes text.old ++ (48 + number % 10) ∷ []) }
 {

@@ -5,7 +5,8 @@
 //! - [`reader`]: bytes to a value;
 //! - [`writer`]: a value to its canonical text;
 //! - [`decimal`]: what a number's text is worth, as a coordinate and as a whole part;
-//! - [`fixed`]: coordinates as numbers' texts.
+//! - [`fixed`]: coordinates as numbers' texts;
+//! - [`laws`]: laws over the definitions alone.
 //!
 //! The reader takes one byte at a time: its [`state`], one [`machine`] step, [`brackets`] of lists and
 //! maps, [`members`] of maps, [`tokens`], [`strings`] with their 16-bit [`units`] and [`utf8`]
@@ -15,14 +16,13 @@
 mod brackets;
 pub mod decimal;
 pub mod fixed;
+pub mod laws;
 mod machine;
 mod members;
 pub mod reader;
 mod state;
 mod strings;
 mod tail;
-#[cfg(test)]
-mod tests;
 mod tokens;
 mod units;
 mod utf8;

@@ -1,11 +1,12 @@
 //! Bytes to a value.
 ghost use Rattle.std.specs.Prelude.{◌≡◌, ℕ, IfOk, option_map};
+ghost use Rattle.ml_ratio.specs.Refusal.{RefusesExactly};
 ghost use Rattle.ml_json.specs.Tree.{Tree};
 ghost use Rattle.ml_json.specs.Machine.{finish as spec_finish};
 ghost use Rattle.ml_json.specs.State.{mode_of, frames_of};
 ghost use Rattle.ml_json.specs.View.{tree_of};
 ghost use Rattle.ml_json.specs.Canonical.{IsWritable};
-ghost use Rattle.ml_json.specs.Answer.{Answers, IsText, IsNotJson, IsDeep, GivesTree, RefusesExactly};
+ghost use Rattle.ml_json.specs.Answer.{Answers, IsText, IsNotJson, IsDeep, GivesTree};
 
 use crate::machine::step;
 use crate::state::{Frame, Mode, Stop};
@@ -14,7 +15,7 @@ use crate::value::{Json, JsonFault};
 use ml_ratio::Text;
 use std::alloc::Global;
 
-/// The value, where the bytes may end here.
+// The value, where the bytes may end here.
 fn finish(frames: Vec<Frame>, mode: Mode) -> Option<Json>
     ensures { option_map tree_of result ≡ spec_finish (mode_of mode) (frames_of frames.items) }
 {
@@ -45,13 +46,13 @@ pub fn read(alloc: Global, bytes: &[u8]) -> Result<Json, JsonFault>
     ensures ok { IfOk result (λ value. IsText bytes.now (tree_of value)) }
     ensures writable { IfOk result (λ value. IsWritable (tree_of value)) }
     ensures text { (tree : Tree) → IsText bytes.now tree → GivesTree result tree }
-    ensures not_json { (at : ℕ) → RefusesExactly result (JsonFault.NotJson at) (IsNotJson bytes.now at) }
-    ensures deep { (at : ℕ) → RefusesExactly result (JsonFault.Deep at) (IsDeep bytes.now at) }
+    ensures not_json { (at : ℕ) → RefusesExactly result (JsonFault.NotJson at) JsonFault.Memory (IsNotJson bytes.now at) }
+    ensures deep { (at : ℕ) → RefusesExactly result (JsonFault.Deep at) JsonFault.Memory (IsDeep bytes.now at) }
 {
     scan(alloc, bytes)
 }
 
-/// Takes the bytes one by one.
+// Takes the bytes one by one.
 fn scan(alloc: Global, bytes: &[u8]) -> Result<Json, JsonFault>
     ensures { Answers result bytes.now }
 {

@@ -29,7 +29,7 @@ pub struct Pair {
 }
 
 /// Why bytes are refused. Places count bytes from the first one, which is at 0.
-#[derive(Debug, Drop, Error)]
+#[derive(Clone, Copy, Debug, PartialEq, Eq, Error)]
 pub enum JsonFault {
     /// No JSON text begins with the bytes up to and including this place, or the bytes end here too early.
     #[error("not JSON at byte {0}")]

@@ -27,7 +27,7 @@ pub fn write(alloc: Global, value: &Json) -> Result<Seq<u8>, AllocError>
     Ok(Seq::of_vec(out))
 }
 
-/// Puts a value's text behind what was written.
+// Puts a value's text behind what was written.
 #[cycle(writing)]
 fn put_value(out: &mut Vec<u8>, value: &Json) -> Result<(), AllocError>
     ensures text { OnOk result ((r : List ℕ) → out.new.items ++ r ≡ out.old.items ++ tree_on (tree_of value.now) r) }
@@ -44,7 +44,7 @@ fn put_value(out: &mut Vec<u8>, value: &Json) -> Result<(), AllocError>
     }
 }
 
-/// Puts a list behind what was written.
+// Puts a list behind what was written.
 #[cycle(writing)]
 fn put_items(out: &mut Vec<u8>, items: &[Json]) -> Result<(), AllocError>
     ensures text { OnOk result ((r : List ℕ) → out.new.items ++ r ≡ out.old.items ++ 91 ∷ items_on (trees_view items.now) r) }
@@ -65,7 +65,7 @@ fn put_items(out: &mut Vec<u8>, items: &[Json]) -> Result<(), AllocError>
     }
 }
 
-/// Puts a map behind what was written.
+// Puts a map behind what was written.
 #[cycle(writing)]
 fn put_members(out: &mut Vec<u8>, pairs: &[Pair]) -> Result<(), AllocError>
     ensures text { OnOk result ((r : List ℕ) → out.new.items ++ r ≡ out.old.items ++ 123 ∷ members_on (pairs_view pairs.now) r) }
@@ -86,7 +86,7 @@ fn put_members(out: &mut Vec<u8>, pairs: &[Pair]) -> Result<(), AllocError>
     }
 }
 
-/// Puts a key, a colon and a value behind what was written.
+// Puts a key, a colon and a value behind what was written.
 #[cycle(writing)]
 fn put_member(out: &mut Vec<u8>, pair: &Pair) -> Result<(), AllocError>
     ensures text { OnOk result ((r : List ℕ) → out.new.items ++ r ≡ out.old.items ++ string_on (pair_of pair.now).0 (58 ∷ tree_on (pair_of pair.now).1 r)) }
@@ -97,7 +97,7 @@ fn put_member(out: &mut Vec<u8>, pair: &Pair) -> Result<(), AllocError>
     put_value(out, &pair.value)
 }
 
-/// Puts a string between quotes behind what was written.
+// Puts a string between quotes behind what was written.
 fn put_string(out: &mut Vec<u8>, text: &Text) -> Result<(), AllocError>
     ensures text { OnOk result ((r : List ℕ) → out.new.items ++ r ≡ out.old.items ++ string_on text.now r) }
     ensures utf8 { IsUtf8 text.now }
@@ -111,7 +111,7 @@ fn put_string(out: &mut Vec<u8>, text: &Text) -> Result<(), AllocError>
     Ok(())
 }
 
-/// Puts a byte of a string behind what was written, escaped where it has to be.
+// Puts a byte of a string behind what was written, escaped where it has to be.
 fn put_byte(out: &mut Vec<u8>, byte: u8) -> Result<(), AllocError>
     ensures { OnOk result ((r : List ℕ) → out.new.items ++ r ≡ out.old.items ++ byte_on byte r) }
 {
@@ -135,7 +135,7 @@ fn put_byte(out: &mut Vec<u8>, byte: u8) -> Result<(), AllocError>
     }
 }
 
-/// A hexadecimal digit in lower case.
+// A hexadecimal digit in lower case.
 fn hex_digit_of(value: u8) -> u8
     requires { value < 16 }
     ensures { result ≡ hex_byte value }

@@ -1,0 +1,54 @@
+//! Laws over the definitions alone: what is accepted is not refused and is read in one way, and what
+//! is written reads back.
+ghost use Rattle.std.specs.Prelude.{◌≡◌, ℕ, List, map as mapped, Ok};
+ghost use Rattle.ml_json.specs.Canonical.{settled, IsPrintable};
+ghost use Rattle.ml_ratio.specs.declared.feature.Feature.{Feature};
+ghost use Rattle.ml_geojson.specs.Collection.{own_parts, feature, collection};
+ghost use Rattle.ml_geojson.specs.Map.{IsMap, IsMapFault, IsFeature, IsFeatureFault, IsSameFeature, AreSameFeatures};
+ghost use Rattle.ml_geojson.specs.Text.{feature_tree, collection_tree};
+ghost use Rattle.ml_geojson.specs.declared.fault.GeoFault.{GeoFault};
+
+use ml_json::laws;
+
+/// A map file is refused for want of memory alone.
+pub fn map_or_fault()
+    ensures { (bytes : List ℕ) (features : List Feature) (fault : GeoFault) → IsMap bytes features → IsMapFault bytes fault → fault ≡ GeoFault.Memory }
+{
+    laws::one_tree();
+    laws::text_or_fault();
+}
+
+/// A feature with an id is refused for want of memory alone.
+pub fn feature_or_fault()
+    ensures { (bytes : List ℕ) (one : Feature) (fault : GeoFault) → IsFeature bytes one → IsFeatureFault bytes fault → fault ≡ GeoFault.Memory }
+{
+    laws::one_tree();
+    laws::text_or_fault();
+}
+
+/// Bytes are a map file of the same features only.
+pub fn one_map()
+    ensures { (bytes : List ℕ) (features others : List Feature) → IsMap bytes features → IsMap bytes others → AreSameFeatures features others }
+{
+    laws::one_tree();
+}
+
+/// Bytes are one feature only.
+pub fn one_feature()
+    ensures { (bytes : List ℕ) (one other : Feature) → IsFeature bytes one → IsFeature bytes other → IsSameFeature one other }
+{
+    laws::one_tree();
+}
+
+/// The trees of features and of collections can be printed, and read as what they were made of.
+pub fn trees_read_back()
+    ensures feature_prints { (f : Feature) → IsPrintable (feature_tree f) }
+    ensures feature_reads { (f : Feature) → feature 0 (settled (feature_tree f)) ≡ Ok (own_parts f) }
+    ensures collection_prints { (fs : List Feature) → IsPrintable (collection_tree fs) }
+    ensures collection_reads { (fs : List Feature) → collection (settled (collection_tree fs)) ≡ Ok (mapped own_parts fs) }
+{
+    laws::coordinates_read_back();
+    laws::coordinates_are_numbers();
+    laws::known_numbers();
+    laws::ascending_members_stay();
+}
