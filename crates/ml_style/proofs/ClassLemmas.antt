@@ -10,7 +10,7 @@ use Rattle.ml_ratio.specs.Fraction.{IsLess, value_of}
 use Rattle.ml_style.specs.Faults.{fault_if}
 use Rattle.ml_style.specs.Fonts.{names_of, font_named}
 use Rattle.ml_style.specs.ClassTable.{kind_in, font_in, min_in, max_in, AreSame}
-use Rattle.ml_style.specs.ClassFaults.{needs, look_faults, fit_faults, range_faults, is_unknown, is_empty_range, is_at_most, faults_in}
+use Rattle.ml_style.specs.ClassFaults.{needs, look_faults, placing_faults, range_faults, margin_faults, use_faults, is_unknown, is_empty_range, is_at_most, faults_in}
 use Rattle.ml_style.proofs.Bounds.{same_order}
 use Rattle.ml_style.specs.declared.class.Kind.{Kind}
 use Rattle.ml_style.specs.declared.font.Font.{Font}
@@ -50,29 +50,37 @@ needs_same k field None (Some r) h = absurd h
 needs_same k field (Some p) None h = absurd h
 needs_same k field (Some p) (Some r) h = refl
 
-module _ (names : List (List ℕ)) (k : ℕ) (t : Members) where
+module _ (version : ℕ) (names : List (List ℕ)) (k : ℕ) (t : Members) where
   -- the faults behind those of the fields
   abbrev pub last_faults : List StyleFault
   last_faults = fault_if (is_unknown names (font_in t)) (UnknownFont k) ++ fault_if (is_empty_range (min_in t) (max_in t)) (EmptyRange k)
 
-  -- the faults of a class with a look
-  pub after_look : (kind : Kind) → look_faults k t ≡ [] → kind_in t ≡ Some kind → faults_in names k t ≡ fit_faults k (Some kind) t ++ (range_faults k t ++ last_faults)
-  after_look kind h e =
-      ap (λ (x : List StyleFault). x ++ (fit_faults k (kind_in t) t ++ (range_faults k t ++ last_faults))) h ∙ ap (λ (o : Option Kind). fit_faults k o t ++ (range_faults k t ++ last_faults)) e
+  -- the faults behind those of the range
+  abbrev pub late_faults : List StyleFault
+  late_faults = margin_faults version k t ++ last_faults
 
-  -- the faults of a class with a look and a fit
-  pub after_fit : (kind : Kind) → look_faults k t ≡ [] → kind_in t ≡ Some kind → fit_faults k (Some kind) t ≡ [] → faults_in names k t ≡ range_faults k t ++ last_faults
-  after_fit kind h e f = after_look kind h e ∙ ap (λ (x : List StyleFault). x ++ (range_faults k t ++ last_faults)) f
+  -- the faults of a class with a look
+  pub after_look : (kind : Kind) → look_faults k t ≡ [] → kind_in t ≡ Some kind → faults_in version names k t ≡ placing_faults k (Some kind) t ++ (range_faults k t ++ late_faults)
+  after_look kind h e =
+      ap (λ (x : List StyleFault). x ++ (placing_faults k (kind_in t) t ++ (range_faults k t ++ late_faults))) h ∙ ap (λ (o : Option Kind). placing_faults k o t ++ (range_faults k t ++ late_faults)) e
+
+  -- the faults of a class with a look and a placing
+  pub after_placing : (kind : Kind) → look_faults k t ≡ [] → kind_in t ≡ Some kind → placing_faults k (Some kind) t ≡ [] → faults_in version names k t ≡ range_faults k t ++ late_faults
+  after_placing kind h e f = after_look kind h e ∙ ap (λ (x : List StyleFault). x ++ (range_faults k t ++ late_faults)) f
+
+  -- the faults of a class with a look, a placing and a range
+  pub after_range : (kind : Kind) → look_faults k t ≡ [] → kind_in t ≡ Some kind → placing_faults k (Some kind) t ≡ [] → range_faults k t ≡ [] → faults_in version names k t ≡ late_faults
+  after_range kind h e f g = after_placing kind h e f ∙ ap (λ (x : List StyleFault). x ++ late_faults) g
 
   -- the faults of a class whose fields all have values
-  pub after_range : (kind : Kind) (font : List ℕ) (min max : Ratio) → look_faults k t ≡ [] → kind_in t ≡ Some kind → fit_faults k (Some kind) t ≡ [] → range_faults k t ≡ []
+  pub after_margin : (kind : Kind) (font : List ℕ) (min max : Ratio) → look_faults k t ≡ [] → kind_in t ≡ Some kind → placing_faults k (Some kind) t ≡ [] → range_faults k t ≡ [] → margin_faults version k t ≡ []
       → font_in t ≡ Some font → AreSame (min_in t) (Some min) → AreSame (max_in t) (Some max)
-      → faults_in names k t ≡ fault_if (is_unknown names (Some font)) (UnknownFont k) ++ fault_if (is_at_most max min) (EmptyRange k)
-  after_range kind font min max h e f g i a b =
+      → faults_in version names k t ≡ use_faults names k font min max
+  after_margin kind font min max h e f g j i a b =
       let m = same_none (min_in t) min a in
       let n = same_none (max_in t) max b in
       let same : is_empty_range (min_in t) (max_in t) ≡ is_at_most max min = rw (m.1, n.1) (same_order m.0 n.0 min max m.2 n.2) in
-      after_fit kind h e f ∙ ap (λ (x : List StyleFault). x ++ last_faults) g ∙ ap (λ (o : Option (List ℕ)). fault_if (is_unknown names o) (UnknownFont k) ++ fault_if (is_empty_range (min_in t) (max_in t)) (EmptyRange k)) i
+      after_range kind h e f g ∙ ap (λ (x : List StyleFault). x ++ last_faults) j ∙ ap (λ (o : Option (List ℕ)). fault_if (is_unknown names o) (UnknownFont k) ++ fault_if (is_empty_range (min_in t) (max_in t)) (EmptyRange k)) i
       ∙ ap (λ (b : Bool). fault_if (is_unknown names (Some font)) (UnknownFont k) ++ fault_if b (EmptyRange k)) same
 
 -- a field that is read for the kind of a class is that of the class

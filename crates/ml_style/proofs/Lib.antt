@@ -1,10 +1,10 @@
-pub mod AdvanceLemmas
-pub mod Bounds
-pub mod Characters
-pub mod ClassLemmas
-pub mod ClassesLemmas
-pub mod FontLemmas
-pub mod Refusals
-pub mod Searching
-pub mod StyleLemmas
-pub mod TableLemmas
+mod AdvanceLemmas
+mod Bounds
+mod Characters
+mod ClassLemmas
+mod ClassesLemmas
+mod FontLemmas
+mod Refusals
+mod Searching
+mod StyleLemmas
+mod TableLemmas

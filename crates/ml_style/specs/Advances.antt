@@ -1,3 +1,4 @@
+-- How far characters move the pen, in order of the characters.
 use Rattle.std.specs.Prelude.{List, map}
 use Rattle.std.specs.Ordering.{nat_cmp}
 use Rattle.std.specs.List.Sorted.{IsStrictlySortedBy, IsStrictlySortedBy-prop}

@@ -1,5 +1,5 @@
 -- What each answer of the reader says of the bytes.
-use Rattle.std.specs.Prelude.{◌≡◌, ℕ, ◌⊎◌, List, Result, Ok, Err}
+use Rattle.std.specs.Prelude.{ℕ, List, Result, Ok, Err}
 use Rattle.ml_style.specs.Toml.{IsNoToml}
 use Rattle.ml_style.specs.StyleTable.{IsStyle, IsFirstFault}
 use Rattle.ml_style.specs.declared.fault.StyleFault.{StyleFault}
@@ -16,7 +16,3 @@ IsRefusal bytes fault = IsFirstFault bytes fault
 abbrev pub IsAnswer : List ℕ → Result Style StyleFault → Type 0
 IsAnswer bytes (Ok style) = IsStyle bytes style
 IsAnswer bytes (Err fault) = IsRefusal bytes fault
-
--- the refusal comes only where the fact holds, and where it holds comes this refusal or want of memory
-abbrev pub RefusesExactly : Result Style StyleFault → StyleFault → Type 0 → Type 0
-RefusesExactly result fault Fact = (result ≡ Err fault → Fact) × (Fact → (result ≡ Err fault) ⊎ (result ≡ Err Memory))

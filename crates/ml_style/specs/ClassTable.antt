@@ -1,3 +1,4 @@
+-- A class from the TOML table that writes it.
 use Rattle.std.specs.Prelude.{◌≡◌, ℕ, ℤ, pos, negsuc, int_le, nat_le, nat_lt, ◌*◌, ◌<◌, Bool, true, ◌&&◌, List, Option, Some, None, option_and_then, if◌then◌else◌, codes}
 use Rattle.std.specs.Option.{option_map}
 use Rattle.std.specs.Str.{bytes_eq}
@@ -6,7 +7,7 @@ use Rattle.ml_ratio.specs.RatioText.{ratio_parts}
 use Rattle.ml_ratio.specs.declared.ratio.Ratio.{Ratio}
 use Rattle.ml_ratio.specs.declared.feature.Prop.{Prop}
 use Rattle.ml_ratio.specs.declared.feature.Scalar.TheVariants.{Str}
-use Rattle.ml_style.specs.Toml.{is_absent, text_at, count_at}
+use Rattle.ml_style.specs.Toml.{is_absent, text_at, bounded, count_at}
 use Rattle.ml_style.specs.declared.class.Kind.{Kind}
 use Rattle.ml_style.specs.declared.class.Kind.TheVariants.{PointKind, LineKind, AreaKind}
 use Rattle.ml_style.specs.declared.class.Class.{Class}
@@ -85,6 +86,15 @@ above_zero p = if nat_lt 0 p.0 then Some p else None
 abbrev pub max_in : Members → Option (ℕ × ℕ)
 max_in class = option_and_then above_zero (bound_at (codes "max") class)
 
+-- the margin that stands at a place, 0 where nothing does: 0 to 64
+abbrev pub margin_from : Option Data → Option ℕ
+margin_from None = Some 0
+margin_from (Some value) = option_and_then (bounded 0 64) (as_integer value)
+
+-- the margin of labels in a style of this version: version 1 passes it over
+abbrev pub margin_for : ℕ → Members → Option ℕ
+margin_for version class = if nat_lt version 2 then Some 0 else margin_from (get_member (codes "margin") class)
+
 -- the same value, or none both
 abbrev pub AreSame : Option (ℕ × ℕ) → Option Ratio → Type 0
 AreSame None None = Unit {0}
@@ -96,8 +106,8 @@ abbrev pub IsRuleOf : Members → Option Prop → Type 0
 IsRuleOf class None = has_no_rule class ≡ true
 IsRuleOf class (Some rule) = (value : List ℕ) × (rule.value ≡ Str value) × (text_at (codes "key") class ≡ Some rule.key) × (text_at (codes "value") class ≡ Some value)
 
--- the class that a table of it writes
-pub record IsClassIn (table : Members) (class : Class) : Type 0 where
+-- the class that a table of it writes, in a style of this version
+pub record IsClassIn (version : ℕ) (table : Members) (class : Class) : Type 0 where
   pub kind : kind_in table ≡ Some class.kind
   pub rule : IsRuleOf table class.rule
   pub font : font_in table ≡ Some class.font
@@ -108,3 +118,4 @@ pub record IsClassIn (table : Members) (class : Class) : Type 0 where
   pub dy : offset_for (kind_in table) (codes "dy") table ≡ Some class.dy
   pub min : AreSame (min_in table) (Some class.min)
   pub max : AreSame (max_in table) (Some class.max)
+  pub margin : margin_for version table ≡ Some class.margin

@@ -1,3 +1,4 @@
+-- How far a character moves the pen.
 use Rattle.std.specs.Prelude.{ℕ, ◌==◌, find}
 use Rattle.std.specs.Option.{option_map_or}
 use Rattle.ml_style.specs.declared.font.Font.{Font}

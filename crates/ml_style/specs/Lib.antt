@@ -1,9 +1,12 @@
+pub use Rattle.ml_ratio.specs.Fraction
+pub use Rattle.ml_ratio.specs.Refusal
 pub mod Advances
 pub mod Answer
 pub mod ClassFaults
+pub mod ClassParts
 pub mod ClassTable
 pub mod Faults
-pub mod Fit
+pub mod Matching
 pub mod Font
 pub mod FontTable
 pub mod Fonts

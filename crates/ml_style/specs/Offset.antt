@@ -1,3 +1,4 @@
+-- Offsets of boxes.
 use Rattle.std.specs.Prelude.{ℤ, pos, negsuc, ◌≤ℤ◌}
 
 -- an offset of a label's box: -256 to 256 pixels

@@ -1,3 +1,4 @@
+-- Rules of classes: a key with a text.
 use Rattle.std.specs.Prelude.{Option, Some, None}
 use Rattle.std.specs.Coded.{Unit-prop}
 use denote.Struct.Props as logic

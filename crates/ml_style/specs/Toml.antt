@@ -1,3 +1,4 @@
+-- What stands in a TOML text at a key.
 use Rattle.std.specs.Prelude.{◌≡◌, ℕ, ℤ, pos, negsuc, nat_le, Bool, ◌&&◌, List, Option, Some, None, is_none, IsUtf8, option_and_then, if◌then◌else◌}
 use Rattle.toml.specs.Data.{Members, get_member, as_integer, as_str}
 use Rattle.toml.specs.Parse.{parse_document}

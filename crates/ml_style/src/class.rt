@@ -23,7 +23,8 @@ pub enum Kind {
 /// alone that have this property. The size is 1 to 256 pixels and the priority 0 to 65535, the least
 /// first. A line's text is fitted at `scale_ref` world units per pixel, 1 to 268435455; other kinds
 /// have 1 there. `dx` and `dy` move a box by -256 to 256 pixels; lines have 0 there. The label may be
-/// shown at the scales from `min` up to but not including `max`, `0 <= min < max <= 2^28`.
+/// shown at the scales from `min` up to but not including `max`, `0 <= min < max <= 2^28`. It keeps
+/// `margin` pixels free around itself, 0 to 64.
 #[derive(Debug, Drop)]
 pub struct Class {
     pub kind: Kind,
@@ -36,6 +37,7 @@ pub struct Class {
     pub dy: i32,
     pub min: Ratio,
     pub max: Ratio,
+    pub margin: u32,
     ghost text_rule: { IsRule rule } by { IsRule-prop rule },
     ghost some_size: { 1 ≤ size },
     ghost low_size: { size ≤ 256 },
@@ -46,4 +48,5 @@ pub struct Class {
     ghost low_dy: { IsOffset dy },
     ghost range: { IsLess (value_of min) (value_of max) },
     ghost low_max: { max.num ≤ 2 ^ 28 * max.den },
+    ghost low_margin: { margin ≤ 64 },
 }

@@ -2,7 +2,7 @@
 ghost use Rattle.std.specs.Prelude.{◌≡◌, ◌*◌, ◌^◌, ◌≤◌, ℕ, Some, IfSome, IfOk};
 ghost use Rattle.toml.specs.View.{view, table_view};
 ghost use Rattle.ml_style.specs.Faults.{Answers};
-ghost use Rattle.ml_style.specs.ClassTable.{kind_named as kind_of_name, kind_in as kind_there, ref_for, offset as offset_there, offset_at as offset_at_key, offset_for, bound as bound_there, bound_at as bound_in, above_zero as above_zero_there, min_in as min_there, max_in as max_there, AreSame, IsRuleOf};
+ghost use Rattle.ml_style.specs.ClassTable.{kind_named as kind_of_name, kind_in as kind_there, ref_for, offset as offset_there, offset_at as offset_at_key, offset_for, bound as bound_there, bound_at as bound_in, above_zero as above_zero_there, min_in as min_there, max_in as max_there, margin_for, AreSame, IsRuleOf};
 ghost use Rattle.ml_style.specs.ClassFaults.{rule_faults};
 ghost use Rattle.ml_style.specs.Rule.{IsRule};
 ghost use Rattle.ml_style.specs.Offset.{IsOffset};
@@ -10,7 +10,7 @@ ghost use Rattle.ml_style.specs.Offset.{IsOffset};
 use crate::class::Kind;
 use crate::fault::StyleFault;
 use crate::field::field;
-use crate::table::{count_at, member_of, text_at};
+use crate::table::{bounded, count_at, member_of, text_at};
 use ml_ratio::{Prop, Ratio, Scalar, Text};
 use std::alloc::Global;
 use toml::Table;
@@ -157,4 +157,19 @@ fn above_zero(bound: Ratio) -> Option<Ratio>
     ensures low { IfSome result (λ r. r.num ≤ 2 ^ 28 * r.den) }
 {
     if bound.num() > 0 { Some(bound) } else { None }
+}
+
+/// The margin of labels of a style of this version, 0 where nothing stands there. Version 1 passes it
+/// over.
+pub(crate) fn margin_in(class: &Table, version: u32) -> Option<u32>
+    ensures value { result ≡ margin_for version (table_view class.now) }
+    ensures range { IfSome result (λ margin. margin ≤ 64) }
+{
+    if version < 2 {
+        return Some(0);
+    }
+    match member_of(class, "margin") {
+        Some(value) => bounded(value.as_integer()?, 0, 64),
+        None => Some(0),
+    }
 }

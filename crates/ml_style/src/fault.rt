@@ -7,16 +7,16 @@ use std::alloc::{AllocError, AllocFailed};
 use thiserror::Error;
 
 /// Why bytes are no style. Classes are counted from 0.
-#[derive(Debug, Drop, Error)]
+#[derive(Debug, PartialEq, Eq, Drop, Error)]
 pub enum StyleFault {
     /// The bytes are no TOML text.
     #[error("not TOML")]
     NotToml,
-    /// The version is not the whole number 1.
-    #[error("the version is not 1")]
+    /// The version is neither of the whole numbers 1 and 2.
+    #[error("the version is neither 1 nor 2")]
     Version,
-    /// The font of this name is the first that is none, in byte order of names.
-    #[error("the font {0:?} is none")]
+    /// The font of this name is the first that is not valid, in byte order of names.
+    #[error("the font {0:?} is not valid")]
     BadFont(Text),
     /// This field of the class with this number has a wrong value.
     #[error("class {0} has a wrong {1:?}")]

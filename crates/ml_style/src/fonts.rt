@@ -15,9 +15,9 @@ use toml::{Table, Value};
 
 /// A font with its name.
 #[derive(Debug, Drop)]
-pub(crate) struct NamedFont {
-    pub(crate) name: Text,
-    pub(crate) font: Font,
+pub struct NamedFont {
+    pub name: Text,
+    pub font: Font,
 }
 
 /// The font of this name.

@@ -8,12 +8,15 @@ use crate::fonts::{NamedFont, find_font};
 use ml_ratio::{Seq, Text};
 
 /// Which features of a map have a label, and how it looks.
+///
+/// The fonts stand in byte order of their names, each name once, and the font of each class is one of
+/// them.
 #[derive(Debug, Drop)]
 pub struct Style {
-    pub(crate) name_key: Text,
-    pub(crate) rank_key: Text,
-    pub(crate) classes: Seq<Class>,
-    pub(crate) fonts: Seq<NamedFont>,
+    pub name_key: Text,
+    pub rank_key: Text,
+    pub classes: Seq<Class>,
+    pub fonts: Seq<NamedFont>,
     ghost ascending: { AreAscending fonts } by { AreAscending-prop fonts },
     ghost known: { All (HasFont fonts) classes },
 }

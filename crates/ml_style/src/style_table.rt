@@ -1,19 +1,17 @@
 //! A style from the TOML table that writes it.
-ghost use Rattle.std.specs.Prelude.{◌≡◌, IfOk, All, codes};
-ghost use Rattle.toml.specs.Data.{get_member};
+ghost use Rattle.std.specs.Prelude.{◌≡◌, IfOk, All};
 ghost use Rattle.toml.specs.View.{table_view};
-ghost use Rattle.ml_style.specs.Toml.{whole_at as whole_there};
 ghost use Rattle.ml_style.specs.Faults.{Answers};
 ghost use Rattle.ml_style.specs.Fonts.{font_faults, AreFonts, AreAscending, names_of, HasFont};
 ghost use Rattle.ml_style.specs.ClassFaults.{AreClasses};
-ghost use Rattle.ml_style.specs.StyleTable.{is_version, fonts_in, classes_faults_from, items_from, key_for, style_faults, IsStyleIn};
+ghost use Rattle.ml_style.specs.StyleTable.{fonts_in, classes_faults_in, items_in, key_for, style_faults, IsStyleIn};
 
 use crate::class::Class;
 use crate::class_table::read_classes;
 use crate::fault::StyleFault;
 use crate::fonts::{NamedFont, read_fonts};
 use crate::style::Style;
-use crate::table::{member_of, text_at, whole_at};
+use crate::table::{count_at, member_of, text_at};
 use ml_ratio::{Seq, Text};
 use std::alloc::{AllocError, Global};
 use toml::Table;
@@ -25,11 +23,11 @@ use toml::Table;
 pub(crate) fn read_table(alloc: Global, table: &Table) -> Result<Style, StyleFault>
     ensures { Answers result (style_faults (table_view table.now)) (IsStyleIn (table_view table.now)) }
 {
-    if !has_version(table) {
+    let Some(version) = count_at(table, "version", 1, 2) else {
         return Err(StyleFault::Version);
-    }
+    };
     let fonts = fonts_of(alloc, table)?;
-    let classes = classes_of(alloc, &fonts, table)?;
+    let classes = classes_of(alloc, version, &fonts, table)?;
     let name_key = key_for_purpose(alloc, table, "name")?;
     let rank_key = key_for_purpose(alloc, table, "rank")?;
     Ok(Style {
@@ -38,13 +36,6 @@ pub(crate) fn read_table(alloc: Global, table: &Table) -> Result<Style, StyleFau
         classes,
         fonts,
     })
-}
-
-// Whether the style has the version that is read here.
-fn has_version(style: &Table) -> bool
-    ensures { result ≡ is_version (whole_there (codes "version") (table_view style.now)) }
-{
-    whole_at(style, "version") == Some(1)
 }
 
 // The fonts of the style: none where there is no table of them.
@@ -61,20 +52,21 @@ fn fonts_of(alloc: Global, style: &Table) -> Result<Seq<NamedFont>, StyleFault>
     }
 }
 
-// The classes of the style, of which there need be none.
+// The classes of the style, which is of this version; there need be none.
 fn classes_of(
     alloc: Global,
+    version: u32,
     fonts: &Seq<NamedFont>,
     style: &Table,
 ) -> Result<Seq<Class>, StyleFault>
-    ensures classes { Answers result (classes_faults_from (names_of fonts.now) (get_member (codes "class") (table_view style.now))) (AreClasses (items_from (get_member (codes "class") (table_view style.now)))) }
+    ensures classes { Answers result (classes_faults_in version (names_of fonts.now) (table_view style.now)) (AreClasses version (items_in (table_view style.now))) }
     ensures known { IfOk result (All (HasFont fonts.now)) }
 {
     let Some(value) = member_of(style, "class") else {
         return Ok(Seq::new(alloc));
     };
     match value.as_array() {
-        Some(values) => read_classes(alloc, fonts.as_slice(), values.as_slice()),
+        Some(values) => read_classes(alloc, version, fonts.as_slice(), values.as_slice()),
         None => Err(StyleFault::BadClass(0, Text::of(alloc, "class")?)),
     }
 }

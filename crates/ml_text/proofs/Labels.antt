@@ -1,7 +1,6 @@
 -- The text of a label is no longer than the name.
-use Rattle.std.proofs.Common.{◌≡◌, ℕ, ◌≤◌, Bool, true, false, cond, List, [], ◌∷◌, ◌++◌, map, length, length-append, sym, ap, arith}
+use Rattle.std.proofs.Common.{ℕ, ◌≤◌, Bool, true, false, cond, List, [], ◌∷◌, map, length, length-append, ap, arith}
 use Rattle.std.proofs.lemmas.Str.{encodes-chars, length-encode, len_utf8_bounds}
-use Rattle.std.specs.Char.{len_utf8}
 use Rattle.std.specs.Str.{IsUtf8, chars, encode_utf8_all}
 use lib.Utf8.{encode}
 use Rattle.ml_text.specs.Label.{is_hidden, shown, label_text}

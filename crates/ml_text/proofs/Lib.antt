@@ -1,3 +1,3 @@
-pub mod ClusterLaws
-pub mod Labels
-pub mod Sums
+mod ClusterLaws
+mod Labels
+mod Sums

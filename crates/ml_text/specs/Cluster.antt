@@ -1,3 +1,4 @@
+-- The pieces of a text that a reader sees as one character each.
 use Rattle.std.specs.Prelude.{ℕ, ◌-◌, ◌^◌, List, map, min, true}
 use Rattle.unicode_segmentation.specs.Grapheme.{graphemes}
 use Rattle.ml_style.specs.declared.font.Font.{Font}

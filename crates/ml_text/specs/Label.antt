@@ -1,3 +1,4 @@
+-- The text of a label.
 use Rattle.std.specs.Prelude.{ℕ, nat_le, ◌==◌, ◌||◌, ◌&&◌, Bool, List, map, if◌then◌else◌}
 use Rattle.std.specs.Str.{chars, encode_utf8_all}
 

@@ -1,3 +1,4 @@
+-- How wide a text is.
 use Rattle.std.specs.Prelude.{ℕ, ◌*◌, List, max, sum_by}
 use Rattle.std.specs.Int.{div_ceil}
 use Rattle.std.specs.Str.{chars}

@@ -1,9 +1,6 @@
-use Rattle.std.proofs.Common.{◌≡◌, ◌+◌, ◌*◌, ◌<◌, ◌≤◌, ◌^◌, length, arith, rules, sum_by, ap, [], ◌∙◌}
+use Rattle.std.proofs.Common.{◌<◌, ◌^◌, length, arith, rules}
 use Rattle.std.proofs.lemmas.Str.{IsUtf8-past_char}
-use Rattle.std.specs.Str.{chars}
 use Rattle.std.specs.Str.Iter.{chars_rest}
-use Rattle.ml_style.specs.Font.{advance_of}
-use Rattle.ml_text.specs.Width.{advance_sum}
 use Rattle.ml_text.proofs.Sums.{sum_low, one_more, no_more}
 use Rattle.ml_text.proofs.measure.advance_sum.Goals as goal
 

@@ -1,3 +1,4 @@
+-- The class of a feature: the first that applies to it.
 use Rattle.std.specs.Prelude.{ℕ, Bool, true, false, ◌&&◌, List, position, Option, Some, None, codes, option_and_then}
 use Rattle.std.specs.List.{list_any}
 use Rattle.std.specs.Str.{bytes_eq}
@@ -50,10 +51,10 @@ abbrev pub meets : Option Prop → List Prop → Bool
 meets None props = true
 meets (Some rule) props = list_any (matches rule) props
 
--- whether a class fits features of this kind with these properties
-abbrev pub fits : Kind → List Prop → Class → Bool
-fits kind props class = same_kind class.kind kind && meets class.rule props
+-- whether a class applies to features of this kind with these properties
+abbrev pub applies : Kind → List Prop → Class → Bool
+applies kind props class = same_kind class.kind kind && meets class.rule props
 
--- the place of the first class that fits a feature: none where none fits, or the feature has no shape
-abbrev pub first_fit : Style → Feature → Option ℕ
-first_fit style feature = option_and_then (λ shape. position (fits (kind_of shape) feature.props) style.classes) feature.geometry
+-- the place of the first class that applies to a feature: none where none does, or the feature has no shape
+abbrev pub first_match : Style → Feature → Option ℕ
+first_match style feature = option_and_then (λ shape. position (applies (kind_of shape) feature.props) style.classes) feature.geometry

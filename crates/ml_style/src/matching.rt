@@ -2,18 +2,18 @@
 ghost use Rattle.std.specs.Prelude.{◌≡◌, ◌<◌, IfSome, length, position};
 ghost use Rattle.std.specs.Option.{option_copied};
 ghost use Rattle.std.specs.List.{list_any};
-ghost use Rattle.ml_style.specs.Fit.{first_fit, fits as fits_there, kind_of as kind_there, meets as meets_there, matches as matches_there, same_text, text_of};
+ghost use Rattle.ml_style.specs.Matching.{first_match, applies as applies_there, kind_of as kind_there, meets as meets_there, matches as matches_there, same_text, text_of};
 
 use crate::class::{Class, Kind};
 use crate::style::Style;
 use ml_ratio::{Feature, Geometry, Prop, Scalar};
 
-/// The place, counted from 0, of the first class of the style that fits the feature: its kind is that
-/// of the feature's shape, and it has no rule or a property of the feature meets it.
+/// The place, counted from 0, of the first class of the style that applies to the feature: its kind is
+/// that of the feature's shape, and it has no rule or a property of the feature meets it.
 ///
-/// None exactly where no class fits or the feature has no shape.
+/// None exactly where no class applies or the feature has no shape.
 pub fn class_of(style: &Style, feature: &Feature) -> Option<usize>
-    ensures value { result ≡ first_fit style.now feature.now }
+    ensures value { result ≡ first_match style.now feature.now }
     ensures within { IfSome result (λ k. k < length style.now.classes) }
 {
     match &feature.geometry {
@@ -26,12 +26,12 @@ pub fn class_of(style: &Style, feature: &Feature) -> Option<usize>
     }
 }
 
-// The place of the first class that fits features of this kind with these properties.
+// The place of the first class that applies to features of this kind with these properties.
 fn first_of(classes: &[Class], kind: Kind, props: &[Prop]) -> Option<usize>
-    ensures value { result ≡ position (fits_there kind props.now) classes.now }
+    ensures value { result ≡ position (applies_there kind props.now) classes.now }
     ensures within { IfSome result (λ k. k < length classes.now) }
 {
-    classes.iter().position(|class| fits(class, kind, props))
+    classes.iter().position(|class| applies(class, kind, props))
 }
 
 // The kind of a shape.
@@ -45,9 +45,9 @@ fn kind_of(shape: &Geometry) -> Kind
     }
 }
 
-// Whether the class fits features of this kind with these properties.
-fn fits(class: &Class, kind: Kind, props: &[Prop]) -> bool
-    ensures { result ≡ fits_there kind props.now class.now }
+// Whether the class applies to features of this kind with these properties.
+fn applies(class: &Class, kind: Kind, props: &[Prop]) -> bool
+    ensures { result ≡ applies_there kind props.now class.now }
 {
     class.kind == kind && meets(&class.rule, props)
 }
