@@ -8,7 +8,7 @@ use Rattle.std.specs.List.Sorted.{IsPermutation, IsSorted}
 use Rattle.std.proofs.lemmas.List.Sorted.{All-permutation}
 use Rattle.ml_ratio.specs.World.{IsInWorld}
 use Rattle.ml_ratio.specs.Geometry.{IsPolygon}
-use Rattle.ml_anchor.specs.Floor.{floor}
+use Rattle.ml_ratio.specs.Floor.{floor}
 use Rattle.ml_anchor.specs.Ring.{west, south, north, AreBoundsOf}
 use Rattle.ml_anchor.specs.Scan.{crossings}
 use Rattle.ml_anchor.specs.Best.{IsFirstGreatest}

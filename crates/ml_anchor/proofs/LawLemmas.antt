@@ -1,28 +1,24 @@
 -- The laws.
-use Rattle.std.proofs.Common.{◌≡◌, ℕ, ◌%◌, ◌<◌, ◌≤◌, List, [], length, ℤ, pos, negsuc, ◌+ℤ◌, ◌*ℤ◌, ◌<ℤ◌, ◌≤ℤ◌, inl, inr, sym, ap, ◌∙◌, arith}
+use Rattle.std.proofs.Common.{◌≡◌, ℕ, ◌%◌, ◌<◌, ◌≤◌, List, [], length, get_or, Some, true, false, ℤ, pos, ◌+ℤ◌, ◌<ℤ◌, ◌≤ℤ◌, inl, inr, sym, ap, ◌∙◌, subst, arith}
 use Rattle.std.specs.Prelude.{All}
 use Rattle.std.proofs.lemmas.Bool.{cases_order}
 use Rattle.std.proofs.lemmas.Int.{ints, by_lt_z}
 use Rattle.std.proofs.lemmas.List.Sorted.{length_permutation}
-use Rattle.ml_ratio.specs.Geometry.{IsRing, IsPolygon}
+use Rattle.ml_ratio.specs.Geometry.{IsSamePlace, IsRing, IsPolygon, IsGeometry}
+use Rattle.ml_ratio.specs.declared.geometry.Geometry.{Geometry}
+use Rattle.ml_ratio.specs.declared.geometry.Geometry.TheVariants.{Point, MultiPoint, LineString, MultiLineString, Polygon, MultiPolygon}
 use Rattle.ml_ratio.specs.declared.geometry.Pos.{Pos}
-use Rattle.ml_anchor.specs.Floor.{floor}
+use Rattle.ml_ratio.specs.Floor.{floor}
+use Rattle.ml_anchor.specs.Best.{IsFirstGreatest}
 use Rattle.ml_anchor.specs.Ring.{south, north}
 use Rattle.ml_anchor.specs.Scan.{crossings}
 use Rattle.ml_anchor.specs.Pairs.{at, rank, IsInsidePair, IsWidestPair, IsMiddle}
-use Rattle.ml_anchor.specs.Anchor.{outer, IsPolygonAnchor}
-use Rattle.ml_anchor.proofs.FloorLemmas.{floor_bounds, floor_least, floor_most, plus_one}
+use Rattle.ml_anchor.specs.Anchor.{outer, part_area, IsPolygonAnchor, IsAreaAnchor}
+use Rattle.ml_ratio.proofs.Floors.{floor_least, floor_most}
 use Rattle.ml_anchor.proofs.CountLemmas.{crossings_even, crossings_two}
 use Rattle.ml_anchor.proofs.RankLemmas.{lands, pair_at}
 use Rattle.ml_anchor.proofs.RingLemmas.{bounds_are}
 use Rattle.ml_anchor.proofs.SortLemmas.{sort_of}
-
-pub floors : (p d : ℤ) → pos 0 <ℤ d → ((floor p d *ℤ d) ≤ℤ p) × (p <ℤ ((floor p d +ℤ pos 1) *ℤ d))
-floors p (pos n) h =
-    let b = floor_bounds p (pos n) h in
-    let e = plus_one (floor p (pos n)) n in
-    (b.0, rw e b.1)
-floors p (negsuc n) h = absurd (omega (arith, ints))
 
 pub crossings_are_even : (h : ℤ) (rings : List (List Pos)) → All IsRing rings → length (crossings h rings) % 2 ≡ 0
 crossings_are_even = crossings_even
@@ -96,3 +92,23 @@ one_anchor rings p q polygon a b =
     let m = a.flat same in
     let n = b.flat same in
     (m.0 ∙ sym n.0, m.1 ∙ sym n.1))
+
+-- of some places one is the first at which f is greatest
+one_greatest : (f : ℕ → ℤ) (n i k : ℕ) → IsFirstGreatest f n i → IsFirstGreatest f n k → i ≡ k
+one_greatest f n i k p q =
+    elim (cases_order i k) [
+      | inl e ↦ e
+      | inr (inl l) ↦ absurd (never_less _ _ (q.first i l) (p.greatest k q.there))
+      | inr (inr g) ↦ absurd (never_less _ _ (p.first k g) (q.greatest i p.there))
+    ]
+
+pub one_area_anchor : (shape : Geometry) (p q : Pos) → IsGeometry shape → IsAreaAnchor shape (Some p) → IsAreaAnchor shape (Some q) → IsSamePlace p q
+one_area_anchor (Point place) p q shaped a b = absurd (let f : true ≡ false = a in cc)
+one_area_anchor (MultiPoint places) p q shaped a b = absurd (let f : true ≡ false = a in cc)
+one_area_anchor (LineString line) p q shaped a b = absurd (let f : true ≡ false = a in cc)
+one_area_anchor (MultiLineString lines) p q shaped a b = absurd (let f : true ≡ false = a in cc)
+one_area_anchor (Polygon rings) p q shaped a b = one_anchor rings p q shaped a b
+one_area_anchor (MultiPolygon parts) p q shaped a b =
+    let same = one_greatest (part_area parts) (length parts) b.0 a.0 b.1 a.1 in
+    let polygon : IsPolygon (get_or parts a.0 []) = shaped.1 a.0 [] a.1.there in
+    one_anchor (get_or parts a.0 []) p q polygon a.2 (subst (λ (i : ℕ). IsPolygonAnchor (get_or parts i []) q) same b.2)

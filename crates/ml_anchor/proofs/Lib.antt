@@ -1,9 +1,8 @@
-pub mod FloorLemmas
-pub mod RingLemmas
-pub mod BestLemmas
-pub mod ScanLemmas
-pub mod RankLemmas
-pub mod CountLemmas
-pub mod AnchorLemmas
-pub mod SortLemmas
-pub mod LawLemmas
+mod RingLemmas
+mod BestLemmas
+mod ScanLemmas
+mod RankLemmas
+mod CountLemmas
+mod AnchorLemmas
+mod SortLemmas
+mod LawLemmas

@@ -1,8 +1,9 @@
+-- The anchors of points and areas.
 use Rattle.std.specs.Prelude.{◌≡◌, ℕ, ℤ, pos, ◌+ℤ◌, ◌<ℤ◌, List, [], length, slice_index_or, slice_get, Option, Some, None, IsNone, IsSomeAnd}
 use Rattle.ml_ratio.specs.declared.geometry.Pos.{Pos}
 use Rattle.ml_ratio.specs.declared.geometry.Geometry.{Geometry}
 use Rattle.ml_ratio.specs.declared.geometry.Geometry.TheVariants.{Point, MultiPoint, LineString, MultiLineString, Polygon, MultiPolygon}
-use Rattle.ml_anchor.specs.Floor.{floor}
+use Rattle.ml_ratio.specs.Floor.{floor}
 use Rattle.ml_anchor.specs.Best.{IsFirstGreatest}
 use Rattle.ml_anchor.specs.Ring.{west, east, south, north, box_area}
 use Rattle.ml_anchor.specs.Scan.{crossings}

@@ -1,3 +1,4 @@
+-- The first of the greatest.
 use Rattle.std.specs.Prelude.{ℕ, ◌<◌, ℤ, ◌≤ℤ◌, ◌<ℤ◌}
 
 -- of the places below n, i is the first at which f is greatest

@@ -1,4 +1,5 @@
-pub mod Floor
+pub use Rattle.ml_ratio.specs.Floor
+pub use Rattle.ml_ratio.specs.Geometry
 pub mod Best
 pub mod Ring
 pub mod Scan

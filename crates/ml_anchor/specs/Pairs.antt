@@ -1,7 +1,8 @@
+-- Crossings by their ranks, and the widest stretch inside.
 use Rattle.std.specs.Prelude.{◌≡◌, ℕ, ◌+◌, ◌*◌, ◌%◌, ◌<◌, ℤ, pos, ◌+ℤ◌, ◌-ℤ◌, ◌≤ℤ◌, ◌<ℤ◌, int_lt, List, length, take, slice_index_or}
 use Rattle.std.specs.List.{count_by}
 use Rattle.std.specs.Ordering.{int_eq}
-use Rattle.ml_anchor.specs.Floor.{floor}
+use Rattle.ml_ratio.specs.Floor.{floor}
 
 -- the number at place i
 abbrev pub at : List ℤ → ℕ → ℤ

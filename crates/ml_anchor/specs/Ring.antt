@@ -1,3 +1,4 @@
+-- Rings: their edges and their bounding boxes.
 use Rattle.std.specs.Prelude.{◌≡◌, ℤ, pos, ◌-ℤ◌, ◌*ℤ◌, ◌≤ℤ◌, List, [], ◌∷◌, map, drop}
 use Rattle.std.specs.List.{fold, zip}
 use Rattle.std.specs.Int.{int_min, int_max}

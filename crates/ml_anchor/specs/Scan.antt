@@ -1,7 +1,8 @@
+-- Where rings cross a level line.
 use Rattle.std.specs.Prelude.{ℤ, pos, ◌*ℤ◌, Bool, ◌&&◌, if◌then◌else◌, int_le, int_lt, Option, Some, None, List}
 use Rattle.std.specs.List.{filter_map, flat_map}
 use Rattle.ml_ratio.specs.declared.geometry.Pos.{Pos}
-use Rattle.ml_anchor.specs.Floor.{height_on}
+use Rattle.ml_ratio.specs.Floor.{height_on}
 use Rattle.ml_anchor.specs.Ring.{edges}
 
 -- the line at half the height h runs between a and b, a below it or on it and b above it

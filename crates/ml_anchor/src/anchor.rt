@@ -7,10 +7,10 @@ ghost use Rattle.ml_anchor.specs.Scan.{crossings};
 ghost use Rattle.ml_anchor.specs.Pairs.{IsMiddle};
 ghost use Rattle.ml_anchor.specs.Anchor.{IsPointKind, point_of, IsPolygonAnchor, IsLargestPart, IsAreaAnchor, outer};
 
-use crate::between::half;
 use crate::bounds::{area_of, bounds_of};
 use crate::pairs::widest;
 use crate::scan::crossings;
+use ml_ratio::rounding::half;
 use ml_ratio::{Geometry, Pos, Seq};
 use std::alloc::{AllocError, Global};
 

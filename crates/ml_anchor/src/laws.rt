@@ -1,18 +1,13 @@
-//! Laws over the definitions alone: what a quotient rounded down is, that crossings come in pairs,
-//! and that an anchor is well defined.
-ghost use Rattle.std.specs.Prelude.{◌≡◌, ℕ, ℤ, pos, ◌<ℤ◌, ◌≤ℤ◌, ◌+ℤ◌, ◌*ℤ◌, ◌%◌, All, List, length};
-ghost use Rattle.ml_ratio.specs.Geometry.{IsRing, IsPolygon};
+//! Laws over the definitions alone: that crossings come in pairs, and that an anchor is well defined.
+ghost use Rattle.std.specs.Prelude.{◌≡◌, ℕ, ℤ, pos, ◌<ℤ◌, ◌≤ℤ◌, ◌+ℤ◌, ◌%◌, All, List, Some, length};
+ghost use Rattle.ml_ratio.specs.Geometry.{IsSamePlace, IsRing, IsPolygon, IsGeometry};
+ghost use Rattle.ml_ratio.specs.declared.geometry.Geometry.{Geometry};
 ghost use Rattle.ml_ratio.specs.declared.geometry.Pos.{Pos};
-ghost use Rattle.ml_anchor.specs.Floor.{floor};
+ghost use Rattle.ml_ratio.specs.Floor.{floor};
 ghost use Rattle.ml_anchor.specs.Ring.{south, north};
 ghost use Rattle.ml_anchor.specs.Scan.{crossings};
 ghost use Rattle.ml_anchor.specs.Pairs.{at, IsInsidePair};
-ghost use Rattle.ml_anchor.specs.Anchor.{outer, IsPolygonAnchor};
-
-/// A quotient rounded down is the greatest whole number that is at most the quotient.
-pub fn floors()
-    ensures { (p d : ℤ) → pos 0 <ℤ d → ((floor p d *ℤ d) ≤ℤ p) × (p <ℤ ((floor p d +ℤ pos 1) *ℤ d)) }
-{}
+ghost use Rattle.ml_anchor.specs.Anchor.{outer, IsPolygonAnchor, IsAreaAnchor};
 
 /// Closed rings cross each level line an even number of times.
 pub fn crossings_are_even()
@@ -34,4 +29,10 @@ pub fn a_middle_is_inside()
 /// A polygon has one anchor only.
 pub fn one_anchor()
     ensures { (rings : List (List Pos)) (p q : Pos) → IsPolygon rings → IsPolygonAnchor rings p → IsPolygonAnchor rings q → (p.x ≡ q.x) × (p.y ≡ q.y) }
+{}
+
+/// An area has one anchor only: of several parts one is the largest, the first at a tie.
+pub fn one_area_anchor()
+    ensures { (shape : Geometry) (p q : Pos) → IsGeometry shape →
+        IsAreaAnchor shape (Some p) → IsAreaAnchor shape (Some q) → IsSamePlace p q }
 {}

@@ -3,7 +3,7 @@ ghost use Rattle.std.specs.Prelude.{◌≡◌, ◌++◌, true, IfOk, OnOk};
 ghost use Rattle.std.specs.Option.{option_to_list};
 ghost use Rattle.ml_anchor.specs.Scan.{rises, x_at, crossing, ring_crossings, crossings};
 
-use crate::between::height_at;
+use ml_ratio::rounding::height_at;
 use ml_ratio::{Pos, Seq};
 use std::alloc::{AllocError, Global};
 

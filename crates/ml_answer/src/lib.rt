@@ -13,6 +13,3 @@ pub mod view;
 
 pub use shown::Shown;
 pub use view::JsonView;
-
-#[cfg(test)]
-mod tests;

@@ -1,7 +1,5 @@
 -- Texts along lines: what is too wide for one box has no chain either.
-use Rattle.std.proofs.Common.{◌≡◌, ℕ, ◌+◌, ◌-◌, ◌*◌, ◌/◌, ◌<◌, ◌≤◌, min, max, List, [], ◌∷◌, zero, suc, true, false, Some, length, sum, get_or, ℤ, pos, ◌-ℤ◌, ◌≤ℤ◌, inl, inr, refl, sym, ap, subst, arith}
-use Rattle.std.proofs.lemmas.Int.{ints}
-use Rattle.std.proofs.lemmas.List.{take_all}
+use Rattle.std.proofs.Common.{◌≡◌, ℕ, ◌-◌, ◌*◌, ◌^◌, ◌<◌, ◌≤◌, min, max, List, [], ◌∷◌, zero, suc, true, false, Some, length, sum, sum_by, ℤ, pos, inl, inr, refl, sym, subst, arith}
 use Rattle.std.proofs.lemmas.List.Sums.{sum-map}
 use Rattle.std.specs.Int.{div_ceil}
 use Rattle.std.specs.Str.{IsUtf8}
@@ -14,51 +12,39 @@ use Rattle.ml_style.specs.declared.font.Font.{Font}
 use Rattle.ml_text.specs.Cluster.{clusters_of}
 use Rattle.ml_text.specs.Width.{advance_sum, width_of}
 use Rattle.ml_text.specs.declared.cluster.Cluster.{Cluster}
-use Rattle.ml_text.proofs.ClusterLaws.{clusters_reach}
 use Rattle.ml_river.specs.declared.class.RiverClass.{RiverClass}
 use Rattle.ml_river.specs.declared.river.Placed.{Placed}
 use Rattle.ml_river.specs.declared.river.Shape.{Shape}
 use Rattle.ml_river.specs.declared.river.Shape.TheVariants.{Chain, Straight}
-use Rattle.ml_river.specs.Chain.{width, edge, IsChain}
+use Rattle.ml_river.specs.Chain.{width, IsChain}
 use Rattle.ml_river.specs.River.{IsShape, IsPlaced, IsRiver}
-use Rattle.ml_river.proofs.ChainLemmas.{edge_end}
 use Rattle.ml_label.specs.Straight.{IsTooWide}
 use Rattle.ml_style.specs.declared.class.Kind.{Kind}
 use Rattle.ml_style.specs.declared.class.Kind.TheVariants.{PointKind, LineKind, AreaKind}
 use Rattle.ml_label.specs.Placing.{shift, IsTooWideText, IsAlong, IsRiverClass, LiesStraight, HasNoPlace, advances_of}
 use Rattle.ml_label.proofs.Widths.{wide_pixels, wide_units}
 
--- what reaches so far is no more than 1024 pixels wide
-reach : (w e f : ℕ) (r : ℤ) → w ≡ e → r ≡ (pos (max e f) -ℤ pos (w / 2)) → r ≤ℤ pos 512 → w ≤ 1024
-reach w e f r same is low = omega (arith, ints)
+-- what is cited of clusters and chains, as the laws of them say it
+pub record TextLaws : Type 0 where
+  pub reach : (font : Font) (text : List ℕ) → IsUtf8 text → min (advance_sum font text) (2 ^ 64 - 1) ≤ sum_by (λ (c : Cluster). c.advance) (clusters_of font text)
+  pub narrow : (c : RiverClass) (run : List Pos) (x y : ℤ) (advances : List ℕ) (boxes : List BoxPx) → 0 < length advances → IsChain c run x y advances boxes → width c (sum advances) ≤ 1024
 
--- a chain of some boxes is at most 1024 pixels wide
-chain_narrow : (c : RiverClass) (run : List Pos) (x y : ℤ) (advances : List ℕ) (boxes : List BoxPx) → 0 < length advances → IsChain c run x y advances boxes → width c (sum advances) ≤ 1024
-chain_narrow c run x y advances boxes some chain =
-    let k = length advances - 1 in
-    let d : BoxPx = record { l = pos 0; b = pos 0; r = pos 0; t = pos 0 } in
-    let there : k < length boxes = (let e = chain.one_each in omega arith) in
-    let last = chain.each k d there in
-    let good = chain.good k d there in
-    let ended : width c (sum advances) ≡ edge c advances (k + 1) = edge_end c advances (k + 1) (sum advances) (width c (sum advances)) (omega arith) (ap sum (sym (take_all (k + 1) advances (omega arith)))) refl in
-    reach (width c (sum advances)) (edge c advances (k + 1)) (edge c advances k + 1) ((get_or boxes k d).r) ended last.right_is good.0.1.1
+-- a text that is wider than a chain may be has none
+shape_straight : (laws : TextLaws) (c : RiverClass) (run : List Pos) (x y : ℤ) (advances : List ℕ) (s : Shape) → 0 < length advances → 1025 ≤ width c (sum advances) → IsShape c run x y advances s → s ≡ Straight
+shape_straight laws c run x y advances (Chain boxes) some wide h = absurd (let low = laws.narrow c run x y advances boxes some h in omega arith)
+shape_straight laws c run x y advances Straight some wide h = refl
 
--- so a wider text has none
-shape_straight : (c : RiverClass) (run : List Pos) (x y : ℤ) (advances : List ℕ) (s : Shape) → 0 < length advances → 1025 ≤ width c (sum advances) → IsShape c run x y advances s → s ≡ Straight
-shape_straight c run x y advances (Chain boxes) some wide h = absurd (let low = chain_narrow c run x y advances boxes some h in omega arith)
-shape_straight c run x y advances Straight some wide h = refl
+placed_straight : (laws : TextLaws) (c : RiverClass) (lines : List (List Pos)) (advances : List ℕ) (placed : Placed) → 0 < length advances → 1025 ≤ width c (sum advances) → IsPlaced c lines advances placed → placed.shape ≡ Straight
+placed_straight laws c lines advances placed some wide (inl on) = shape_straight laws c _ placed.anchor.x placed.anchor.y advances placed.shape some wide on.on.shape_is
+placed_straight laws c lines advances placed some wide (inr start) = start.straight
 
-placed_straight : (c : RiverClass) (lines : List (List Pos)) (advances : List ℕ) (placed : Placed) → 0 < length advances → 1025 ≤ width c (sum advances) → IsPlaced c lines advances placed → placed.shape ≡ Straight
-placed_straight c lines advances placed some wide (inl on) = shape_straight c _ placed.anchor.x placed.anchor.y advances placed.shape some wide on.on.shape_is
-placed_straight c lines advances placed some wide (inr start) = start.straight
-
-river_straight : (shape : Geometry) (c : RiverClass) (advances : List ℕ) (placed : Placed) → 0 < length advances → 1025 ≤ width c (sum advances) → IsRiver shape advances c (Some placed) → placed.shape ≡ Straight
-river_straight (Point place) c advances placed some wide h = absurd (let f : true ≡ false = h in cc)
-river_straight (MultiPoint places) c advances placed some wide h = absurd (let f : true ≡ false = h in cc)
-river_straight (LineString line) c advances placed some wide h = placed_straight c (line ∷ []) advances placed some wide h
-river_straight (MultiLineString lines) c advances placed some wide h = placed_straight c lines advances placed some wide h
-river_straight (Polygon rings) c advances placed some wide h = absurd (let f : true ≡ false = h in cc)
-river_straight (MultiPolygon parts) c advances placed some wide h = absurd (let f : true ≡ false = h in cc)
+river_straight : (laws : TextLaws) (shape : Geometry) (c : RiverClass) (advances : List ℕ) (placed : Placed) → 0 < length advances → 1025 ≤ width c (sum advances) → IsRiver shape advances c (Some placed) → placed.shape ≡ Straight
+river_straight laws (Point place) c advances placed some wide h = absurd (let f : true ≡ false = h in cc)
+river_straight laws (MultiPoint places) c advances placed some wide h = absurd (let f : true ≡ false = h in cc)
+river_straight laws (LineString line) c advances placed some wide h = placed_straight laws c (line ∷ []) advances placed some wide h
+river_straight laws (MultiLineString lines) c advances placed some wide h = placed_straight laws c lines advances placed some wide h
+river_straight laws (Polygon rings) c advances placed some wide h = absurd (let f : true ≡ false = h in cc)
+river_straight laws (MultiPolygon parts) c advances placed some wide h = absurd (let f : true ≡ false = h in cc)
 
 -- a list with a sum has items
 some_items : (l : List ℕ) → 0 < sum l → 0 < length l
@@ -69,12 +55,12 @@ some_sum : (total size u : ℕ) → 1025 ≤ max 1 (div_ceil (total * size) u) �
 some_sum zero size u h = absurd (omega arith)
 some_sum (suc n) size u h = omega arith
 
-module _ (font : Font) (class : Class) (text : List ℕ) (u : IsUtf8 text) (too_wide : IsTooWide (pos 0) (width_of font class.size text)) where
+module _ (laws : TextLaws) (font : Font) (class : Class) (text : List ℕ) (u : IsUtf8 text) (too_wide : IsTooWide (pos 0) (width_of font class.size text)) where
   abbrev total : ℕ
   total = sum (advances_of font text)
 
   reached : min (advance_sum font text) 18446744073709551615 ≤ total
-  reached = subst (λ (n : ℕ). min (advance_sum font text) 18446744073709551615 ≤ n) (sym (sum-map (λ (c : Cluster). c.advance) (clusters_of font text))) (clusters_reach font text u)
+  reached = subst (λ (n : ℕ). min (advance_sum font text) 18446744073709551615 ≤ n) (sym (sum-map (λ (c : Cluster). c.advance) (clusters_of font text))) (laws.reach font text u)
 
   wide : 1025 ≤ max 1 (div_ceil (total * class.size) font.units)
   wide = wide_units (advance_sum font text) total class.size font.units class.some_size font.some_units font.few_units (wide_pixels _ too_wide) reached
@@ -87,14 +73,14 @@ module _ (font : Font) (class : Class) (text : List ℕ) (u : IsUtf8 text) (too_
 
   -- a text that is too wide lies straight wherever it is placed along a line
   pub lies_straight : (shape : Geometry) (placed : Placed) → IsAlong font class shape text placed → placed.shape ≡ Straight
-  lies_straight shape placed along = river_straight shape along.river (advances_of font text) placed some (wide_along along.river along.measured) along.placed_is
+  lies_straight shape placed along = river_straight laws shape along.river (advances_of font text) placed some (wide_along along.river along.measured) along.placed_is
 
 -- by the kind of the class
-straight_by : (kind : Kind) (font : Font) (class : Class) (shape : Geometry) (text : List ℕ) → IsUtf8 text → IsTooWide (shift kind class.dx) (width_of font class.size text) → LiesStraight kind font class shape text
-straight_by PointKind font class shape text u h = tt
-straight_by LineKind font class shape text u h = lies_straight font class text u h shape
-straight_by AreaKind font class shape text u h = tt
+straight_by : (laws : TextLaws) (kind : Kind) (font : Font) (class : Class) (shape : Geometry) (text : List ℕ) → IsUtf8 text → IsTooWide (shift kind class.dx) (width_of font class.size text) → LiesStraight kind font class shape text
+straight_by laws PointKind font class shape text u h = tt
+straight_by laws LineKind font class shape text u h = lies_straight laws font class text u h shape
+straight_by laws AreaKind font class shape text u h = tt
 
 -- a text that is too wide has no place
-pub no_place : (font : Font) (class : Class) (shape : Geometry) (text : List ℕ) → IsUtf8 text → IsTooWideText font class text → HasNoPlace font class shape text
-no_place font class shape text u h = (straight_by class.kind font class shape text u h, h)
+pub no_place : (laws : TextLaws) (font : Font) (class : Class) (shape : Geometry) (text : List ℕ) → IsUtf8 text → IsTooWideText font class text → HasNoPlace font class shape text
+no_place laws font class shape text u h = (straight_by laws class.kind font class shape text u h, h)

@@ -1,6 +1,10 @@
-pub mod Along
-pub mod Classes
-pub mod LabelsLemmas
-pub mod Names
-pub mod Setting
-pub mod Widths
+mod Along
+mod Classes
+mod LabelsLemmas
+mod Names
+mod Setting
+mod Widths
+mod OneLabel
+mod OnePlacing
+mod OrderLemmas
+mod SoFar

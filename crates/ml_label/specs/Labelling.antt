@@ -6,16 +6,16 @@ use Rattle.ml_cone.specs.declared.label.Label.{Label}
 use Rattle.ml_style.specs.declared.class.Class.{Class}
 use Rattle.ml_style.specs.declared.font.Font.{Font}
 use Rattle.ml_style.specs.declared.style.Style.{Style}
-use Rattle.ml_style.specs.Fit.{first_fit}
+use Rattle.ml_style.specs.Matching.{first_match}
 use Rattle.ml_style.specs.Fonts.{font_named}
 use Rattle.ml_label.specs.Name.{name_of, rank_of}
 use Rattle.ml_label.specs.Placing.{Placing, IsPlacing, HasNoPlace}
 use Rattle.ml_label.specs.declared.reason.Reason.{Reason}
 use Rattle.ml_label.specs.declared.reason.Reason.TheVariants.{NoGeometry, NoClass, NoName, TooWide}
 
--- the first class of the style that fits the feature
+-- the first class of the style that applies to the feature
 abbrev pub IsClassOf : Style → Feature → Class → Type 0
-IsClassOf style feature class = (place : ℕ) × (first_fit style feature ≡ Some place) × (slice_get style.classes place ≡ Some class)
+IsClassOf style feature class = (place : ℕ) × (first_match style feature ≡ Some place) × (slice_get style.classes place ≡ Some class)
 
 -- a feature with a shape, its class, that class's font, and a name
 pub record IsNamed (style : Style) (feature : Feature) (shape : Geometry) (class : Class) (font : Font) (text : List ℕ) : Type 0 where
@@ -24,13 +24,14 @@ pub record IsNamed (style : Style) (feature : Feature) (shape : Geometry) (class
   pub font_is : font_named style.fonts class.font ≡ Some font
   pub text_is : name_of style feature ≡ Some text
 
--- the order of a feature's label, and the scales at which it may be shown, are those of its class
+-- the order of a feature's label, the scales at which it may be shown and its margin are those of its class
 pub record IsOrdered (style : Style) (feature : Feature) (class : Class) (label : Label) : Type 0 where
   pub class_is : label.order.class ≡ class.priority
   pub rank_is : label.order.rank ≡ rank_of style feature
   pub id_is : label.order.id ≡ feature.id
   pub min_is : label.min ≡ class.min
   pub max_is : label.max ≡ class.max
+  pub margin_is : label.margin ≡ class.margin
 
 -- where a label stands, and its boxes and pieces
 pub record IsPutAt (label : Label) (placing : Placing) : Type 0 where
@@ -51,11 +52,11 @@ pub record IsFeatureLabel (style : Style) (feature : Feature) (label : Label) : 
   pub placed : IsPlacing font class shape text placing
   pub put : IsPutAt label placing
 
--- a feature with a shape, which no class fits
+-- a feature with a shape, to which no class applies
 pub record HasNoClass (style : Style) (feature : Feature) : Type 0 where
   pub shape : Geometry
   pub shape_is : feature.geometry ≡ Some shape
-  pub unfit : first_fit style feature ≡ None
+  pub none_applies : first_match style feature ≡ None
 
 -- a feature with a class and without a name
 pub record HasNoName (style : Style) (feature : Feature) : Type 0 where
@@ -83,3 +84,21 @@ IsReason style feature TooWide = IsTooWideLabel style feature
 abbrev pub IsLabelling : Style → Feature → Result Label Reason → Type 0
 IsLabelling style feature (Ok label) = IsFeatureLabel style feature label
 IsLabelling style feature (Err reason) = IsReason style feature reason
+
+-- two labels are the same in every part
+pub record IsSameLabel (a b : Label) : Type 0 where
+  pub order_is : a.order ≡ b.order
+  pub x_is : a.x ≡ b.x
+  pub y_is : a.y ≡ b.y
+  pub boxes_are : a.boxes ≡ b.boxes
+  pub pieces_are : a.pieces ≡ b.pieces
+  pub min_is : a.min ≡ b.min
+  pub max_is : a.max ≡ b.max
+  pub margin_is : a.margin ≡ b.margin
+
+-- two answers are the same: labels that are the same, or one reason
+abbrev pub IsSameAnswer : Result Label Reason → Result Label Reason → Type 0
+IsSameAnswer (Ok a) (Ok b) = IsSameLabel a b
+IsSameAnswer (Err a) (Err b) = a ≡ b
+IsSameAnswer (Ok a) (Err b) = ⊥
+IsSameAnswer (Err a) (Ok b) = ⊥

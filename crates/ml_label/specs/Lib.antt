@@ -1,3 +1,4 @@
+pub use Rattle.ml_cone.specs.Label
 pub mod Name
 pub mod Straight
 pub mod Placing

@@ -2,6 +2,7 @@
 use Rattle.std.specs.Prelude.{◌≡◌, ℕ, ℤ, pos, List, [], ◌∷◌, map, Some}
 use Rattle.ml_ratio.specs.declared.geometry.Pos.{Pos}
 use Rattle.ml_ratio.specs.declared.geometry.Geometry.{Geometry}
+use Rattle.ml_cone.specs.Plane.{IsBox}
 use Rattle.ml_cone.specs.declared.label.BoxPx.{BoxPx}
 use Rattle.ml_style.specs.declared.class.Class.{Class}
 use Rattle.ml_style.specs.declared.class.Kind.{Kind}
@@ -37,6 +38,10 @@ IsTextBox font class text box =
 -- that box would reach too far
 abbrev pub IsTooWideText : Font → Class → List ℕ → Type 0
 IsTooWideText font class text = IsTooWide (shift class.kind class.dx) (width_of font class.size text)
+
+-- the straight box of a text, which does not reach too far
+abbrev pub IsFittingBox : Font → Class → List ℕ → BoxPx → Type 0
+IsFittingBox font class text box = IsTextBox font class text box × ¬ (IsTooWideText font class text) × IsBox box.l box.b box.r box.t
 
 -- the whole text in one box
 abbrev pub IsOneBox : BoxPx → List ℕ → Placing → Type 0

@@ -1,7 +1,7 @@
 //! The label of a feature.
 ghost use Rattle.std.specs.Prelude.{◌≡◌, Some, None, IfOk, IfSome, MatchOption};
 ghost use Rattle.std.specs.Option.{option_copied};
-ghost use Rattle.ml_style.specs.Fit.{first_fit, kind_of};
+ghost use Rattle.ml_style.specs.Matching.{first_match, kind_of};
 ghost use Rattle.ml_style.specs.Fonts.{HasFont};
 ghost use Rattle.ml_label.specs.Seen.{placing_of};
 ghost use Rattle.ml_label.specs.Labelling.{IsClassOf, IsLabelling, IsOrdered, IsPutAt};
@@ -15,9 +15,9 @@ use ml_ratio::Feature;
 use ml_style::{Class, Style, class_of};
 use std::alloc::{AllocError, Global};
 
-// The first class of the style that fits the feature.
+// The first class of the style that applies to the feature.
 fn class_for<'a>(style: &'a Style, feature: &Feature) -> Option<&'a Class>
-    ensures class { MatchOption (option_copied result) (first_fit style.now feature.now ≡ None) (IsClassOf style.now feature.now) }
+    ensures class { MatchOption (option_copied result) (first_match style.now feature.now ≡ None) (IsClassOf style.now feature.now) }
     ensures known { IfSome (option_copied result) (HasFont style.now.fonts) }
 {
     let place = class_of(style, feature)?;
@@ -45,7 +45,14 @@ fn label_at(
         pieces,
     } = placed;
     match Label::of(
-        order, anchor.x, anchor.y, boxes, pieces, class.min, class.max,
+        order,
+        anchor.x,
+        anchor.y,
+        boxes,
+        pieces,
+        class.min,
+        class.max,
+        class.margin,
     ) {
         Some(label) => Ok(label),
         None => unreachable!(),
@@ -54,7 +61,7 @@ fn label_at(
 
 /// The label of a feature under a style, or the first reason why it has none.
 ///
-/// The first class that fits gives priority, size, font and scales. The rank is the whole part of the
+/// The first class that applies gives priority, size, font, scales and margin. The rank is the whole part of the
 /// property that the style names, where that is a number, and 0 elsewhere. The text is the name with
 /// spaces for what cannot be shown; a point's and an area's is one straight box, a line's is a chain
 /// of boxes along it where that can be.

@@ -9,7 +9,7 @@ use ml_style::Style;
 use ml_text::label_text;
 use std::alloc::{AllocError, Global};
 
-/// The value of the property with this key.
+// The value of the property with this key.
 fn property<'a>(props: &'a [Prop], key: &str) -> Option<&'a Scalar>
     ensures { option_copied result ≡ spec_property key.now props.now }
 {
@@ -17,7 +17,7 @@ fn property<'a>(props: &'a [Prop], key: &str) -> Option<&'a Scalar>
     Some(&prop.value)
 }
 
-/// The text of a name: a string's, or a number's.
+// The text of a name: a string's, or a number's.
 fn name_in(value: Option<&Scalar>) -> Option<&Text>
     ensures { option_copied result ≡ spec_name_in (option_copied value.entry) }
 {
@@ -27,7 +27,7 @@ fn name_in(value: Option<&Scalar>) -> Option<&Text>
     }
 }
 
-/// Whether a text is empty or has only spaces.
+// Whether a text is empty or has only spaces.
 fn is_blank(text: &str) -> bool
     ensures { result ≡ spec_is_blank text.now }
 {
@@ -55,7 +55,7 @@ pub fn name_of(alloc: Global, style: &Style, feature: &Feature) -> Result<Option
     Ok(Some(text))
 }
 
-/// The whole part of a number, 0 to 2^53, and 0 for anything else.
+// The whole part of a number, 0 to 2^53, and 0 for anything else.
 fn rank_in(value: Option<&Scalar>) -> u64
     ensures { result ≡ spec_rank_in (option_copied value.entry) }
 {

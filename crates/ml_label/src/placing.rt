@@ -2,22 +2,24 @@
 ghost use Rattle.std.specs.Prelude.{◌≡◌, ◌<◌, ◌^◌, Some, IfOk, IsUtf8, MatchOption, length, map, sum_by};
 ghost use Rattle.ml_ratio.specs.Geometry.{IsGeometry};
 ghost use Rattle.ml_cone.specs.Plane.{IsBox};
-ghost use Rattle.ml_style.specs.Fit.{kind_of};
+ghost use Rattle.ml_style.specs.Matching.{kind_of};
 ghost use Rattle.ml_style.specs.Offset.{IsOffset};
 ghost use Rattle.ml_style.specs.declared.class.Kind.TheVariants as kinds;
 ghost use Rattle.ml_text.specs.Cluster.{clusters_of};
 ghost use Rattle.ml_text.specs.Width.{advance_sum};
 ghost use Rattle.ml_anchor.specs.Anchor.{point_of, IsAreaAnchor};
 ghost use Rattle.ml_label.specs.Seen.{placing_of};
-ghost use Rattle.ml_label.specs.Placing.{shift, IsTextBox, IsTooWideText, IsOneBox, IsAlong, IsPlacedAlong, IsPlacing, HasNoPlace};
+ghost use Rattle.ml_label.specs.Placing.{shift, IsTextBox, IsTooWideText, IsFittingBox, IsOneBox, IsAlong, IsPlacedAlong, IsPlacing, HasNoPlace};
 
 use crate::placed::PlacedText;
 use crate::straight::{is_too_wide, straight_box};
 use ml_anchor::{area_anchor, point_anchor};
 use ml_cone::BoxPx;
 use ml_ratio::{Geometry, Pos, Seq, Text};
+use ml_river::laws::chains_are_narrow;
 use ml_river::{Placed, RiverClass, Shape, chain_of};
 use ml_style::{Class, Font, Kind};
+use ml_text::laws::clusters_reach;
 use ml_text::{Cluster, clusters, width};
 use std::alloc::{AllocError, Global};
 
@@ -36,7 +38,7 @@ fn shift_of(class: &Class) -> (i32, i32)
 
 // The straight box of the text; none where it would reach too far to the left or right.
 fn text_box(font: &Font, class: &Class, text: &Text) -> Option<BoxPx>
-    ensures { MatchOption result (IsTooWideText font.now class.now text.now) (λ p. IsTextBox font.now class.now text.now p × ¬ (IsTooWideText font.now class.now text.now) × IsBox p.l p.b p.r p.t) }
+    ensures { MatchOption result (IsTooWideText font.now class.now text.now) (IsFittingBox font.now class.now text.now) }
 {
     let wide = width(font, class.size, text);
     let (dx, dy) = shift_of(class);
@@ -209,6 +211,8 @@ pub fn place(
     requires utf8 { IsUtf8 text }
     ensures { IfOk result (λ placed. MatchOption placed (HasNoPlace font.now class.now shape.now text) (λ p. IsPlacing font.now class.now shape.now text (placing_of p))) }
 {
+    clusters_reach();
+    chains_are_narrow();
     let Some(straight) = text_box(font, class, &text) else {
         return Ok(None);
     };

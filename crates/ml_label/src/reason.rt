@@ -7,8 +7,8 @@ pub enum Reason {
     /// The feature has no geometry.
     #[error("the feature has no geometry")]
     NoGeometry,
-    /// No class of the style fits the feature.
-    #[error("no class fits the feature")]
+    /// No class of the style applies to the feature.
+    #[error("no class applies to the feature")]
     NoClass,
     /// Its name is absent, null, a truth value, empty or of spaces alone.
     #[error("the feature has no name")]

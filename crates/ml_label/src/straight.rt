@@ -6,7 +6,7 @@ ghost use Rattle.ml_label.specs.Straight.{IsStraight, IsTooWide, left, right};
 
 use ml_cone::BoxPx;
 
-/// The widest text that is looked at: a wider one is too wide whatever moves it.
+// The widest text that is looked at: a wider one is too wide whatever moves it.
 const WIDEST: u64 = 4096;
 
 // The lower and the upper end of what is so many pixels long, moved by `d`.

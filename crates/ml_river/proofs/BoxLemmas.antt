@@ -3,10 +3,9 @@ use Rattle.std.proofs.Common.{◌≡◌, ℕ, ◌/◌, ◌^◌, ◌<◌, List, O
 use Rattle.std.proofs.lemmas.Int.{ints, to_z-of_z, to_z_pos}
 use Rattle.ml_ratio.specs.declared.geometry.Pos.{Pos}
 use Rattle.ml_cone.specs.declared.label.BoxPx.{BoxPx}
-use Rattle.ml_cone.specs.Plane.{IsOffset, IsBox}
 use Rattle.ml_river.specs.declared.class.RiverClass.{RiverClass}
 use Rattle.ml_river.specs.Height.{IsHeight}
-use Rattle.ml_river.specs.Chain.{middle, raise, IsRaisedBox, HasNoBox}
+use Rattle.ml_river.specs.Chain.{middle, raise, AreOffsets, HasSides, IsRaisedBoxOrNone}
 
 -- orders between numbers that are the same
 pub lt_along : (a b c d : ℤ) → a ≡ c → d ≡ b → a <ℤ b → c <ℤ d
@@ -17,10 +16,10 @@ le_along a b c d e f h = omega (arith, ints)
 
 -- what the making of a box of four sides says
 abbrev pub IsMade : ℤ → ℤ → ℤ → ℤ → Option BoxPx → Type 0
-IsMade l b r t o = MatchOption o (¬ (IsOffset l × IsOffset b × IsOffset r × IsOffset t)) (λ p. (p.l ≡ l) × (p.b ≡ b) × (p.r ≡ r) × (p.t ≡ t) × IsBox l b r t)
+IsMade l b r t o = MatchOption o (¬ (AreOffsets l b r t)) (HasSides l b r t)
 
 -- a raised box, or none
-pub raised : (c : RiverClass) (run : List Pos) (x y l r m h v b t : ℤ) (o : Option BoxPx) → m ≡ middle c x l r → IsHeight run m h → v ≡ raise c y h → b ≡ v -ℤ pos (c.size / 2) → t ≡ b +ℤ pos c.size → IsMade l b r t o → MatchOption o (HasNoBox c run x y l r) (λ box. IsRaisedBox c run x y l r box × IsBox box.l box.b box.r box.t)
+pub raised : (c : RiverClass) (run : List Pos) (x y l r m h v b t : ℤ) (o : Option BoxPx) → m ≡ middle c x l r → IsHeight run m h → v ≡ raise c y h → b ≡ v -ℤ pos (c.size / 2) → t ≡ b +ℤ pos c.size → IsMade l b r t o → IsRaisedBoxOrNone c run x y l r o
 raised c run x y l r m h v b t None em eh ev eb et none =
     inr (
       record { l = l; b = b; r = r; t = t },
@@ -36,24 +35,20 @@ raised c run x y l r m h v b t None em eh ev eb et none =
     )
 raised c run x y l r m h v b t (Some p) em eh ev eb et made = (
   record {
-    left_is = made.0;
-    right_is = made.2;
+    left_is = made.left_is;
+    right_is = made.right_is;
     height = h;
     height_is = subst (λ (z : ℤ). IsHeight run z h) em eh;
-    bottom_is = made.1 ∙ (eb ∙ ap (λ (z : ℤ). z -ℤ pos (c.size / 2)) ev);
-    top_is = made.3 ∙ (et ∙ ap (λ (z : ℤ). z +ℤ pos c.size) (sym made.1));
+    bottom_is = made.bottom_is ∙ (eb ∙ ap (λ (z : ℤ). z -ℤ pos (c.size / 2)) ev);
+    top_is = made.top_is ∙ (et ∙ ap (λ (z : ℤ). z +ℤ pos c.size) (sym made.bottom_is));
   },
-  rw (made.0, made.1, made.2, made.3) made.4,
+  rw (made.left_is, made.bottom_is, made.right_is, made.top_is) made.good,
 )
 
--- a raised box with the sides l and r, or none
-abbrev pub IsRaised : RiverClass → List Pos → ℤ → ℤ → ℤ → ℤ → Option BoxPx → Type 0
-IsRaised c run x y l r o = MatchOption o (HasNoBox c run x y l r) (λ box. IsRaisedBox c run x y l r box × IsBox box.l box.b box.r box.t)
-
 -- the same with the same sides
-pub raised_along : (c : RiverClass) (run : List Pos) (x y l r l' r' : ℤ) (o : Option BoxPx) → l ≡ l' → r ≡ r' → IsRaised c run x y l r o → IsRaised c run x y l' r' o
+pub raised_along : (c : RiverClass) (run : List Pos) (x y l r l' r' : ℤ) (o : Option BoxPx) → l ≡ l' → r ≡ r' → IsRaisedBoxOrNone c run x y l r o → IsRaisedBoxOrNone c run x y l' r' o
 raised_along c run x y l r l' r' o el er h =
-    subst (λ (z : ℤ). IsRaised c run x y l' z o) er (subst (λ (z : ℤ). IsRaised c run x y z r o) el h)
+    subst (λ (z : ℤ). IsRaisedBoxOrNone c run x y l' z o) er (subst (λ (z : ℤ). IsRaisedBoxOrNone c run x y z r o) el h)
 
 -- a side, as the code computes it
 pub side : (s h s' h' : ℕ) → s < 2 ^ 58 → h < 2 ^ 58 → s ≡ s' → h ≡ h' → to_z w64 (of_z w64 (to_z w64 s -ℤ to_z w64 h)) ≡ pos s' -ℤ pos h'

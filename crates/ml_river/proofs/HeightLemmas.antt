@@ -2,7 +2,7 @@
 use Rattle.std.proofs.Common.{◌≡◌, ℕ, ◌+◌, ◌-◌, ◌<◌, ◌⊎◌, List, length, ℤ, ◌<ℤ◌, ◌≤ℤ◌, zero, suc, inl, inr, sym, ap, ◌∙◌, subst, arith}
 use Rattle.std.proofs.lemmas.Int.{ints, by_lt_z}
 use Rattle.ml_ratio.specs.declared.geometry.Pos.{Pos}
-use Rattle.ml_anchor.specs.Floor.{height_on}
+use Rattle.ml_ratio.specs.Floor.{height_on}
 use Rattle.ml_river.specs.Run.{x_at, y_at}
 use Rattle.ml_river.specs.Height.{IsRising, IsHeight}
 

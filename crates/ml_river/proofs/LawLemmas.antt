@@ -4,7 +4,7 @@ use Rattle.std.proofs.lemmas.Bool.{cases_order}
 use Rattle.std.proofs.lemmas.Int.{ints}
 use Rattle.ml_ratio.specs.declared.geometry.Pos.{Pos}
 use Rattle.ml_cone.specs.declared.label.BoxPx.{BoxPx}
-use Rattle.ml_anchor.specs.Floor.{height_on}
+use Rattle.ml_ratio.specs.Floor.{height_on}
 use Rattle.ml_river.specs.declared.class.RiverClass.{RiverClass}
 use Rattle.ml_river.specs.Run.{x_at, y_at}
 use Rattle.ml_river.specs.Height.{IsRising, IsHeight, IsOutside}
@@ -65,7 +65,7 @@ not_outside run x y up p (inr after) =
     clash x _ _ p.before (in_order run (p.edge + 1) (length run - 1) up (let t = p.there in omega arith) (let t = p.there in omega arith)) after
 
 -- two boxes with the same sides are the same
-same_box : (c : RiverClass) (run : List Pos) (x y l r : ℤ) (p q : BoxPx) → IsRising run → IsRaisedBox c run x y l r p → IsRaisedBox c run x y l r q → (p.l ≡ q.l) × (p.b ≡ q.b) × (p.r ≡ q.r) × (p.t ≡ q.t)
+pub same_box : (c : RiverClass) (run : List Pos) (x y l r : ℤ) (p q : BoxPx) → IsRising run → IsRaisedBox c run x y l r p → IsRaisedBox c run x y l r q → (p.l ≡ q.l) × (p.b ≡ q.b) × (p.r ≡ q.r) × (p.t ≡ q.t)
 same_box c run x y l r p q up a b =
     let h = one_height run (middle c x l r) a.height b.height up a.height_is b.height_is in
     let e : p.b ≡ q.b = a.bottom_is ∙ (ap (λ (z : ℤ). raise c y z -ℤ pos (c.size / 2)) h ∙ sym b.bottom_is) in

@@ -1,10 +1,13 @@
-pub mod StepLemmas
-pub mod RunLemmas
-pub mod SeenLemmas
-pub mod HeightLemmas
-pub mod TurnLemmas
-pub mod ChainLemmas
-pub mod BoxLemmas
-pub mod LoopLemmas
-pub mod ShapeLemmas
-pub mod LawLemmas
+mod StepLemmas
+mod RunLemmas
+mod SeenLemmas
+mod HeightLemmas
+mod TurnLemmas
+mod ChainLemmas
+mod BoxLemmas
+mod LoopLemmas
+mod ShapeLemmas
+mod LawLemmas
+mod OneRun
+mod OnePlace
+mod Narrow

@@ -1,3 +1,4 @@
+-- How the text of a river is set.
 use Rattle.std.specs.Prelude.{ℕ, ◌^◌, ◌<◌, ◌≤◌}
 
 -- units of a font for each em: 1 to 65,535

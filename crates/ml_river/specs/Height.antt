@@ -1,6 +1,7 @@
+-- Heights along a run.
 use Rattle.std.specs.Prelude.{◌≡◌, ℕ, ◌+◌, ◌-◌, ◌<◌, ℤ, ◌≤ℤ◌, ◌<ℤ◌, List, length, ◌⊎◌}
 use Rattle.ml_ratio.specs.declared.geometry.Pos.{Pos}
-use Rattle.ml_anchor.specs.Floor.{height_on}
+use Rattle.ml_ratio.specs.Floor.{height_on}
 use Rattle.ml_river.specs.Run.{x_at, y_at}
 
 -- y is the height at x of a run whose x rises, rounded down, on the one edge that holds x; of two that meet there, the left one

@@ -1,3 +1,6 @@
+pub use Rattle.ml_ratio.specs.Floor
+pub use Rattle.ml_ratio.specs.Geometry
+pub use Rattle.ml_cone.specs.Plane
 pub mod Class
 pub mod Run
 pub mod Seen

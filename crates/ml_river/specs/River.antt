@@ -1,8 +1,10 @@
+-- Where the text of a river is placed.
 use Rattle.std.specs.Prelude.{◌≡◌, ℕ, ◌-◌, ℤ, pos, ◌+ℤ◌, List, [], ◌∷◌, length, slice_get, Option, Some, IsNone, IsSomeAnd, ◌⊎◌}
+use Rattle.ml_ratio.specs.Geometry.{IsSamePlace}
 use Rattle.ml_ratio.specs.declared.geometry.Pos.{Pos}
 use Rattle.ml_ratio.specs.declared.geometry.Geometry.{Geometry}
 use Rattle.ml_ratio.specs.declared.geometry.Geometry.TheVariants.{Point, MultiPoint, LineString, MultiLineString, Polygon, MultiPolygon}
-use Rattle.ml_anchor.specs.Floor.{floor}
+use Rattle.ml_ratio.specs.Floor.{floor}
 use Rattle.ml_river.specs.Run.{x_at, line_at, turned, IsWidestRun, HasNoRun}
 use Rattle.ml_river.specs.Height.{IsHeight}
 use Rattle.ml_river.specs.Chain.{IsChain, HasNoChain}
@@ -48,3 +50,7 @@ IsRiver (LineString line) advances c answer = IsSomeAnd answer (IsPlaced c (line
 IsRiver (MultiLineString lines) advances c answer = IsSomeAnd answer (IsPlaced c lines advances)
 IsRiver (Polygon rings) advances c answer = IsNone answer
 IsRiver (MultiPolygon parts) advances c answer = IsNone answer
+
+-- two placings are the same: at one place, and in the same boxes or both straight
+abbrev pub IsSamePlacing : Placed → Placed → Type 0
+IsSamePlacing p q = IsSamePlace p.anchor q.anchor × (p.shape ≡ q.shape)

@@ -1,3 +1,4 @@
+-- Runs of a line, on which x strictly rises or strictly falls.
 use Rattle.std.specs.Prelude.{◌≡◌, ℕ, ◌+◌, ◌-◌, ◌<◌, ◌≤◌, ℤ, pos, ◌-ℤ◌, int_lt, List, [], length, map, take, drop, reverse, slice_index_or, ◌⊎◌, if◌then◌else◌, unsigned_abs}
 use Rattle.std.specs.Ordering.{int_cmp}
 use Rattle.std.specs.declared.cmp.Ordering.{Ordering}

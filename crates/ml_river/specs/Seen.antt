@@ -1,3 +1,4 @@
+-- The widest run of those that were looked at. No public clause speaks of it.
 use Rattle.std.specs.Prelude.{◌≡◌, ℕ, ◌<◌, ◌≤◌, List, Option, None, Some, MatchOption}
 use Rattle.ml_ratio.specs.declared.geometry.Pos.{Pos}
 use Rattle.ml_river.specs.Run.{span, line_at, IsRunOf, IsBefore}

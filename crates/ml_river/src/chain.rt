@@ -1,14 +1,14 @@
 //! The boxes of a text's clusters along a run.
 ghost use Rattle.std.specs.Prelude.{◌≡◌, ◌+◌, ◌^◌, ◌<◌, ◌≤◌, ◌↔◌, IsTrue, ℤ, pos, negsuc, ◌≤ℤ◌, ◌<ℤ◌, ◌+ℤ◌, ◌-ℤ◌, ◌/◌, length, sum, take, MatchOption, IfOk};
-ghost use Rattle.ml_cone.specs.Plane.{IsOffset, IsBox};
+ghost use Rattle.ml_cone.specs.Plane.{IsOffset};
 ghost use Rattle.ml_ratio.specs.World.{IsInWorld};
-ghost use Rattle.ml_river.specs.Height.{IsRising, IsOutside, IsWithin};
-ghost use Rattle.ml_river.specs.Chain.{width, edge, half_width, left, right, middle, raise, IsClusterBox, IsRaisedBox, HasOffsets, HasNoBox, IsChain, HasNoChain};
+ghost use Rattle.ml_river.specs.Height.{IsRising, IsOutside};
+ghost use Rattle.ml_river.specs.Chain.{width, edge, half_width, middle, raise, AreOffsets, HasSides, IsMiddleIn, IsRaisedBoxOrNone, IsClusterBoxOrNone, IsChainOrNone};
 
 use crate::class::RiverClass;
 use crate::height::height_on_run;
-use ml_anchor::between::floor_of;
 use ml_cone::BoxPx;
+use ml_ratio::rounding::floor_of;
 use ml_ratio::{Pos, Seq};
 use std::alloc::{AllocError, Global};
 
@@ -48,7 +48,7 @@ fn middle(class: RiverClass, x: i64, l: i64, r: i64) -> i128
 }
 
 // How many pixels the height `h` lies above `y` at the reference scale, rounded down.
-#[tactic(auto, unfolding(ml_anchor::specs::Floor::floor))]
+#[tactic(auto, unfolding(ml_ratio::specs::Floor::floor))]
 fn raise(class: RiverClass, y: i64, h: i64) -> i64
     requires y_in_world { IsInWorld y }
     requires h_in_world { IsInWorld h }
@@ -70,7 +70,7 @@ fn is_offset(u: i64) -> bool
 fn box_of(l: i64, b: i64, r: i64, t: i64) -> Option<BoxPx>
     requires across { l <ℤ r }
     requires up { b <ℤ t }
-    ensures { MatchOption result (¬ (IsOffset l × IsOffset b × IsOffset r × IsOffset t)) (λ p. (p.l ≡ l) × (p.b ≡ b) × (p.r ≡ r) × (p.t ≡ t) × IsBox l b r t) }
+    ensures { MatchOption result (¬ (AreOffsets l b r t)) (HasSides l b r t) }
 {
     if is_offset(l) && is_offset(b) && is_offset(r) && is_offset(t) {
         Some(BoxPx {
@@ -88,7 +88,7 @@ fn box_of(l: i64, b: i64, r: i64, t: i64) -> Option<BoxPx>
 fn middle_in(class: RiverClass, run: &[Pos], x: i64, l: i64, r: i64) -> Option<i64>
     requires world { IsInWorld x }
     requires some { 0 < length run.now }
-    ensures { MatchOption result (IsOutside run.now (middle class x l r)) (λ m. (m ≡ middle class x l r) × IsWithin run.now m) }
+    ensures { MatchOption result (IsOutside run.now (middle class x l r)) (IsMiddleIn class run.now x l r) }
 {
     let x = middle(class, x, l, r);
     let first = run[0].x as i128;
@@ -108,7 +108,7 @@ fn raised_box(class: RiverClass, run: &[Pos], anchor: Pos, l: i64, r: i64) -> Op
     requires rising { IsRising run.now }
     requires some { 2 ≤ length run.now }
     requires across { l <ℤ r }
-    ensures { MatchOption result (HasNoBox class run.now anchor.x anchor.y l r) (λ box. IsRaisedBox class run.now anchor.x anchor.y l r box × IsBox box.l box.b box.r box.t) }
+    ensures { IsRaisedBoxOrNone class run.now anchor.x anchor.y l r result }
 {
     match middle_in(class, run, anchor.x, l, r) {
         Some(x) => {
@@ -139,7 +139,7 @@ fn cluster_box(
     requires short { sum advances.now < 2 ^ 48 }
     requires half { half ≡ half_width class advances.now }
     requires half_bound { half < 2 ^ 57 }
-    ensures { MatchOption result (HasNoBox class run.now anchor.x anchor.y (left class advances.now k) (right class advances.now k)) (λ box. IsClusterBox class run.now anchor.x anchor.y advances.now k box × IsBox box.l box.b box.r box.t) }
+    ensures { IsClusterBoxOrNone class run.now anchor.x anchor.y advances.now k result }
 {
     let start = edge_at(class, advances, k, before);
     let end = edge_at(class, advances, k + 1, before + advances[k]);
@@ -169,7 +169,7 @@ pub fn chain(
     requires rising { IsRising run.now }
     requires some { 2 ≤ length run.now }
     requires short { sum advances.now < 2 ^ 48 }
-    ensures { IfOk result (λ boxes. MatchOption boxes (HasNoChain class run.now anchor.x anchor.y advances.now) (IsChain class run.now anchor.x anchor.y advances.now)) }
+    ensures { IfOk result (IsChainOrNone class run.now anchor.x anchor.y advances.now) }
 {
     if advances.len() > 64 {
         return Ok(None);

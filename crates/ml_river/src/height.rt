@@ -4,8 +4,8 @@ ghost use Rattle.ml_ratio.specs.World.{IsInWorld};
 ghost use Rattle.ml_river.specs.Run.{x_at, turned};
 ghost use Rattle.ml_river.specs.Height.{IsRising, IsHeight};
 
-use ml_anchor::between::height_at;
 use ml_ratio::Pos;
+use ml_ratio::rounding::height_at;
 use std::alloc::{AllocError, Global};
 
 /// The positions from place `from` to place `to` of a line, turned so that x rises from the first to

@@ -7,19 +7,16 @@
 //! - [`runs`]: the widest run of a river;
 //! - [`height`]: heights along a run;
 //! - [`chain`]: the boxes of the clusters;
-//! - [`laws`]: laws over the definitions alone;
+//! - [`laws`]: laws over the definitions alone, among them that a text has one place only;
 //! - [`river`]: where a text is placed ([`chain_of`]).
 #![tactic(auto)]
 
-pub mod chain;
-pub mod class;
-pub mod height;
+mod chain;
+mod class;
+mod height;
 pub mod laws;
-pub mod river;
-pub mod runs;
+mod river;
+mod runs;
 
 pub use class::RiverClass;
 pub use river::{Placed, Shape, chain_of};
-
-#[cfg(test)]
-mod tests;

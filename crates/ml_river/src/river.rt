@@ -1,7 +1,7 @@
 //! Where the text of a river is placed.
 ghost use Rattle.std.specs.Prelude.{◌≡◌, ◌-◌, ◌<◌, ◌≤◌, ◌^◌, pos, ◌+ℤ◌, All, IfOk, MatchOption, length, sum};
 ghost use Rattle.ml_ratio.specs.World.{IsInWorld};
-ghost use Rattle.ml_anchor.specs.Floor.{floor};
+ghost use Rattle.ml_ratio.specs.Floor.{floor};
 ghost use Rattle.ml_river.specs.Run.{x_at};
 ghost use Rattle.ml_ratio.specs.Geometry.{IsGeometry, HasParts};
 ghost use Rattle.ml_river.specs.Height.{IsRising, IsWithin};
@@ -11,8 +11,8 @@ use crate::chain::chain;
 use crate::class::RiverClass;
 use crate::height::{height_on_run, turned};
 use crate::runs::widest_run;
-use ml_anchor::between::half;
 use ml_cone::BoxPx;
+use ml_ratio::rounding::half;
 use ml_ratio::{Geometry, Pos, Seq};
 use std::alloc::{AllocError, Global};
 use std::slice;

@@ -3,7 +3,7 @@ use Rattle.std.specs.Prelude.{int_lt}
 use Rattle.std.proofs.lemmas.Int.{ints, to_z-of_z}
 use Rattle.std.proofs.lemmas.List.{get_or_read}
 use Rattle.ml_ratio.specs.declared.geometry.Pos.{Pos}
-use Rattle.ml_anchor.specs.Floor.{floor}
+use Rattle.ml_ratio.specs.Floor.{floor}
 use Rattle.ml_anchor.specs.Scan.{crossings}
 use Rattle.ml_anchor.specs.Pairs.{IsMiddle}
 use Rattle.ml_anchor.specs.Anchor.{outer}

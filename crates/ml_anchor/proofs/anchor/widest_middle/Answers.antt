@@ -2,7 +2,7 @@ use Rattle.std.proofs.Common.{rules, ◌≡◌, ℤ, pos, ◌+ℤ◌, List, ◌+
 use Rattle.std.proofs.lemmas.Int.{ints, to_z-of_z}
 use Rattle.std.proofs.lemmas.List.{get_or_read}
 use Rattle.ml_ratio.specs.World.{IsInWorld}
-use Rattle.ml_anchor.specs.Floor.{floor}
+use Rattle.ml_ratio.specs.Floor.{floor}
 use Rattle.ml_anchor.specs.Scan.{crossings}
 use Rattle.ml_anchor.specs.Pairs.{at, IsMiddle}
 use Rattle.ml_anchor.proofs.AnchorLemmas.{sorted_in, middle_from_sort}

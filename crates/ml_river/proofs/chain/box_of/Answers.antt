@@ -17,4 +17,10 @@ returns-then-is_offset-4 c =
     let b' : FitsSigned w32 c.args.b = omega (arith, ints, ob.0, ob.1) in
     let r' : FitsSigned w32 c.args.r = omega (arith, ints, or.0, or.1) in
     let t' : FitsSigned w32 c.args.t = omega (arith, ints, ot.0, ot.1) in
-    (simp to_z-of_z, simp to_z-of_z, simp to_z-of_z, simp to_z-of_z, ((ol, or, c.requires.across), (ob, ot, c.requires.up)))
+    record {
+      left_is = simp to_z-of_z;
+      bottom_is = simp to_z-of_z;
+      right_is = simp to_z-of_z;
+      top_is = simp to_z-of_z;
+      good = ((ol, or, c.requires.across), (ob, ot, c.requires.up));
+    }

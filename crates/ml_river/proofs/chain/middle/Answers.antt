@@ -1,7 +1,7 @@
 use Rattle.std.proofs.Common.{◌≡◌, ◌^◌, ◌<◌, ℤ, pos, ◌+ℤ◌, ◌*ℤ◌, ◌<ℤ◌, ◌≤ℤ◌, ap, arith, w64, FitsSigned}
 use Rattle.std.proofs.lemmas.Int.{ints, to_z-of_z}
 use mir.Syntax.{w128}
-use Rattle.ml_anchor.specs.Floor.{floor}
+use Rattle.ml_ratio.specs.Floor.{floor}
 use Rattle.ml_river.proofs.ChainLemmas.{doubled_fits, half_fits}
 use Rattle.ml_river.proofs.chain.middle.Goals as goal
 

@@ -65,10 +65,11 @@ returns-else-last-x c =
     let u : int_lt (get_or c.args.run.now (length c.args.run.now - 1) c.index-run-run.result).x c.middle-x.result ≡ false = simp to_z-of_z at c.if-last-x.false in
     let low : (get_or c.args.run.now 0 c.index-run-0.result).x ≤ℤ c.middle-x.result = grind (arith, ints) in
     let high : c.middle-x.result ≤ℤ (get_or c.args.run.now (length c.args.run.now - 1) c.index-run-run.result).x = grind (arith, ints) in
-    let fm' : FitsSigned w64 c.middle-x.result = omega (arith, ints, pw.0, pw.1, qw.0, qw.1) in (
-      simp to_z-of_z m,
-      (
+    let fm' : FitsSigned w64 c.middle-x.result = omega (arith, ints, pw.0, pw.1, qw.0, qw.1) in
+    record {
+      middle_is = simp to_z-of_z m;
+      within = (
         simp to_z-of_z (le_along (get_or c.args.run.now 0 c.index-run-0.result).x c.middle-x.result (x_at c.args.run.now 0) c.middle-x.result (sym p) refl low),
         simp to_z-of_z (le_along c.middle-x.result (get_or c.args.run.now (length c.args.run.now - 1) c.index-run-run.result).x c.middle-x.result (x_at c.args.run.now (length c.args.run.now - 1)) refl q high),
-      ),
-    )
+      );
+    }

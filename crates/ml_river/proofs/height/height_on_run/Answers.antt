@@ -1,7 +1,7 @@
 use Rattle.std.proofs.Common.{rules, ◌≡◌, ◌+◌, ◌-◌, ℤ, ◌<ℤ◌, ◌≤ℤ◌, true, false, sym, subst, arith, w64, FitsSigned}
 use Rattle.std.specs.Prelude.{int_le}
 use Rattle.std.proofs.lemmas.Int.{ints, to_z-of_z}
-use Rattle.ml_anchor.specs.Floor.{height_on}
+use Rattle.ml_ratio.specs.Floor.{height_on}
 use Rattle.ml_river.specs.Height.{IsHeight}
 use Rattle.ml_river.proofs.StepLemmas.{x_read, y_read}
 use Rattle.ml_river.proofs.HeightLemmas.{IsPast, past_after, edge_rises, height_found, past_more}

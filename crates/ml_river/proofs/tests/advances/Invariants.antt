@@ -1,5 +1,0 @@
-use Rattle.std.proofs.Common.{◌≡◌, ◌<◌, ◌^◌, sum}
-use Rattle.ml_river.proofs.tests.advances.Given as goal
-
-abbrev pub invariant-loop-word : goal.invariant-loop-word
-invariant-loop-word l = (l.total ≡ sum l.all.items) × (l.total < 2 ^ 33)
