@@ -1,0 +1,253 @@
+//! Intervals, limits and slots among rivals.
+ghost use Rattle.std.specs.Prelude.{◌≡◌, ◌<◌};
+
+use crate::cases::{case, count, first, fraction, good_label, told};
+use ml_cone::{Label, Slot};
+use ml_conflict::{RivalList, are_rivals, evaluate, first_block, interval};
+use ml_ratio::lines::parts_of;
+use ml_ratio::{Ratio, Steps};
+use std::alloc::Global;
+use std::marker::Brand;
+use std::sync::ledger::{Blank, Ledger};
+use std::test::Fail;
+
+/// Two labels of one box, and the ends of the interval of scales at which the boxes overlap. The
+/// first pair covers 10s..30s and 100 - 5s..100 + 5s, which meet where 100 < 35s and 5s < 100.
+const INTERVALS: &str = "\
+0 0 0 1 0 1 10,-5,30,5 | 100 0 0 1 0 1 -5,-5,5,5 => 20/7 20/1
+0 0 0 1 0 1 10,-5,30,5 | 100 30 0 1 0 1 -5,-5,5,5 => 3/1 20/1
+0 0 0 1 0 1 10,-5,30,5 | 100 200 0 1 0 1 -5,-5,5,5 => none
+0 0 0 1 0 1 10,-5,30,5 | -100 0 0 1 0 1 -5,-5,5,5 => none
+0 0 0 1 0 1 -10,-5,10,5 | 400 0 0 1 0 1 -10,-5,10,5 => 20/1 -
+0 0 0 1 0 1 -10,-5,10,5 | 0 -400 0 1 0 1 -10,-5,10,5 => 40/1 -
+0 0 0 1 0 1 -10,-5,10,5 | 0 0 0 1 0 1 -10,-5,10,5 => 0/1 -
+0 0 0 1 0 1 -10,-5,0,5 | 0 0 0 1 0 1 0,-5,10,5 => none
+0 0 0 1 0 1 -10,-5,10,0 | 0 0 0 1 0 1 -10,0,10,5 => none
+0 0 0 1 0 1 2,-5,3,5 | 100 0 0 1 0 1 -5,-5,5,5 => 25/2 -
+0 0 0 1 0 1 -512,-1,512,1 | 2000000000 0 0 1 0 1 -512,-1,512,1 => 1953125/1 -
+0 0 0 1 0 1 510,-1,511,1 | 2000000000 0 0 1 0 1 -512,-1,509,1 => 2000000000/1023 2000000000/1
+0 0 0 1 5 1 -10,-5,10,5 | 400 0 0 1 0 1 -10,-5,10,5 => 16/1 -
+0 0 0 1 0 1 -10,-5,10,5 | 400 0 0 1 5 1 -10,-5,10,5 => 16/1 -
+0 0 0 1 5 1 -10,-5,10,5 | 0 400 0 1 5 1 -10,-5,10,5 => 20/1 -
+0 0 0 1 1 1 -10,-5,0,5 | 0 0 0 1 0 1 0,-5,10,5 => 0/1 -
+-2000000000 0 0 1 64 1 -512,-512,512,512 | 2000000000 0 0 1 64 1 -512,-512,512,512 => 31250000/9 -
+-2000000000 0 0 1 64 1 -512,-1,512,1 | 1999999999 0 0 1 63 1 -512,-1,512,1 => 3999999999/1151 -";
+
+/// The ends of the interval in which the first boxes of the two overlap.
+fn ends_of(alloc: Global, a: &Label, b: &Label) -> Result<String, Fail> {
+    match interval(a, 0, b, 0) {
+        Some((low, end)) => {
+            let (low, end) = (told(alloc, Some(low))?, told(alloc, end)?);
+            let (low, end) = (low.as_str(), end.as_str());
+            Ok(format!(in alloc; "{low} {end}")?)
+        }
+        None => Ok(format!(in alloc; "none")?),
+    }
+}
+
+#[test]
+fn boxes_overlap_in_these_intervals(rt: HostRuntime) -> Result<(), Fail> {
+    for line in INTERVALS.lines() {
+        let (text, want) = case(line)?;
+        let (a, b) = first(text)?;
+        let (a, b) = (good_label(rt.alloc(), a)?, good_label(rt.alloc(), b)?);
+        assert_eq!(rt; ends_of(rt.alloc(), &a, &b)?.as_str(), want, "{line}");
+    }
+    Ok(())
+}
+
+/// A label, an earlier one, until where that is active, and the limit that it sets.
+const LIMITS: &str = "\
+100 0 0 1000 0 1 -5,-5,5,5 | 0 0 0 1000 0 1 10,-5,30,5 | 1000 => 20/7
+100 0 20/7 1000 0 1 -5,-5,5,5 | 0 0 0 1000 0 1 10,-5,30,5 | 1000 => 20/7
+100 0 10 1000 0 1 -5,-5,5,5 | 0 0 0 1000 0 1 10,-5,30,5 | 1000 => 10/1
+100 0 1999/100 1000 0 1 -5,-5,5,5 | 0 0 0 1000 0 1 10,-5,30,5 | 1000 => 1999/100
+100 0 20 1000 0 1 -5,-5,5,5 | 0 0 0 1000 0 1 10,-5,30,5 | 1000 => -
+100 0 25 1000 0 1 -5,-5,5,5 | 0 0 0 1000 0 1 10,-5,30,5 | 1000 => -
+100 0 0 20/7 0 1 -5,-5,5,5 | 0 0 0 1000 0 1 10,-5,30,5 | 1000 => -
+100 0 0 3 0 1 -5,-5,5,5 | 0 0 0 1000 0 1 10,-5,30,5 | 1000 => 20/7
+100 0 0 1000 0 1 -5,-5,5,5 | 0 0 0 1000 0 1 10,-5,30,5 | 0 => -
+100 0 0 1000 0 1 -5,-5,5,5 | 0 0 0 1000 0 1 10,-5,30,5 | 2 => -
+100 0 0 1000 0 1 -5,-5,5,5 | 0 0 0 1000 0 1 10,-5,30,5 | 20/7 => -
+100 0 0 1000 0 1 -5,-5,5,5 | 0 0 0 1000 0 1 10,-5,30,5 | 3 => 20/7
+100 0 10 1000 0 1 -5,-5,5,5 | 0 0 0 1000 0 1 10,-5,30,5 | 10 => -
+100 0 10 1000 0 1 -5,-5,5,5 | 0 0 0 1000 0 1 10,-5,30,5 | 21/2 => 10/1
+400 0 0 1000 0 1 -10,-5,10,5 | 0 0 0 1000 0 1 -10,-5,10,5 | 1000 => 20/1
+400 0 0 1000 0 1 -10,-5,10,5 | 0 0 0 1000 0 1 -10,-5,10,5 | 20 => -
+400 0 0 20 0 1 -10,-5,10,5 | 0 0 0 1000 0 1 -10,-5,10,5 | 1000 => -
+400 0 0 1000 0 1 -10,-5,10,5 | 0 0 50 1000 0 1 -10,-5,10,5 | 1000 => 50/1
+400 0 0 1000 0 1 -10,-5,10,5 | 0 0 50 1000 0 1 -10,-5,10,5 | 50 => -
+400 0 0 50 0 1 -10,-5,10,5 | 0 0 50 1000 0 1 -10,-5,10,5 | 1000 => -
+7 0 0 1000 0 1 -10,-5,10,5 | 7 0 0 1000 0 1 -10,-5,10,5 | 1000 => 0/1
+1800000000 0 0 268435456 0 1 -10,-5,10,5 | -1800000000 0 0 268435456 0 1 -10,-5,10,5 | 268435456 => 180000000/1
+1800000000 0 0 268435456 0 1 -10,-5,10,5 | -1800000000 0 0 268435456 0 1 -10,-5,10,5 | 180000000 => -
+1800000000 0 180000001 268435456 0 1 -10,-5,10,5 | -1800000000 0 0 268435456 0 1 -10,-5,10,5 | 268435456 => 180000001/1
+100 0 0 1000 0 1 -5,-5,5,5 | 0 0 0 1000 0 2 10,-5,30,5 45,-5,55,5 | 1000 => 5/3
+100 0 2 1000 0 1 -5,-5,5,5 | 0 0 0 1000 0 2 10,-5,30,5 45,-5,55,5 | 1000 => 2/1
+100 0 5/2 1000 0 1 -5,-5,5,5 | 0 0 0 1000 0 2 10,-5,30,5 45,-5,55,5 | 1000 => 20/7
+100 0 14/5 1000 0 1 -5,-5,5,5 | 0 0 0 1000 0 2 10,-5,30,5 45,-5,55,5 | 1000 => 20/7
+100 0 20 1000 0 1 -5,-5,5,5 | 0 0 0 1000 0 2 10,-5,30,5 45,-5,55,5 | 1000 => -
+100 0 0 1000 0 1 -5,-5,5,5 | 0 0 0 1000 0 2 10,-5,30,5 45,-5,55,5 | 5/3 => -
+100 0 0 1000 0 1 -5,-5,5,5 | 0 0 0 1000 0 2 10,-5,30,5 45,-5,55,5 | 2 => 5/3
+100 0 5/2 1000 0 1 -5,-5,5,5 | 0 0 0 1000 0 2 10,-5,30,5 45,-5,55,5 | 20/7 => -
+100 0 0 1000 0 1 -5,-5,5,5 | 0 0 0 1000 0 3 -5,-5,0,5 10,-5,30,5 45,-5,55,5 | 1000 => 5/3
+100 0 5/2 1000 0 1 -5,-5,5,5 | 0 0 0 1000 0 3 -5,-5,0,5 10,-5,30,5 45,-5,55,5 | 1000 => 20/7
+100 0 20 1000 0 1 -5,-5,5,5 | 0 0 0 1000 0 3 -5,-5,0,5 10,-5,30,5 45,-5,55,5 | 1000 => 20/1
+100 0 20 1000 0 1 -5,-5,5,5 | 0 0 0 1000 0 3 -5,-5,0,5 10,-5,30,5 45,-5,55,5 | 20 => -
+0 0 5/2 1000 0 3 -5,-5,0,5 10,-5,30,5 45,-5,55,5 | 100 0 0 1000 0 1 -5,-5,5,5 | 1000 => 20/7
+400 0 0 1000 5 1 -10,-5,10,5 | 0 0 0 1000 0 1 -10,-5,10,5 | 1000 => 16/1
+400 0 0 1000 0 1 -10,-5,10,5 | 0 0 0 1000 5 1 -10,-5,10,5 | 1000 => 16/1";
+
+#[test]
+fn a_limit_is_where_overlap_begins_in_both_ranges(rt: HostRuntime) -> Result<(), Fail> {
+    for line in LIMITS.lines() {
+        let (text, want) = case(line)?;
+        let (low, rest) = first(text)?;
+        let (high, until) = first(rest)?;
+        let (low, high) = (good_label(rt.alloc(), low)?, good_label(rt.alloc(), high)?);
+        let limit = first_block(&low, &high, &fraction(until)?);
+        assert_eq!(rt; told(rt.alloc(), limit)?.as_str(), want, "{line}");
+    }
+    Ok(())
+}
+
+/// Two labels, and whether they are rivals.
+const RIVALS: &str = "\
+400 0 0 1000 0 1 -10,-5,10,5 | 0 0 0 1000 0 1 -10,-5,10,5 => true
+400 0 0 20 0 1 -10,-5,10,5 | 0 0 0 1000 0 1 -10,-5,10,5 => false
+400 0 0 41/2 0 1 -10,-5,10,5 | 0 0 0 1000 0 1 -10,-5,10,5 => true
+400 0 500 501 0 1 -10,-5,10,5 | 0 0 0 1000 0 1 -10,-5,10,5 => true
+400 0 1000 2000 0 1 -10,-5,10,5 | 0 0 0 1000 0 1 -10,-5,10,5 => false
+20000 0 0 2000 0 1 -10,-5,10,5 | 0 0 0 1000 0 1 -10,-5,10,5 => false
+19999 0 0 2000 0 1 -10,-5,10,5 | 0 0 0 1000 0 1 -10,-5,10,5 => true
+20000 0 0 2000 0 1 -10,-5,10,5 | 0 0 0 1000 1 1 -10,-5,10,5 => true";
+
+#[test]
+fn rivals_overlap_at_a_scale_in_both_ranges(rt: HostRuntime) -> Result<(), Fail> {
+    for line in RIVALS.lines() {
+        let (text, want) = case(line)?;
+        let (a, b) = first(text)?;
+        let (a, b) = (good_label(rt.alloc(), a)?, good_label(rt.alloc(), b)?);
+        let both = (are_rivals(&a, &b), are_rivals(&b, &a));
+        assert_eq!(rt; both, (want == "true", want == "true"), "{line}");
+    }
+    Ok(())
+}
+
+/// A rival: its number, its label and its end.
+#[derive(Drop)]
+struct Other {
+    number: u32,
+    label: Label,
+    until: Ratio,
+}
+
+#[derive(Drop)]
+struct Others {
+    list: Vec<Other>,
+}
+
+impl RivalList for Others {
+    ghost use Rattle.std.specs.Prelude.{map};
+
+    ghost rivals = { λ o. map (λ r. record { number = r.number; label = r.label; until = r.until }) o.list.items };
+
+    fn count(&self) -> usize {
+        self.list.len()
+    }
+
+    fn number(&self, k: usize) -> u32 {
+        self.list[k].number
+    }
+
+    fn label(&self, k: usize) -> &Label {
+        &self.list[k].label
+    }
+
+    fn until(&self, k: usize) -> Ratio {
+        self.list[k].until
+    }
+}
+
+fn slot_counted<L: Ledger>(low: &Label, rivals: &Others, blank: Blank) -> Slot
+    requires name { blank.name ≡ L.name }
+    requires parts { blank.parts ≡ L.parts }
+    requires some { 0 < blank.parts }
+{
+    let mut steps: Steps<L> = Steps::new(blank);
+    evaluate(low, rivals, &mut steps)
+}
+
+/// A label with a box of 20 by 10 pixels that may be shown from `min` until 1000.
+fn usual(alloc: Global, x: &str, min: &str) -> Result<Label, Fail> {
+    good_label(
+        alloc,
+        &format!(in alloc; "{x} 0 {min} 1000 0 1 -10,-5,10,5")?,
+    )
+}
+
+/// The rival that a text writes, as `NUMBER X END`.
+fn rival_of(alloc: Global, text: &str) -> Result<Other, Fail> {
+    let fields = parts_of(alloc, text, ' ')?;
+    match fields.as_slice() {
+        [number, x, until] => {
+            let label = usual(alloc, x, "0")?;
+            let number = count(number)?;
+            Ok(Other {
+                number,
+                label,
+                until: fraction(until)?,
+            })
+        }
+        _ => Err(Fail::from("three words")),
+    }
+}
+
+/// The end of a label at 0, shown from a scale on, among rivals, and the number of its blocker. A
+/// rival at x overlaps the label from x/20 on, to either side.
+const SLOTS: &str = "\
+0 | none => 1000/1 -
+0 | 7 400 1000 => 20/1 7
+0 | 7 0 1000 => 0/1 7
+0 | 7 20000 1000 => 1000/1 -
+0 | 7 400 1000;3 -400 1000 => 20/1 7
+0 | 3 -400 1000;7 400 1000 => 20/1 3
+0 | 0 800 1000;3 -400 1000;7 400 1000;0 800 1000 => 20/1 3
+0 | 0 800 1000;5 210 1000 => 21/2 5
+0 | 0 400 19;5 800 1000 => 40/1 5
+0 | 0 400 20;5 800 1000 => 40/1 5
+0 | 0 400 21;5 800 1000 => 20/1 0
+25 | 0 400 1000;5 800 1000 => 25/1 0
+30 | 0 400 30;5 800 40 => 1000/1 -";
+
+/// The end and the blocker of a label at 0 among rivals.
+fn slot_told(alloc: Global, min: &str, rivals: &str) -> Result<String, Fail> {
+    let mut list = Vec::new(alloc);
+    if rivals != "none" {
+        for text in rivals.split(';') {
+            list.push(rival_of(alloc, text)?)?;
+        }
+    }
+    let low = usual(alloc, "0", min)?;
+    let slot = slot_counted::<Brand>(&low, &Others { list }, Blank::new(1));
+    let until = told(alloc, Some(slot.until))?;
+    let until = until.as_str();
+    match slot.blocker {
+        Some(number) => Ok(format!(in alloc; "{until} {number}")?),
+        None => Ok(format!(in alloc; "{until} -")?),
+    }
+}
+
+#[test]
+fn the_first_rival_that_sets_the_least_limit_blocks(rt: HostRuntime) -> Result<(), Fail> {
+    for line in SLOTS.lines() {
+        let (text, want) = case(line)?;
+        let (min, rivals) = first(text)?;
+        assert_eq!(rt;
+            slot_told(rt.alloc(), min, rivals)?.as_str(),
+            want,
+            "{line}"
+        );
+    }
+    Ok(())
+}

@@ -1,0 +1,317 @@
+//! Labels worked out by hand. A label is written as its id, class, rank, anchor, range of scales, and
+//! its pieces, each with the left, bottom, right and top of its box.
+use ml_cone::Label;
+use ml_geojson::read_collection;
+use ml_label::{label_of, labels_of};
+use ml_style::{Style, read_style};
+use std::alloc::Global;
+use std::test::Fail;
+
+/// A style of cities, other points, lines and areas.
+const SAMPLE: &str = r#"
+version = 1
+name = "name"
+rank = "pop"
+
+[fonts.sans]
+units = 1000
+default = 500
+advances = { "i" = 250, "\u0301" = 0 }
+
+[[class]]
+geometry = "point"
+key = "place"
+value = "city"
+font = "sans"
+size = 20
+priority = 1
+min = "0"
+max = "1000"
+
+[[class]]
+geometry = "point"
+font = "sans"
+size = 20
+priority = 2
+min = "0"
+max = "1000"
+
+[[class]]
+geometry = "line"
+font = "sans"
+size = 20
+priority = 3
+ref = 1000
+min = "0"
+max = "2000"
+
+[[class]]
+geometry = "area"
+font = "sans"
+size = 20
+priority = 4
+min = "0"
+max = "100000"
+"#;
+
+/// A style of points and lines, each letter one pixel wide and high.
+const PIXELS: &str = r#"
+version = 1
+[fonts.f]
+units = 1
+default = 1
+
+[[class]]
+geometry = "point"
+key = "moved"
+value = "right"
+font = "f"
+size = 1
+priority = 7
+dx = 1
+dy = -256
+min = "1/2"
+max = "3/2"
+
+[[class]]
+geometry = "point"
+key = "moved"
+value = "left"
+font = "f"
+size = 1
+priority = 7
+dx = -1
+min = "0"
+max = "1"
+
+[[class]]
+geometry = "point"
+font = "f"
+size = 1
+priority = 7
+min = "0"
+max = "1"
+
+[[class]]
+geometry = "line"
+font = "f"
+size = 1
+priority = 8
+ref = 1
+dx = 5
+dy = 5
+min = "0"
+max = "1"
+"#;
+
+/// A map file of a city, two islands, a river, and a feature without geometry.
+const MAP: &str = r#"{"type": "FeatureCollection", "features": [
+{ "type": "Feature", "properties": { "name": "Zürich", "pop": 402762, "place": "city" }, "geometry": { "type": "Point", "coordinates": [ 8.5416942, 47.3768861, 408.0 ] } },
+{ "type": "Feature", "properties": { "name": "Inseln" }, "geometry": { "type": "MultiPolygon", "coordinates": [ [ [ [ 0.0, 0.0 ], [ 1.0, 0.0 ], [ 1.0, 1.0 ], [ 0.0, 1.0 ], [ 0.0, 0.0 ] ] ], [ [ [ 2.0, 0.0 ], [ 4.0, 0.0 ], [ 4.0, 2.0 ], [ 2.0, 2.0 ], [ 2.0, 0.0 ] ] ] ] } },
+{ "type": "Feature", "properties": { "name": "Sihl" }, "geometry": { "type": "LineString", "coordinates": [ [ 0.0, 0.0 ], [ 0.02, 0.01 ], [ 0.04, 0.0 ] ] } },
+{ "type": "Feature", "properties": { "name": "leer", "pop": null }, "geometry": null }
+]}"#;
+
+const POINT: &str = r#"{"type":"Point","coordinates":[0.0000001,-0.0000002]}"#;
+
+const LINE: &str = r#"{"type":"LineString","coordinates":[[0,0],[0.02,0.01],[0.04,0]]}"#;
+
+/// A style of cities with a margin.
+const WITH_MARGIN: &str = r#"
+version = 2
+fonts = { f = { units = 1, default = 1 } }
+[[class]]
+geometry = "point"
+font = "f"
+size = 1
+priority = 7
+min = "0"
+max = "1"
+margin = 5
+"#;
+
+/// The label in words.
+fn written(alloc: Global, label: &Label) -> Result<String, Fail> {
+    let order = label.order();
+    let min = label.min().text(alloc)?;
+    let max = label.max().text(alloc)?;
+    let mut text = format!(in alloc;
+        "{} {} {} {},{} {}..{}",
+        order.id.as_str(),
+        order.class,
+        order.rank,
+        label.x(),
+        label.y(),
+        min.as_str(),
+        max.as_str()
+    )?;
+    let pieces = label.pieces().as_slice();
+    for (piece, p) in pieces.iter().zip(label.boxes().as_slice()) {
+        let part = format!(in alloc; " {}[{},{},{},{}]", piece.as_str(), p.l, p.b, p.r, p.t)?;
+        text.push_str(part.as_str())?;
+    }
+    Ok(text)
+}
+
+/// The labels of a map file, or why there are none, a line each.
+fn labels(alloc: Global, style: &Style, map: &str) -> Result<String, Fail> {
+    let mut all = String::new(alloc);
+    for feature in read_collection(alloc, map.as_bytes())?.as_slice() {
+        let line = match label_of(alloc, style, feature)? {
+            Ok(label) => written(alloc, &label)?,
+            Err(reason) => format!(in alloc; "{reason:?}")?,
+        };
+        all.push_str(line.as_str())?;
+        all.push('\n')?;
+    }
+    Ok(all)
+}
+
+/// The label of one feature with this geometry and these properties under a style, or why it has none.
+fn answer(alloc: Global, style: &str, geometry: &str, props: &str) -> Result<String, Fail> {
+    let style = read_style(alloc, style.as_bytes())?;
+    let map = format!(in alloc;
+        "{{\"type\":\"Feature\",\"id\":\"f\",\"geometry\":{geometry},\"properties\":{{{props}}}}}"
+    )?;
+    let mut line = labels(alloc, &style, map.as_str())?;
+    line.pop();
+    Ok(line)
+}
+
+#[test]
+fn the_labels_of_a_map(rt: HostRuntime) -> Result<(), Fail> {
+    let style = read_style(rt.alloc(), SAMPLE.as_bytes())?;
+    assert_eq!(rt;
+        labels(rt.alloc(), &style, MAP)?.as_str(),
+        "#0 1 402762 85416942,473768861 0/1..1000/1 Zürich[-27,-10,28,10]
+#1 4 0 30000000,10000000 0/1..100000/1 Inseln[-30,-10,30,10]
+#2 3 0 200000,100000 0/1..2000/1 S[-17,-16,-7,4] i[-7,-13,-2,7] h[-2,-12,8,8] l[8,-17,18,3]
+NoGeometry
+"
+    );
+    Ok(())
+}
+
+/// Shapes and properties, and the labels under the sample style.
+const SHAPES: &str =
+    r#"{"type":"MultiPoint","coordinates":[[3,2],[1,1]]} & "name":"ab" => f 2 0 30000000,20000000 0/1..1000/1 ab[-10,-10,10,10]
+{"type":"Polygon","coordinates":[[[0,0],[6,0],[6,4],[4,4],[4,1],[1,1],[1,4],[0,4],[0,0]]]} & "name":"ab" => f 4 0 50000000,20000000 0/1..100000/1 ab[-10,-10,10,10]
+line & "name":"e\u0301a" => f 3 0 200000,100000 0/1..2000/1 é[-10,-13,0,7] a[0,-13,10,7]
+{"type":"LineString","coordinates":[[0,0],[0.0005,0]]} & "name":"Sihl" => f 3 0 2500,0 0/1..2000/1 Sihl[-17,-10,18,10]
+point & "name":7.50,"pop":12.9 => f 2 12 1,-2 0/1..1000/1 7.50[-20,-10,20,10]
+point & "name":" a","pop":-3 => f 2 0 1,-2 0/1..1000/1  a[-10,-10,10,10]
+point & "name":"a\u0007b","pop":"5" => f 2 0 1,-2 0/1..1000/1 a b[-15,-10,15,10]
+point & "name":"i","place":"city","pop":1e400 => f 1 9007199254740992 1,-2 0/1..1000/1 i[-2,-10,3,10]
+point & "name":"i","place":"City","pop":null => f 2 0 1,-2 0/1..1000/1 i[-2,-10,3,10]
+null &  => NoGeometry
+point &  => NoName
+point & "title":"a" => NoName
+point & "name":null => NoName
+point & "name":true => NoName
+point & "name":["a"] => NoName
+point & "name":"" => NoName
+line & "name":"   " => NoName
+point & "name":" \u0000\u009f\uffff" => NoName"#;
+
+/// Shapes and properties, and why a style without classes gives no label.
+const WITHOUT_CLASSES: &str = r#"null &  => NoGeometry
+point &  => NoClass
+point & "name":"a" => NoClass"#;
+
+/// Shapes, how their labels are moved and so many letters, and the labels without these letters.
+const LETTERS: &str = "point still 1024 => f 7 0 1,-2 0/1..1/1 [-512,0,512,1]
+point still 1025 => TooWide
+point right 1024 => TooWide
+point right 1022 => f 7 0 1,-2 1/2..3/2 [-510,-256,512,-255]
+point right 1023 => TooWide
+point left 1024 => TooWide
+point left 1023 => f 7 0 1,-2 0/1..1/1 [-512,0,511,1]
+line still 1024 => f 8 0 200000,100000 0/1..1/1 [-512,0,512,1]
+line still 1025 => TooWide
+line still 5000 => TooWide";
+
+/// What is given and what is wanted.
+fn case(line: &str) -> Result<(&str, &str), Fail> {
+    Ok(line.split_once(" => ").ok_or("an arrow")?)
+}
+
+/// The geometry that a word stands for, or that is written.
+fn geometry(text: &str) -> &str {
+    match text {
+        "point" => POINT,
+        "line" => LINE,
+        _ => text,
+    }
+}
+
+/// The label under a style of a feature with the geometry and the properties that are written.
+fn label_under(alloc: Global, style: &str, text: &str) -> Result<String, Fail> {
+    let (shape, props) = text.split_once(" & ").ok_or("properties")?;
+    answer(alloc, style, geometry(shape), props)
+}
+
+#[test]
+fn a_label_is_made_of_shape_and_properties(rt: HostRuntime) -> Result<(), Fail> {
+    for line in SHAPES.lines() {
+        let (text, want) = case(line)?;
+        assert_eq!(rt; label_under(rt.alloc(), SAMPLE, text)?.as_str(), want);
+    }
+    Ok(())
+}
+
+#[test]
+fn a_style_without_classes_gives_no_label(rt: HostRuntime) -> Result<(), Fail> {
+    for line in WITHOUT_CLASSES.lines() {
+        let (text, want) = case(line)?;
+        assert_eq!(rt;
+            label_under(rt.alloc(), "version = 1", text)?.as_str(),
+            want
+        );
+    }
+    Ok(())
+}
+
+/// The label of a name of so many letters x, without them.
+fn of_letters(alloc: Global, text: &str) -> Result<String, Fail> {
+    let (shape, others) = text.split_once(' ').ok_or("a move")?;
+    let (moved, count) = others.split_once(' ').ok_or("a count")?;
+    let mut props = format!(in alloc; "\"moved\":\"{moved}\",\"name\":\"")?;
+    for _i in 0..count.parse::<u32>()? {
+        props.push('x')?;
+    }
+    props.push('"')?;
+    without_x(
+        alloc,
+        answer(alloc, PIXELS, geometry(shape), props.as_str())?.as_str(),
+    )
+}
+
+/// The text without its letters x.
+fn without_x(alloc: Global, text: &str) -> Result<String, Fail> {
+    let mut words = String::new(alloc);
+    for part in text.split('x') {
+        words.push_str(part)?;
+    }
+    Ok(words)
+}
+
+#[test]
+fn a_straight_box_reaches_512_pixels_at_most(rt: HostRuntime) -> Result<(), Fail> {
+    for line in LETTERS.lines() {
+        let (text, want) = case(line)?;
+        assert_eq!(rt; of_letters(rt.alloc(), text)?.as_str(), want, "{line}");
+    }
+    Ok(())
+}
+
+#[test]
+fn a_label_has_the_margin_of_its_class(rt: HostRuntime) -> Result<(), Fail> {
+    let style = read_style(rt.alloc(), WITH_MARGIN.as_bytes())?;
+    let features = read_collection(rt.alloc(), MAP.as_bytes())?;
+    let labels = labels_of(rt.alloc(), &style, features.as_slice())?;
+    assert_eq!(rt; labels.len(), 1);
+    for label in &labels {
+        assert_eq!(rt; label.margin(), 5);
+    }
+    Ok(())
+}

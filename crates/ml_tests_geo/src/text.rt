@@ -1,0 +1,123 @@
+//! Texts of labels, widths and clusters.
+ghost use Rattle.std.specs.Prelude.{◌≤◌, IfOk};
+
+use crate::cases::{case, count, lines_of};
+use ml_ratio::Text;
+use ml_style::{Font, read_style};
+use ml_text::{clusters, label_text, width};
+use std::alloc::Global;
+use std::test::Fail;
+
+/// A font of 1000 units in which every character is 500 wide, but `i` 250 and U+0301 nothing.
+const STYLE: &str = r#"version = 1
+[fonts.sans]
+units = 1000
+default = 500
+advances = { "i" = 250, "\u0301" = 0 }
+[[class]]
+geometry = "point"
+font = "sans"
+size = 20
+priority = 1
+min = "0"
+max = "1000"
+"#;
+
+/// A size and a text; its width in pixels, its clusters, each ended by a stroke, and the sum of their
+/// advances. 250 and 750 units at 1 pixel are 1 each, rounded up. The last are two flags and half of
+/// one, a family of three by two joiners, and a syllable of three parts before a syllable with a part.
+const MEASURES: &str = "\
+20 Zürich => 55 Z|ü|r|i|c|h| 2750
+20 ii => 10 i|i| 500
+20 e\u{301} => 10 e\u{301}| 500
+20 \u{301} => 1 \u{301}| 0
+20  => 1  0
+20 i => 5 i| 250
+20 Inseln => 60 I|n|s|e|l|n| 3000
+20 Sihl => 35 S|i|h|l| 1750
+1 i => 1 i| 250
+1 iii => 1 i|i|i| 750
+256 i => 64 i| 250
+256 iii => 192 i|i|i| 750
+3 i => 1 i| 250
+3 ii => 2 i|i| 500
+20 Bern => 40 B|e|r|n| 2000
+20 e\u{301}a => 20 e\u{301}|a| 1000
+20 \u{301}e => 10 \u{301}|e| 500
+20 a\r / b => 40 a|\r / |b| 2000
+20 \u{fffe} => 10 \u{fffe}| 500
+20 \u{1f1e8}\u{1f1ed}\u{1f1eb}\u{1f1f7}\u{1f1e9} => 50 \u{1f1e8}\u{1f1ed}|\u{1f1eb}\u{1f1f7}|\u{1f1e9}| 2500
+20 \u{1f469}\u{200d}\u{1f469}\u{200d}\u{1f467} => 50 \u{1f469}\u{200d}\u{1f469}\u{200d}\u{1f467}| 2500
+20 \u{1112}\u{1161}\u{11ab}\u{ac00}\u{11a8} => 50 \u{1112}\u{1161}\u{11ab}|\u{ac00}\u{11a8}| 2500";
+
+/// The clusters of a text, each ended by a stroke, and the sum of their advances.
+fn clusters_told(alloc: Global, font: &Font, text: &Text) -> Result<String, Fail> {
+    let mut told = String::new(alloc);
+    let mut sum: u64 = 0;
+    for cluster in clusters(alloc, font, text)?.as_slice() {
+        told.push_str(cluster.text.as_str())?;
+        told.push('|')?;
+        sum = sum.saturating_add(cluster.advance);
+    }
+    told.push_str(&format!(in alloc; " {sum}")?)?;
+    Ok(told)
+}
+
+/// The size, which has to be 1 to 256.
+fn good_size(size: u32) -> Result<u32, Fail>
+    ensures { IfOk result (λ size. (1 ≤ size) × (size ≤ 256)) }
+{
+    if 1 <= size && size <= 256 {
+        Ok(size)
+    } else {
+        Err(Fail::new("a size"))
+    }
+}
+
+/// The width of a text at a size, and its clusters.
+fn measure_told(alloc: Global, input: &str) -> Result<String, Fail> {
+    let (size, text) = input.split_once(' ').ok_or("a size")?;
+    let size = good_size(count(size)?)?;
+    let text = Text::of(alloc, text)?;
+    let style = read_style(alloc, STYLE.as_bytes())?;
+    let classes = style.classes().as_slice();
+    if classes.is_empty() {
+        return Err(Fail::from("a class"));
+    }
+    let font = style.font(&classes[0]);
+    let width = width(font, size, &text);
+    let told = clusters_told(alloc, font, &text)?;
+    let told = told.as_str();
+    Ok(format!(in alloc; "{width} {told}")?)
+}
+
+#[test]
+fn texts_are_as_wide_as_their_characters(rt: HostRuntime) -> Result<(), Fail> {
+    for line in MEASURES.lines() {
+        let line = lines_of(rt.alloc(), line)?;
+        let (input, want) = case(&line)?;
+        assert_eq!(rt; measure_told(rt.alloc(), input)?.as_str(), want, "{line}");
+    }
+    Ok(())
+}
+
+/// Names, and the text of their labels.
+const NAMES: &str = "\
+Zürich => Zürich
+ => 
+a\0b => a b
+\u{1f}\u{20}\u{7e}\u{7f}\u{80}\u{9f}\u{a0} =>   ~   \u{a0}
+\u{fffd}\u{fffe}\u{ffff}\u{10000} => \u{fffd}  \u{10000}
+a\r / b => a  b
+\u{1fffe} => \u{1fffe}";
+
+#[test]
+fn what_cannot_be_shown_is_a_space(rt: HostRuntime) -> Result<(), Fail> {
+    for line in NAMES.lines() {
+        let line = lines_of(rt.alloc(), line)?;
+        let (name, want) = case(&line)?;
+        let text = label_text(rt.alloc(), &Text::of(rt.alloc(), name)?)?;
+        assert_eq!(rt; text.as_str(), want, "{line}");
+    }
+    Ok(())
+}
