@@ -12,12 +12,22 @@ use Rattle.ml_ratio.specs.Lines.{entry, entries}
 use Rattle.ml_pass.specs.declared.fault.TableFault.{TableFault}
 use Rattle.ml_pass.specs.declared.fault.TableFault.TheVariants.{BadLine, SameId, Full, Memory}
 use Rattle.ml_ratio.specs.declared.feature.Feature.{Feature}
+use Rattle.ml_geojson.specs.Map.{IsMap, IsMapFault, AreSameFeatures}
+use Rattle.ml_geojson.specs.declared.fault.GeoFault.{GeoFault}
 use Rattle.ml_geojson.specs.declared.fault.GeoFault.TheVariants as maps
+use Rattle.ml_style.specs.Answer.{IsRefusal}
+use Rattle.ml_style.specs.StyleTable.{IsStyle}
+use Rattle.ml_style.specs.declared.fault.StyleFault.{StyleFault}
 use Rattle.ml_style.specs.declared.fault.StyleFault.TheVariants as styles
 use Rattle.ml_style.specs.declared.style.Style.{Style}
 use Rattle.maplabel.specs.Inputs.{most_bytes, HasTable, IsNoTable, IsTableLine, HasSlots, AreNoSlots, IsSlotsLine}
 use Rattle.maplabel.specs.MapInputs.{HasStyle, IsNoStyle, IsStyleLine, HasMap, IsNoMap, IsMapLine}
-use Rattle.maplabel.proofs.AcceptedMaps.{style_or_fault, map_or_fault, one_count}
+
+-- what is known of styles and of map files: they are refused for want of memory alone, and a map file has the same features only
+pub record KnownFiles : Type 0 where
+  pub no_style_fault : (bytes : List ℕ) (style : Style) (fault : StyleFault) → IsStyle bytes style → IsRefusal bytes fault → fault ≡ styles.Memory
+  pub no_fault : (bytes : List ℕ) (features : List Feature) (fault : GeoFault) → IsMap bytes features → IsMapFault bytes fault → fault ≡ maps.Memory
+  pub one_map : (bytes : List ℕ) (features others : List Feature) → IsMap bytes features → IsMap bytes others → AreSameFeatures features others
 
 -- a line writes one id
 one_id : (line : List ℕ) (i : ℕ) (a b : Label) → ReadsRow line i a → ReadsRow line i b → a.order.id ≡ b.order.id
@@ -79,22 +89,22 @@ slots_or_not files labels name slots line has none =
     let same = same_file files name has.0 none.0 has.1.file none.2.file in
     slots_or_fault labels none.0 slots none.1 line (rw same at has.2) none.3 none.4
 
-pub style_or_not : (files : FileSet) (name : List ℕ) (classes : Style) (line : List ℕ) → HasStyle (Some files) name classes → ¬ (IsNoStyle (Some files) name line)
-style_or_not files name classes line has none =
+pub style_or_not : KnownFiles → (files : FileSet) (name : List ℕ) (classes : Style) (line : List ℕ) → HasStyle (Some files) name classes → ¬ (IsNoStyle (Some files) name line)
+style_or_not known files name classes line has none =
     let same = same_file files name has.0 none.0 has.1.file none.2.file in
-    let memory = style_or_fault none.0 classes none.1 (rw same at has.2) none.3 in
+    let memory = known.no_style_fault none.0 classes none.1 (rw same at has.2) none.3 in
     let impossible : IsStyleLine styles.Memory line = rw memory at none.4 in
     impossible
 
-pub map_or_not : (files : FileSet) (name : List ℕ) (features : List Feature) (line : List ℕ) → HasMap (Some files) name features → ¬ (IsNoMap (Some files) name line)
-map_or_not files name features line has (inl none) =
+pub map_or_not : KnownFiles → (files : FileSet) (name : List ℕ) (features : List Feature) (line : List ℕ) → HasMap (Some files) name features → ¬ (IsNoMap (Some files) name line)
+map_or_not known files name features line has (inl none) =
     let same = same_file files name has.0 none.0 has.1.file none.2.file in
-    let memory = map_or_fault none.0 features none.1 (rw same at has.2) none.3 in
+    let memory = known.no_fault none.0 features none.1 (rw same at has.2) none.3 in
     let impossible : IsMapLine maps.Memory line = rw memory at none.4 in
     impossible
-map_or_not files name features line has (inr full) =
+map_or_not known files name features line has (inr full) =
     let same = same_file files name has.0 full.0 has.1.file full.2.file in
-    let count = one_count full.0 features full.1 (rw same at has.2) full.3 in
+    let count = (known.one_map full.0 features full.1 (rw same at has.2) full.3).one_each in
     let few = has.3 in
     let more = full.4 in
     absurd (omega arith)

@@ -1,8 +1,8 @@
 -- Where words and files are ready, what is due is that the command is done, or want of memory.
-use Rattle.std.proofs.Common.{◌≡◌, ℕ, List, Option, Some, refl, ◌∙◌, sym, inl, inr}
+use Rattle.std.proofs.Common.{◌≡◌, ℕ, List, Some, refl, ◌∙◌, sym, inl, inr}
 use Rattle.std.specs.Prelude.{◌⊎◌}
 use Rattle.ml_io.specs.Causes.{Rose}
-use Rattle.ml_io.specs.Files.{FileSet, IsTooLong}
+use Rattle.ml_io.specs.Files.{FileSet, Seen, IsTooLong}
 use Rattle.ml_cone.specs.declared.label.Label.{Label}
 use Rattle.ml_cone.specs.declared.slot.Slot.{Slot}
 use Rattle.ml_style.specs.declared.style.Style.{Style}
@@ -12,9 +12,9 @@ use Rattle.maplabel.specs.Outcome.{IsTableOf, IsSlotsOf, IsStyleOf, IsMapOf, IsD
 use Rattle.maplabel.specs.Ready.{IsSomeTable, IsSomeStyle, IsSomeMap, AreReady}
 use Rattle.maplabel.specs.declared.status.Status.{Status}
 use Rattle.maplabel.specs.declared.status.Status.TheVariants.{Done, NotBest, Usage, StyleRefused, InputRefused, FileFault, WriteFault, Memory, TooLong}
-use Rattle.maplabel.proofs.Accepted.{table_or_not, slots_or_not, style_or_not, map_or_not, not_too_long}
+use Rattle.maplabel.proofs.Accepted.{KnownFiles, table_or_not, slots_or_not, style_or_not, map_or_not, not_too_long}
 
-module _ (files : FileSet) (words : List (List ℕ)) where
+module _ (known : KnownFiles) (files : FileSet) (words : List (List ℕ)) where
   form_of : AreReady files words → IsForm words
   form_of (inl show) = inl (show.0, show.1, show.2)
   form_of (inr (inl slots)) = inr (inl (slots.0, slots.1))
@@ -60,7 +60,7 @@ module _ (files : FileSet) (words : List (List ℕ)) where
   style_not_refused : (line : List ℕ) → AreReady files words → ¬ (IsStyleRefused (Some files) words line)
   style_not_refused line ready refused =
       let is = style_is refused.0 ready refused.1 in
-      style_or_not files refused.0 is.0 line is.1 refused.2
+      style_or_not known files refused.0 is.0 line is.1 refused.2
 
   not_refused : (line : List ℕ) → AreReady files words → ¬ (IsInputRefused (Some files) words line)
   not_refused line ready (inl refused) =
@@ -71,7 +71,7 @@ module _ (files : FileSet) (words : List (List ℕ)) where
       slots_or_not files refused.1 refused.0 are.0 line are.1 refused.3
   not_refused line ready (inr (inr refused)) =
       let is = map_is refused.0 refused.1 ready refused.2 in
-      map_or_not files refused.0 is.0 line is.1 refused.3
+      map_or_not known files refused.0 is.0 line is.1 refused.3
 
   not_long : (name : List ℕ) → AreReady files words → IsDueFile (Some files) words name → ¬ (IsTooLong (Some files) name most_bytes)
   not_long name ready (inl of) =
@@ -87,13 +87,15 @@ module _ (files : FileSet) (words : List (List ℕ)) where
       let is = map_is name of.0 ready of.1 in
       not_too_long files name is.1.0 is.1.1
 
-  pub ends : (before now : ℕ) (failed : Option (List ℕ)) (status : Status) (text : List ℕ) → AreReady files words → ¬ (Rose before now) → IsOutcome (Some files) before now failed words status text → (status ≡ Done) ⊎ (status ≡ NotBest) ⊎ (status ≡ Memory)
-  ends before now failed Done text ready calm due = inl refl
-  ends before now failed NotBest text ready calm due = inr (inl refl)
-  ends before now failed Usage text ready calm due = absurd (due.0 (form_of ready))
-  ends before now failed StyleRefused text ready calm due = absurd (style_not_refused text ready due)
-  ends before now failed InputRefused text ready calm due = absurd (not_refused text ready due)
-  ends before now failed FileFault text ready calm due = absurd (calm due.2)
-  ends before now failed WriteFault text ready calm due = absurd due
-  ends before now failed Memory text ready calm due = inr (inr refl)
-  ends before now failed TooLong text ready calm due = absurd (not_long due.0 ready due.1 due.2)
+  -- what was seen of these files
+  module _ (seen : Seen) (same : seen.told ≡ Some files) (ready : AreReady files words) (calm : ¬ (Rose seen.faults_before seen.faults_after)) where
+    pub ends : (status : Status) (text : List ℕ) → IsOutcome seen words status text → (status ≡ Done) ⊎ (status ≡ NotBest) ⊎ (status ≡ Memory)
+    ends Done text due = inl refl
+    ends NotBest text due = inr (inl refl)
+    ends Usage text due = absurd (due.1 (form_of ready))
+    ends StyleRefused text due = absurd (style_not_refused text ready (rw same at due.1))
+    ends InputRefused text due = absurd (not_refused text ready (rw same at due.1))
+    ends FileFault text due = absurd (calm due.0.2.0)
+    ends WriteFault text due = absurd due
+    ends Memory text due = inr (inr refl)
+    ends TooLong text due = absurd (let long = rw same at due.1 in not_long long.0 ready long.1 long.2)

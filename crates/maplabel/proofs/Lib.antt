@@ -1,9 +1,7 @@
 pub mod Accepted
-pub mod AcceptedMaps
 pub mod Answering
 pub mod Chosen
 pub mod EndsWell
 pub mod MapViewing
-pub mod OrderLemmas
 pub mod ShownMore
 pub mod WordLemmas

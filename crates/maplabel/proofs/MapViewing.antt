@@ -1,72 +1,57 @@
--- From the readers of styles and maps, and the labels of features, to a view of a map.
-use Rattle.std.proofs.Common.{◌≡◌, ℕ, ◌+◌, ◌≤◌, List, [], ◌∷◌, ◌++◌, suc, length, get_or, drop, append-nil, Option, Result, Ok, Err, IfErr, inr, sym, ap, ◌∙◌, subst, arith}
+-- From the readers of styles and maps to a view of a map.
+use Rattle.std.proofs.Common.{◌≡◌, ℕ, ◌<◌, ◌≤◌, List, length, Result, Ok, Err, IfErr, inr, sym, arith}
 use Rattle.std.specs.Result.{IsErrAnd}
-use Rattle.std.proofs.Math.Seq.{drop-cons}
-use Rattle.std.proofs.lemmas.List.{append_assoc, drop_all}
 use Rattle.ml_io.specs.Causes.{Rose}
-use Rattle.ml_io.specs.Files.{FileSet, IsLoaded}
+use Rattle.ml_io.specs.Files.{Seen, IsLoaded}
 use Rattle.ml_ratio.specs.declared.feature.Feature.{Feature}
-use Rattle.ml_cone.specs.declared.label.Label.{Label}
 use Rattle.ml_style.specs.Answer.{IsRefusal}
 use Rattle.ml_style.specs.declared.fault.StyleFault.{StyleFault}
 use Rattle.ml_style.specs.declared.style.Style.{Style}
-use Rattle.ml_label.specs.Labelling.{IsLabelling}
-use Rattle.ml_label.specs.Labels.{AreUnsorted}
-use Rattle.ml_label.specs.declared.reason.Reason.{Reason}
-use Rattle.ml_label.proofs.LabelsLemmas.{none, labelled, unlabelled}
-use Rattle.maplabel.specs.Inputs.{most_bytes}
-use Rattle.maplabel.specs.MapInputs.{IsStyleRefusal, IsStyleStop, HasStyle, IsMapStop}
+use Rattle.ml_geojson.specs.Map.{IsMap}
+use Rattle.maplabel.specs.Inputs.{most_bytes, IsInputRefusal}
+use Rattle.maplabel.specs.MapInputs.{most_features, IsStyleRefusal, IsStyleStop, HasStyle, IsMapStop, IsFullLine}
 use Rattle.maplabel.specs.Outcome.{IsMapViewStop}
 use Rattle.maplabel.specs.declared.stop.Stop.{Stop}
 use Rattle.maplabel.specs.declared.stop.Stop.TheVariants as stop
 
 -- a refused style
-pub style_stopped : (told : Option FileSet) (before now : ℕ) (failed : Option (List ℕ)) (name bytes : List ℕ) (fault : StyleFault) (s : Stop) → IsLoaded told name most_bytes bytes → IsRefusal bytes fault → IsStyleRefusal fault s → IsStyleStop told before now failed name s
-style_stopped told before now failed name bytes fault stop.Usage loaded refused h = absurd h
-style_stopped told before now failed name bytes fault (stop.StyleRefused line) loaded refused h = (bytes, fault, loaded, refused, h)
-style_stopped told before now failed name bytes fault (stop.InputRefused line) loaded refused h = absurd h
-style_stopped told before now failed name bytes fault stop.FileFault loaded refused h = absurd h
-style_stopped told before now failed name bytes fault stop.TooLong loaded refused h = absurd h
-style_stopped told before now failed name bytes fault stop.Memory loaded refused h = tt
+pub style_stopped : (seen : Seen) (name bytes : List ℕ) (fault : StyleFault) (s : Stop) → IsLoaded seen.told name most_bytes bytes → IsRefusal bytes fault → IsStyleRefusal fault s → IsStyleStop seen name s
+style_stopped seen name bytes fault stop.Usage loaded refused h = absurd h
+style_stopped seen name bytes fault (stop.StyleRefused line) loaded refused h = (bytes, fault, loaded, refused, h)
+style_stopped seen name bytes fault (stop.InputRefused line) loaded refused h = absurd h
+style_stopped seen name bytes fault stop.FileFault loaded refused h = absurd h
+style_stopped seen name bytes fault stop.TooLong loaded refused h = absurd h
+style_stopped seen name bytes fault stop.Memory loaded refused h = tt
+
+-- a map of too many features
+pub map_full : (seen : Seen) (name bytes : List ℕ) (features : List Feature) (s : Stop) → IsLoaded seen.told name most_bytes bytes → IsMap bytes features → most_features < length features → IsInputRefusal IsFullLine s → IsMapStop seen name s
+map_full seen name bytes features stop.Usage loaded is more h = absurd h
+map_full seen name bytes features (stop.StyleRefused line) loaded is more h = absurd h
+map_full seen name bytes features (stop.InputRefused line) loaded is more h = inr (bytes, features, loaded, is, more, h)
+map_full seen name bytes features stop.FileFault loaded is more h = absurd h
+map_full seen name bytes features stop.TooLong loaded is more h = absurd h
+map_full seen name bytes features stop.Memory loaded is more h = tt
+
+-- what a later call saw, from an earlier one on
+abbrev pub since : Seen → Seen → Seen
+since one two = record {
+  told = one.told;
+  faults_before = one.faults_before;
+  faults_after = two.faults_after;
+  name_before = one.name_before;
+  name_after = two.name_after;
+}
 
 -- a count that rose since between rose since before
-map_earlier : (told : Option FileSet) (before between now : ℕ) (failed : Option (List ℕ)) (name : List ℕ) (s : Stop) → before ≤ between → IsMapStop told between now failed name s → IsMapStop told before now failed name s
-map_earlier told before between now failed name stop.Usage later h = h
-map_earlier told before between now failed name (stop.StyleRefused line) later h = h
-map_earlier told before between now failed name (stop.InputRefused line) later h = h
-map_earlier told before between now failed name stop.FileFault later h = (let rose : Rose between now = h.0 in let since : Rose before now = omega arith in (since, h.1))
-map_earlier told before between now failed name stop.TooLong later h = h
-map_earlier told before between now failed name stop.Memory later h = tt
+map_earlier : (one two : Seen) (name : List ℕ) (s : Stop) → two.told ≡ one.told → one.faults_before ≤ two.faults_before → IsMapStop two name s → IsMapStop (since one two) name s
+map_earlier one two name stop.Usage same later h = h
+map_earlier one two name (stop.StyleRefused line) same later h = h
+map_earlier one two name (stop.InputRefused line) same later h = rw same at h
+map_earlier one two name stop.FileFault same later h = (let rose : Rose two.faults_before two.faults_after = h.0 in let from : Rose one.faults_before two.faults_after = omega arith in (from, h.1))
+map_earlier one two name stop.TooLong same later h = rw same at h
+map_earlier one two name stop.Memory same later h = tt
 
 -- a map that was not read after its style was
-pub map_stopped : {A : Type 0} (told : Option FileSet) (before between now : ℕ) (failed : Option (List ℕ)) (style map : List ℕ) (classes : Style) (answer : Result A Stop) (s : Stop) → before ≤ between → HasStyle told style classes → IsErrAnd answer (λ e. e ≡ s) → IsMapStop told between now failed map s → IfErr answer (IsMapViewStop told before now failed style map)
-map_stopped told before between now failed style map classes (Ok a) s later has is h = tt
-map_stopped told before between now failed style map classes (Err e) s later has is h = inr (classes, has, map_earlier told before between now failed map e later (rw (sym is) at h))
-
--- with whatever labels the features have that are still to come, the labels so far are the labels of all
-abbrev pub AreSoFar : Style → List Feature → ℕ → List Label → Type 0
-AreSoFar style features i labels = (rest : List Label) → AreUnsorted style (drop i features) rest → AreUnsorted style features (labels ++ rest)
-
-module _ (style : Style) (features : List Feature) (i : ℕ) (labels : List Label) where
-  -- the features from a place on
-  from_place : (f : Feature) → suc i ≤ length features → f ≡ get_or features i f → f ∷ drop (i + 1) features ≡ drop i features
-  from_place f there is = ap (λ (g : Feature). g ∷ drop (i + 1) features) is ∙ (ap (λ (n : ℕ). get_or features i f ∷ drop n features) (let e : i + 1 ≡ suc i = omega arith in e) ∙ sym (drop-cons features i f there))
-
-  -- one feature with a label more
-  pub with_label : (f : Feature) (label : Label) (more : List Label) → suc i ≤ length features → f ≡ get_or features i f → IsLabelling style f (Ok label) → more ≡ labels ++ label ∷ [] → AreSoFar style features i labels → AreSoFar style features (i + 1) more
-  with_label f label more there is answer grown so_far rest left =
-      let here = subst (λ (fs : List Feature). AreUnsorted style fs (label ∷ rest)) (from_place f there is) (labelled style f (drop (i + 1) features) label rest answer left) in
-      let same : labels ++ label ∷ rest ≡ more ++ rest = sym (append_assoc labels (label ∷ []) rest) ∙ ap (λ (ls : List Label). ls ++ rest) (sym grown) in
-      subst (λ (ls : List Label). AreUnsorted style features ls) same (so_far (label ∷ rest) here)
-
-  -- one feature without a label more
-  pub without_label : (f : Feature) (reason : Reason) (more : List Label) → suc i ≤ length features → f ≡ get_or features i f → IsLabelling style f (Err reason) → more ≡ labels → AreSoFar style features i labels → AreSoFar style features (i + 1) more
-  without_label f reason more there is answer grown so_far rest left =
-      let here = subst (λ (fs : List Feature). AreUnsorted style fs rest) (from_place f there is) (unlabelled style f (drop (i + 1) features) reason rest answer left) in
-      subst (λ (ls : List Label). AreUnsorted style features (ls ++ rest)) (sym grown) (so_far rest here)
-
-  -- no feature is left
-  pub all_labelled : length features ≤ i → AreSoFar style features i labels → AreUnsorted style features labels
-  all_labelled past so_far =
-      let left : AreUnsorted style (drop i features) [] = subst (λ (fs : List Feature). AreUnsorted style fs []) (sym (drop_all i features past)) (none style) in
-      subst (λ (ls : List Label). AreUnsorted style features ls) (append-nil labels) (so_far [] left)
+pub map_stopped : {A : Type 0} (one two : Seen) (style map : List ℕ) (classes : Style) (answer : Result A Stop) (s : Stop) → two.told ≡ one.told → one.faults_before ≤ two.faults_before → HasStyle one.told style classes → IsErrAnd answer (λ e. e ≡ s) → IsMapStop two map s → IfErr answer (IsMapViewStop (since one two) style map)
+map_stopped one two style map classes (Ok a) s same later has is h = tt
+map_stopped one two style map classes (Err e) s same later has is h = inr (classes, has, map_earlier one two map e same later (rw (sym is) at h))

@@ -1,7 +1,6 @@
 -- The inputs of a command, and what stops it before they are read.
-use Rattle.std.specs.Prelude.{◌≡◌, ℕ, ◌++◌, List, Option, Some, codes, decimal}
-use Rattle.ml_io.specs.Causes.{Rose}
-use Rattle.ml_io.specs.Files.{FileSet, IsLoaded, IsTooLong}
+use Rattle.std.specs.Prelude.{◌≡◌, ℕ, ◌++◌, List, Option, Result, Ok, Err, codes, decimal}
+use Rattle.ml_io.specs.Files.{FileSet, Seen, FailedAt, KeptName, IsLoaded, IsTooLong}
 use Rattle.ml_cert.specs.SlotsText.{AreSlotLines, IsSlotsFault}
 use Rattle.ml_cert.specs.declared.fault.SlotsFault.{SlotsFault}
 use Rattle.ml_cert.specs.declared.fault.SlotsFault.TheVariants as slots_fault
@@ -17,22 +16,36 @@ use Rattle.maplabel.specs.declared.stop.Stop.TheVariants as stop
 abbrev pub most_bytes : ℕ
 most_bytes = 67108864
 
--- why a file that is due was not read: it was refused, as the line says, or it was not loaded; with the count of faults before and after, and the name that failed last
-abbrev pub IsReadStop : (List ℕ → Type 0) → (List ℕ → Type 0) → Option FileSet → ℕ → ℕ → Option (List ℕ) → List ℕ → Stop → Type 0
-IsReadStop RefusesStyle RefusesInput told before now failed name stop.Usage = ⊥
-IsReadStop RefusesStyle RefusesInput told before now failed name (stop.StyleRefused line) = RefusesStyle line
-IsReadStop RefusesStyle RefusesInput told before now failed name (stop.InputRefused line) = RefusesInput line
-IsReadStop RefusesStyle RefusesInput told before now failed name stop.FileFault = Rose before now × (failed ≡ Some name)
-IsReadStop RefusesStyle RefusesInput told before now failed name stop.TooLong = IsTooLong told name most_bytes
-IsReadStop RefusesStyle RefusesInput told before now failed name stop.Memory = Unit {0}
+-- why a file that is due was not read: it was refused, as the line says, or it was not loaded
+abbrev pub IsReadStop : (List ℕ → Type 0) → (List ℕ → Type 0) → Seen → List ℕ → Stop → Type 0
+IsReadStop RefusesStyle RefusesInput seen name stop.Usage = ⊥
+IsReadStop RefusesStyle RefusesInput seen name (stop.StyleRefused line) = RefusesStyle line
+IsReadStop RefusesStyle RefusesInput seen name (stop.InputRefused line) = RefusesInput line
+IsReadStop RefusesStyle RefusesInput seen name stop.FileFault = FailedAt seen name
+IsReadStop RefusesStyle RefusesInput seen name stop.TooLong = IsTooLong seen.told name most_bytes
+IsReadStop RefusesStyle RefusesInput seen name stop.Memory = Unit {0}
+
+-- but for a file fault, the name that failed last is the one before
+abbrev pub StopKeeps : Seen → Stop → Type 0
+StopKeeps seen stop.Usage = KeptName seen
+StopKeeps seen (stop.StyleRefused line) = KeptName seen
+StopKeeps seen (stop.InputRefused line) = KeptName seen
+StopKeeps seen stop.FileFault = Unit {0}
+StopKeeps seen stop.TooLong = KeptName seen
+StopKeeps seen stop.Memory = KeptName seen
+
+-- the same of an answer or a stop: no load failed but that of a file fault
+abbrev pub Keeps : {T : Type 0} → Seen → Result T Stop → Type 0
+Keeps seen (Ok _) = KeptName seen
+Keeps seen (Err s) = StopKeeps seen s
 
 -- no line
 abbrev pub IsNoLine : List ℕ → Type 0
 IsNoLine line = ⊥
 
 -- why the named file was not loaded
-abbrev pub IsLoadStop : Option FileSet → ℕ → ℕ → Option (List ℕ) → List ℕ → Stop → Type 0
-IsLoadStop told before now failed name s = IsReadStop IsNoLine IsNoLine told before now failed name s
+abbrev pub IsLoadStop : Seen → List ℕ → Stop → Type 0
+IsLoadStop seen name s = IsReadStop IsNoLine IsNoLine seen name s
 
 -- the stop tells a refused input by this line, or want of memory
 abbrev pub IsInputRefusal : (List ℕ → Type 0) → Stop → Type 0
@@ -60,8 +73,8 @@ IsNoTable told name line =
     (bytes : List ℕ) × (fault : TableFault) × IsLoaded told name most_bytes bytes × IsTableFault bytes fault × IsTableLine fault line
 
 -- why the named table was not read
-abbrev pub IsTableStop : Option FileSet → ℕ → ℕ → Option (List ℕ) → List ℕ → Stop → Type 0
-IsTableStop told before now failed name s = IsReadStop IsNoLine (IsNoTable told name) told before now failed name s
+abbrev pub IsTableStop : Seen → List ℕ → Stop → Type 0
+IsTableStop seen name s = IsReadStop IsNoLine (IsNoTable seen.told name) seen name s
 
 -- the named file has these slots for the labels
 abbrev pub HasSlots : Option FileSet → List Label → List ℕ → List Slot → Type 0
@@ -78,5 +91,5 @@ AreNoSlots told labels name line =
     (bytes : List ℕ) × (fault : SlotsFault) × IsLoaded told name most_bytes bytes × IsSlotsFault labels bytes fault × IsSlotsLine fault line
 
 -- why the named slots were not read
-abbrev pub IsSlotsStop : Option FileSet → ℕ → ℕ → Option (List ℕ) → List Label → List ℕ → Stop → Type 0
-IsSlotsStop told before now failed labels name s = IsReadStop IsNoLine (AreNoSlots told labels name) told before now failed name s
+abbrev pub IsSlotsStop : Seen → List Label → List ℕ → Stop → Type 0
+IsSlotsStop seen labels name s = IsReadStop IsNoLine (AreNoSlots seen.told labels name) seen name s

@@ -1,6 +1,6 @@
 -- Styles and maps as inputs of a command.
 use Rattle.std.specs.Prelude.{◌≡◌, ℕ, ◌<◌, ◌≤◌, ◌++◌, List, length, Option, codes, decimal, ◌⊎◌}
-use Rattle.ml_io.specs.Files.{FileSet, IsLoaded}
+use Rattle.ml_io.specs.Files.{FileSet, Seen, IsLoaded}
 use Rattle.ml_ratio.specs.declared.feature.Feature.{Feature}
 use Rattle.ml_geojson.specs.Map.{IsMap, IsMapFault}
 use Rattle.ml_geojson.specs.declared.fault.GeoFault.{GeoFault}
@@ -47,8 +47,8 @@ IsNoStyle told name line =
     (bytes : List ℕ) × (fault : StyleFault) × IsLoaded told name most_bytes bytes × style_answer.IsRefusal bytes fault × IsStyleLine fault line
 
 -- why the named style was not read
-abbrev pub IsStyleStop : Option FileSet → ℕ → ℕ → Option (List ℕ) → List ℕ → Stop → Type 0
-IsStyleStop told before now failed name s = IsReadStop (IsNoStyle told name) IsNoLine told before now failed name s
+abbrev pub IsStyleStop : Seen → List ℕ → Stop → Type 0
+IsStyleStop seen name s = IsReadStop (IsNoStyle seen.told name) IsNoLine seen name s
 
 -- the named file is a map of these features, which are not too many
 abbrev pub HasMap : Option FileSet → List ℕ → List Feature → Type 0
@@ -86,5 +86,5 @@ abbrev pub IsNoMap : Option FileSet → List ℕ → List ℕ → Type 0
 IsNoMap told name line = IsFaultyMap told name line ⊎ IsFullMap told name line
 
 -- why the named map was not read
-abbrev pub IsMapStop : Option FileSet → ℕ → ℕ → Option (List ℕ) → List ℕ → Stop → Type 0
-IsMapStop told before now failed name s = IsReadStop IsNoLine (IsNoMap told name) told before now failed name s
+abbrev pub IsMapStop : Seen → List ℕ → Stop → Type 0
+IsMapStop seen name s = IsReadStop IsNoLine (IsNoMap seen.told name) seen name s

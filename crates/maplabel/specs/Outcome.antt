@@ -1,7 +1,7 @@
 -- What a run comes to.
-use Rattle.std.specs.Prelude.{◌≡◌, ℕ, List, [], Option, Some, codes, ◌⊎◌}
+use Rattle.std.specs.Prelude.{◌≡◌, ℕ, List, [], Option, codes, ◌⊎◌}
 use Rattle.ml_io.specs.Causes.{Rose, Appends, AppendsPart}
-use Rattle.ml_io.specs.Files.{FileSet, IsTooLong}
+use Rattle.ml_io.specs.Files.{FileSet, Seen, FailedAt, KeptName, IsTooLong}
 use Rattle.ml_cone.specs.declared.view.View.{View}
 use Rattle.ml_cone.specs.declared.label.Label.{Label}
 use Rattle.ml_cert.specs.declared.verdict.Verdict.{Verdict}
@@ -66,40 +66,36 @@ pub data IsAnswer (told : Option FileSet) (words : List (List ℕ)) (status : St
   viewed : (style : List ℕ) → (map : List ℕ) → (view : View) → IsMapView words style map view → IsMapViewText told style map view text → status ≡ Done → IsAnswer told words status text
   judged : (table : List ℕ) → (slots : List ℕ) → IsCheck words table slots → IsCheckAnswer told table slots status text → IsAnswer told words status text
 
--- of the text that is due under a status: for a fault of a file, the count of faults rose and the name that failed last is that of the file that is due; want of memory prints nothing
-abbrev pub IsOutcome : Option FileSet → ℕ → ℕ → Option (List ℕ) → List (List ℕ) → Status → List ℕ → Type 0
-IsOutcome told before now failed words Done text = IsAnswer told words Done text
-IsOutcome told before now failed words NotBest text = IsAnswer told words NotBest text
-IsOutcome told before now failed words Usage text = ¬ (IsForm words) × (text ≡ usage_line)
-IsOutcome told before now failed words StyleRefused text = IsStyleRefused told words text
-IsOutcome told before now failed words InputRefused text = IsInputRefused told words text
-IsOutcome told before now failed words FileFault text =
-    (name : List ℕ) × IsDueFile told words name × Rose before now × (failed ≡ Some name) × (text ≡ codes "file fault\n")
-IsOutcome told before now failed words TooLong text =
-    (name : List ℕ) × IsDueFile told words name × IsTooLong told name most_bytes × (text ≡ codes "file too long\n")
-IsOutcome told before now failed words WriteFault text = ⊥
-IsOutcome told before now failed words Memory text = IsForm words × (text ≡ [])
+-- why there is no answer: for a fault of a file, the count of faults rose and the name that failed last is that of the file that is due
+abbrev pub IsStop : Seen → List (List ℕ) → Stop → Type 0
+IsStop seen words stop.Usage = ¬ (IsForm words)
+IsStop seen words (stop.StyleRefused line) = IsStyleRefused seen.told words line
+IsStop seen words (stop.InputRefused line) = IsInputRefused seen.told words line
+IsStop seen words stop.FileFault = (name : List ℕ) × IsDueFile seen.told words name × FailedAt seen name
+IsStop seen words stop.TooLong = (name : List ℕ) × IsDueFile seen.told words name × IsTooLong seen.told name most_bytes
+IsStop seen words stop.Memory = IsForm words
 
--- why there is no answer
-abbrev pub IsStop : Option FileSet → ℕ → ℕ → Option (List ℕ) → List (List ℕ) → Stop → Type 0
-IsStop told before now failed words stop.Usage = ¬ (IsForm words)
-IsStop told before now failed words (stop.StyleRefused line) = IsStyleRefused told words line
-IsStop told before now failed words (stop.InputRefused line) = IsInputRefused told words line
-IsStop told before now failed words stop.FileFault = (name : List ℕ) × IsDueFile told words name × Rose before now × (failed ≡ Some name)
-IsStop told before now failed words stop.TooLong = (name : List ℕ) × IsDueFile told words name × IsTooLong told name most_bytes
-IsStop told before now failed words stop.Memory = IsForm words
+-- the text that is due under a status; but for a fault of a file, no load failed
+abbrev pub IsOutcome : Seen → List (List ℕ) → Status → List ℕ → Type 0
+IsOutcome seen words Done text = KeptName seen × IsAnswer seen.told words Done text
+IsOutcome seen words NotBest text = KeptName seen × IsAnswer seen.told words NotBest text
+IsOutcome seen words Usage text = KeptName seen × IsStop seen words stop.Usage × (text ≡ usage_line)
+IsOutcome seen words StyleRefused text = KeptName seen × IsStop seen words (stop.StyleRefused text)
+IsOutcome seen words InputRefused text = KeptName seen × IsStop seen words (stop.InputRefused text)
+IsOutcome seen words FileFault text = IsStop seen words stop.FileFault × (text ≡ codes "file fault\n")
+IsOutcome seen words TooLong text = KeptName seen × IsStop seen words stop.TooLong × (text ≡ codes "file too long\n")
+IsOutcome seen words WriteFault text = ⊥
+IsOutcome seen words Memory text = KeptName seen × IsStop seen words stop.Memory × (text ≡ [])
 
 -- why slots were not judged: the table was not read, or it was and the slots were not
-abbrev pub IsCheckStop : Option FileSet → ℕ → ℕ → Option (List ℕ) → List ℕ → List ℕ → Stop → Type 0
-IsCheckStop told before now failed table slots s =
-    IsTableStop told before now failed table s
-    ⊎ ((labels : List Label) × HasTable told table labels × IsSlotsStop told before now failed labels slots s)
+abbrev pub IsCheckStop : Seen → List ℕ → List ℕ → Stop → Type 0
+IsCheckStop seen table slots s =
+    IsTableStop seen table s ⊎ ((labels : List Label) × HasTable seen.told table labels × IsSlotsStop seen labels slots s)
 
 -- why a map was not viewed: the style was not read, or it was and the map was not
-abbrev pub IsMapViewStop : Option FileSet → ℕ → ℕ → Option (List ℕ) → List ℕ → List ℕ → Stop → Type 0
-IsMapViewStop told before now failed style map s =
-    IsStyleStop told before now failed style s
-    ⊎ ((classes : Style) × HasStyle told style classes × IsMapStop told before now failed map s)
+abbrev pub IsMapViewStop : Seen → List ℕ → List ℕ → Stop → Type 0
+IsMapViewStop seen style map s =
+    IsStyleStop seen style s ⊎ ((classes : Style) × HasStyle seen.told style classes × IsMapStop seen map s)
 
 -- a text that was due under a status was printed whole; or the status is that of a write fault, and a proper prefix was printed, only where the count of the sink's faults rose
 abbrev pub IsPrinted : List ℕ → Status → Option (List ℕ) → Option (List ℕ) → ℕ → ℕ → Status → Type 0

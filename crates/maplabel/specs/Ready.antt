@@ -1,7 +1,7 @@
 -- When nothing but want of memory keeps a command from being done.
 use Rattle.std.specs.Prelude.{ℕ, List, Option, Some, ◌⊎◌, ◌≡◌}
 use Rattle.ml_io.specs.Causes.{Rose}
-use Rattle.ml_io.specs.Files.{FileSet}
+use Rattle.ml_io.specs.Files.{FileSet, Seen}
 use Rattle.ml_cone.specs.declared.label.Label.{Label}
 use Rattle.ml_cone.specs.declared.slot.Slot.{Slot}
 use Rattle.ml_cone.specs.declared.view.View.{View}
@@ -38,5 +38,5 @@ AreReady files words =
 -- where words and files are ready and no fault of a file is counted, what is due is that the command is done, or want of memory
 abbrev pub EndsWell : FileSet → List (List ℕ) → Type 0
 EndsWell files words =
-    (before now : ℕ) (failed : Option (List ℕ)) (status : Status) (text : List ℕ) → ¬ (Rose before now)
-    → IsOutcome (Some files) before now failed words status text → (status ≡ Done) ⊎ (status ≡ NotBest) ⊎ (status ≡ Memory)
+    (seen : Seen) (status : Status) (text : List ℕ) → seen.told ≡ Some files → ¬ (Rose seen.faults_before seen.faults_after)
+    → IsOutcome seen words status text → (status ≡ Done) ⊎ (status ≡ NotBest) ⊎ (status ≡ Memory)

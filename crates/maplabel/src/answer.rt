@@ -1,5 +1,7 @@
 //! What the words after the program's name come to.
 ghost use Rattle.std.specs.Prelude.{◌≡◌, ◌≤◌, IfOk, IfErr, map, string_bytes};
+ghost use Rattle.ml_io.specs.Files.{seen};
+ghost use Rattle.maplabel.specs.Inputs.{Keeps};
 ghost use Rattle.maplabel.specs.Outcome.{IsAnswer, IsStop};
 
 use crate::check::check;
@@ -23,8 +25,10 @@ pub fn answer<F: Files>(
     files: &mut F,
 ) -> Result<(Status, Seq<u8>), Stop>
     ensures ok { IfOk result (λ answer. IsAnswer (F.told files.old) (map string_bytes words.now) answer.0 answer.1) }
-    ensures stop { IfErr result (IsStop (F.told files.old) (F.faults files.old) (F.faults files.new) (F.failed_name files.new) (map string_bytes words.now)) }
+    ensures stop { IfErr result (IsStop (seen F.told F.faults F.failed_name files.old files.new) (map string_bytes words.now)) }
     ensures same { F.told files.new ≡ F.told files.old }
+    ensures kept { Keeps (seen F.told F.faults F.failed_name files.old files.new) result }
+    ensures later { F.faults files.old ≤ F.faults files.new }
 {
     match read_command(words) {
         Some(Command::Show(table, view)) => {

@@ -1,5 +1,7 @@
 //! The command that judges slots.
 ghost use Rattle.std.specs.Prelude.{◌≡◌, ◌≤◌, IfOk, IfErr};
+ghost use Rattle.ml_io.specs.Files.{seen};
+ghost use Rattle.maplabel.specs.Inputs.{Keeps};
 ghost use Rattle.maplabel.specs.Outcome.{IsCheckAnswer, IsCheckStop};
 ghost use Rattle.maplabel.specs.Answers.{status_of};
 
@@ -23,8 +25,9 @@ pub fn check<F: Files>(
     slots: &str,
 ) -> Result<(Status, Seq<u8>), Stop>
     ensures ok { IfOk result (λ answer. IsCheckAnswer (F.told files.old) table.now slots.now answer.0 answer.1) }
-    ensures stop { IfErr result (IsCheckStop (F.told files.old) (F.faults files.old) (F.faults files.new) (F.failed_name files.new) table.now slots.now) }
+    ensures stop { IfErr result (IsCheckStop (seen F.told F.faults F.failed_name files.old files.new) table.now slots.now) }
     ensures same { F.told files.new ≡ F.told files.old }
+    ensures kept { Keeps (seen F.told F.faults F.failed_name files.old files.new) result }
     ensures later { F.faults files.old ≤ F.faults files.new }
 {
     let labels = load_table(alloc, files, table)?;

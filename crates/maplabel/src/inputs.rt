@@ -1,8 +1,8 @@
 //! The inputs of a command, loaded and read.
 ghost use Rattle.std.specs.Prelude.{◌≡◌, ◌≤◌, length, IfOk, IfErr, MatchResult, string_bytes};
-ghost use Rattle.ml_io.specs.Files.{IsLoaded};
+ghost use Rattle.ml_io.specs.Files.{IsLoaded, seen};
 ghost use Rattle.maplabel.specs.declared.stop.Stop.TheVariants as stop;
-ghost use Rattle.maplabel.specs.Inputs.{most_bytes, HasTable, IsLoadStop, IsTableStop, IsTableLine, IsInputRefusal, HasSlots, IsSlotsStop, IsSlotsLine};
+ghost use Rattle.maplabel.specs.Inputs.{most_bytes, Keeps, HasTable, IsLoadStop, IsTableStop, IsTableLine, IsInputRefusal, HasSlots, IsSlotsStop, IsSlotsLine};
 
 use crate::stop::Stop;
 use ml_cert::{SlotsFault, read_slots};
@@ -21,8 +21,9 @@ const MOST_BYTES: u64 = 67_108_864;
 /// `FileFault` and `TooLong` where its file is not loaded; `InputRefused` where it is no table; `Memory`.
 pub fn load_table<F: Files>(alloc: Global, files: &mut F, name: &str) -> Result<Seq<Label>, Stop>
     ensures ok { IfOk result (λ labels. HasTable (F.told files.old) name.now labels) }
-    ensures stop { IfErr result (IsTableStop (F.told files.old) (F.faults files.old) (F.faults files.new) (F.failed_name files.new) name.now) }
+    ensures stop { IfErr result (IsTableStop (seen F.told F.faults F.failed_name files.old files.new) name.now) }
     ensures same { F.told files.new ≡ F.told files.old }
+    ensures kept { Keeps (seen F.told F.faults F.failed_name files.old files.new) result }
     ensures later { F.faults files.old ≤ F.faults files.new }
 {
     let bytes = load(alloc, files, name)?;
@@ -45,8 +46,9 @@ pub fn load_slots<F: Files>(
 ) -> Result<Seq<Slot>, Stop>
     requires { length labels.now ≤ 32768 }
     ensures ok { IfOk result (λ slots. HasSlots (F.told files.old) labels.now name.now slots) }
-    ensures stop { IfErr result (IsSlotsStop (F.told files.old) (F.faults files.old) (F.faults files.new) (F.failed_name files.new) labels.now name.now) }
+    ensures stop { IfErr result (IsSlotsStop (seen F.told F.faults F.failed_name files.old files.new) labels.now name.now) }
     ensures same { F.told files.new ≡ F.told files.old }
+    ensures kept { Keeps (seen F.told F.faults F.failed_name files.old files.new) result }
     ensures later { F.faults files.old ≤ F.faults files.new }
 {
     let bytes = load(alloc, files, name)?;
@@ -62,8 +64,9 @@ pub fn load_slots<F: Files>(
 /// `FileFault`, `TooLong`, `Memory`.
 pub fn load<F: Files>(alloc: Global, files: &mut F, name: &str) -> Result<Vec<u8>, Stop>
     ensures ok { IfOk result (λ bytes. IsLoaded (F.told files.old) name.now most_bytes bytes.items) }
-    ensures stop { IfErr result (IsLoadStop (F.told files.old) (F.faults files.old) (F.faults files.new) (F.failed_name files.new) name.now) }
+    ensures stop { IfErr result (IsLoadStop (seen F.told F.faults F.failed_name files.old files.new) name.now) }
     ensures same { F.told files.new ≡ F.told files.old }
+    ensures kept { Keeps (seen F.told F.faults F.failed_name files.old files.new) result }
     ensures later { F.faults files.old ≤ F.faults files.new }
 {
     match files.load(alloc, name, MOST_BYTES) {

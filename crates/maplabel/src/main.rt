@@ -4,7 +4,6 @@
 //! - [`command`]: what the words ask for; [`answer`]: what they come to;
 //! - [`show`], [`slots`], [`check`], [`map_view`]: one module a command;
 //! - [`inputs`], [`map_inputs`]: the files that a command needs; [`stop`]: what ends a command early;
-//! - [`labels`]: the labels of a map; [`order`]: their order;
 //! - [`view_line`]: the line of a view; [`verdict_text`]: the line of a verdict;
 //! - [`laws`]: a law of what a run comes to.
 #![tactic(auto)]
@@ -13,11 +12,9 @@ pub mod answer;
 pub mod check;
 pub mod command;
 pub mod inputs;
-pub mod labels;
 pub mod laws;
 pub mod map_inputs;
 pub mod map_view;
-pub mod order;
 pub mod run;
 pub mod show;
 pub mod slots;

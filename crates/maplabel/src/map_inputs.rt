@@ -1,8 +1,9 @@
 //! Styles and maps as inputs of a command, loaded and read.
 ghost use Rattle.std.specs.Prelude.{◌≡◌, ◌≤◌, IfOk, IfErr, MatchResult, string_bytes};
-ghost use Rattle.ml_geojson.specs.Map.{HaveOwnIds};
+ghost use Rattle.ml_geojson.specs.Map.{HaveDifferentIds};
 ghost use Rattle.maplabel.specs.declared.stop.Stop.TheVariants as stop;
-ghost use Rattle.maplabel.specs.Inputs.{IsInputRefusal};
+ghost use Rattle.ml_io.specs.Files.{seen};
+ghost use Rattle.maplabel.specs.Inputs.{IsInputRefusal, Keeps};
 ghost use Rattle.maplabel.specs.MapInputs.{HasStyle, IsStyleStop, IsStyleRefusal, HasMap, IsMapStop, IsMapLine, IsFullLine};
 
 use crate::inputs::{input_refusal, load};
@@ -23,8 +24,9 @@ const MOST_FEATURES: usize = 32_768;
 /// `Memory`.
 pub fn load_style<F: Files>(alloc: Global, files: &mut F, name: &str) -> Result<Style, Stop>
     ensures ok { IfOk result (HasStyle (F.told files.old) name.now) }
-    ensures stop { IfErr result (IsStyleStop (F.told files.old) (F.faults files.old) (F.faults files.new) (F.failed_name files.new) name.now) }
+    ensures stop { IfErr result (IsStyleStop (seen F.told F.faults F.failed_name files.old files.new) name.now) }
     ensures same { F.told files.new ≡ F.told files.old }
+    ensures kept { Keeps (seen F.told F.faults F.failed_name files.old files.new) result }
     ensures later { F.faults files.old ≤ F.faults files.new }
 {
     let bytes = load(alloc, files, name)?;
@@ -41,9 +43,10 @@ pub fn load_style<F: Files>(alloc: Global, files: &mut F, name: &str) -> Result<
 /// of more than 32,768 features; `Memory`.
 pub fn load_map<F: Files>(alloc: Global, files: &mut F, name: &str) -> Result<Seq<Feature>, Stop>
     ensures ok { IfOk result (HasMap (F.told files.old) name.now) }
-    ensures own_ids { IfOk result HaveOwnIds }
-    ensures stop { IfErr result (IsMapStop (F.told files.old) (F.faults files.old) (F.faults files.new) (F.failed_name files.new) name.now) }
+    ensures different_ids { IfOk result HaveDifferentIds }
+    ensures stop { IfErr result (IsMapStop (seen F.told F.faults F.failed_name files.old files.new) name.now) }
     ensures same { F.told files.new ≡ F.told files.old }
+    ensures kept { Keeps (seen F.told F.faults F.failed_name files.old files.new) result }
     ensures later { F.faults files.old ≤ F.faults files.new }
 {
     let bytes = load(alloc, files, name)?;

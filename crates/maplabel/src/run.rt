@@ -1,5 +1,6 @@
 //! The top call.
-ghost use Rattle.std.specs.Prelude.{◌≡◌, map, string_bytes};
+ghost use Rattle.std.specs.Prelude.{◌≡◌, ◌≤◌, map, string_bytes};
+ghost use Rattle.ml_io.specs.Files.{seen};
 ghost use Rattle.maplabel.specs.Outcome.{IsOutcome, IsEnd, IsPrinted};
 
 use crate::answer::answer;
@@ -16,9 +17,10 @@ const USAGE: &str = "usage: maplabel show, slots, check, view, pipe, serve or ge
 /// The status says how the run ended; its line, if any, is printed too. Where it is `WriteFault`,
 /// only a part of what was due was printed.
 pub fn run<F: Files, K: Sink>(alloc: Global, words: &[String], files: &mut F, out: &mut K) -> Status
-    ensures end { IsEnd (IsOutcome (F.told files.old) (F.faults files.old) (F.faults files.new) (F.failed_name files.new) (map string_bytes words.now))
+    ensures end { IsEnd (IsOutcome (seen F.told F.faults F.failed_name files.old files.new) (map string_bytes words.now))
         (K.written out.old) (K.written out.new) (K.faults out.old) (K.faults out.new) result }
     ensures same { F.told files.new ≡ F.told files.old }
+    ensures later { (F.faults files.old ≤ F.faults files.new) × (K.faults out.old ≤ K.faults out.new) }
 {
     match answer(alloc, words, files) {
         Ok((status, text)) => print(out, text.as_slice(), status),
@@ -33,7 +35,8 @@ pub fn run<F: Files, K: Sink>(alloc: Global, words: &[String], files: &mut F, ou
 
 // Prints a text, and gives the status; `WriteFault` where not all was printed.
 fn print<K: Sink>(out: &mut K, text: &[u8], status: Status) -> Status
-    ensures { IsPrinted text.now status (K.written out.old) (K.written out.new) (K.faults out.old) (K.faults out.new) result }
+    ensures printed { IsPrinted text.now status (K.written out.old) (K.written out.new) (K.faults out.old) (K.faults out.new) result }
+    ensures later { K.faults out.old ≤ K.faults out.new }
 {
     match put_all(out, text) {
         Ok(()) => status,

@@ -1,6 +1,7 @@
 //! The command that shows a view of a table's labels, and the line of a view of any labels.
 ghost use Rattle.std.specs.Prelude.{◌≡◌, ◌≤◌, IfOk, IfErr, length};
-ghost use Rattle.maplabel.specs.Inputs.{IsTableStop};
+ghost use Rattle.ml_io.specs.Files.{seen};
+ghost use Rattle.maplabel.specs.Inputs.{IsTableStop, Keeps};
 ghost use Rattle.maplabel.specs.Answers.{IsViewOf, IsShowText};
 
 use crate::inputs::load_table;
@@ -43,8 +44,9 @@ pub fn show<F: Files>(
     view: &View,
 ) -> Result<Seq<u8>, Stop>
     ensures ok { IfOk result (IsShowText (F.told files.old) table.now view.now) }
-    ensures stop { IfErr result (IsTableStop (F.told files.old) (F.faults files.old) (F.faults files.new) (F.failed_name files.new) table.now) }
+    ensures stop { IfErr result (IsTableStop (seen F.told F.faults F.failed_name files.old files.new) table.now) }
     ensures same { F.told files.new ≡ F.told files.old }
+    ensures kept { Keeps (seen F.told F.faults F.failed_name files.old files.new) result }
     ensures later { F.faults files.old ≤ F.faults files.new }
 {
     let labels = load_table(alloc, files, table)?;

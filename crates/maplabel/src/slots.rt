@@ -1,6 +1,7 @@
 //! The command that prints the choice of a table's labels.
 ghost use Rattle.std.specs.Prelude.{◌≡◌, ◌≤◌, IfOk, IfErr};
-ghost use Rattle.maplabel.specs.Inputs.{IsTableStop};
+ghost use Rattle.ml_io.specs.Files.{seen};
+ghost use Rattle.maplabel.specs.Inputs.{IsTableStop, Keeps};
 ghost use Rattle.maplabel.specs.Answers.{IsSlotsText};
 
 use crate::inputs::load_table;
@@ -16,8 +17,9 @@ use std::alloc::Global;
 /// As [`load_table`].
 pub fn slots<F: Files>(alloc: Global, files: &mut F, table: &str) -> Result<Seq<u8>, Stop>
     ensures ok { IfOk result (IsSlotsText (F.told files.old) table.now) }
-    ensures stop { IfErr result (IsTableStop (F.told files.old) (F.faults files.old) (F.faults files.new) (F.failed_name files.new) table.now) }
+    ensures stop { IfErr result (IsTableStop (seen F.told F.faults F.failed_name files.old files.new) table.now) }
     ensures same { F.told files.new ≡ F.told files.old }
+    ensures kept { Keeps (seen F.told F.faults F.failed_name files.old files.new) result }
     ensures later { F.faults files.old ≤ F.faults files.new }
 {
     let labels = load_table(alloc, files, table)?;

@@ -1,16 +1,11 @@
-//! Runs of the top call over files and sinks in memory, on tables worked out by hand.
+//! Runs of the top call over files and sinks in memory, worked out by hand. A case is a row: the
+//! bytes of the files, the words, the status and what is printed.
 use crate::run::run;
 use crate::status::Status;
 use ml_io::{CalmFiles, CalmSink, MemFiles, MemSink};
 use ml_ratio::Text;
 use std::alloc::Global;
 use std::test::Fail;
-
-const TWO: &str = "A 0 0 0 1000 -10,-5,10,5\nB 400 0 0 1000 -10,-5,10,5\n";
-
-const A: &str = r#"{"at":[0,0],"boxes":[[-10,-5,10,5]],"id":"A","text":"A","until":"1000/1"}"#;
-
-const B: &str = r#"{"at":[400,0],"boxes":[[-10,-5,10,5]],"id":"B","text":"B","until":"20/1"}"#;
 
 /// The words of a line, cut at its spaces.
 pub(crate) fn words_of(alloc: Global, line: &str) -> Result<Vec<String>, Fail> {
@@ -21,197 +16,120 @@ pub(crate) fn words_of(alloc: Global, line: &str) -> Result<Vec<String>, Fail> {
     Ok(words)
 }
 
-/// Files in memory, of which the calls that `fails` lists fail: `t` with these bytes.
-fn one_file(alloc: Global, bytes: &[u8], fails: Vec<u64>) -> Result<MemFiles, Fail> {
+/// Names with bytes.
+pub(crate) fn files_of(
+    alloc: Global,
+    texts: &[(&str, &str)],
+) -> Result<Vec<(Text, Vec<u8>)>, Fail> {
     let mut files = Vec::new(alloc);
-    files.push((Text::of(alloc, "t")?, Vec::from_slice(alloc, bytes)?))?;
-    Ok(MemFiles::new(files, fails))
+    for (name, text) in texts {
+        let bytes = Vec::from_slice(alloc, text.as_bytes())?;
+        files.push((Text::of(alloc, name)?, bytes))?;
+    }
+    Ok(files)
 }
 
-/// What the judge prints on the slots `s` of the table `t`, and the status.
-fn judge(alloc: Global, table: &str, slots: &str) -> Result<(Status, MemSink), Fail> {
-    let mut files = Vec::new(alloc);
-    files.push((
-        Text::of(alloc, "t")?,
-        Vec::from_slice(alloc, table.as_bytes())?,
-    ))?;
-    files.push((
-        Text::of(alloc, "s")?,
-        Vec::from_slice(alloc, slots.as_bytes())?,
-    ))?;
-    let mut files = MemFiles::new(files, Vec::new(alloc));
-    let mut out = MemSink::new(alloc, 65536, Vec::new(alloc))?;
-    let words = words_of(alloc, "check t s")?;
-    let status = run(alloc, &words, &mut files, &mut out);
-    Ok((status, out))
-}
-
-/// What a run over the table `t` prints, and its status.
-fn run_over(alloc: Global, table: &str, line: &str) -> Result<(Status, MemSink), Fail> {
+/// What a run over these files prints, and its status.
+pub(crate) fn run_over(
+    alloc: Global,
+    texts: &[(&str, &str)],
+    line: &str,
+) -> Result<(Status, MemSink), Fail> {
     let words = words_of(alloc, line)?;
-    let mut files = one_file(alloc, table.as_bytes(), Vec::new(alloc))?;
+    let mut files = MemFiles::new(files_of(alloc, texts)?, Vec::new(alloc));
     let mut out = MemSink::new(alloc, 65536, Vec::new(alloc))?;
     let status = run(alloc, &words, &mut files, &mut out);
     Ok((status, out))
 }
 
+const TWO: &str = "A 0 0 0 1000 -10,-5,10,5\nB 400 0 0 1000 -10,-5,10,5\n";
+
+const TIED: &str =
+    "A -400 0 0 1000 -10,-5,10,5\nB 400 0 0 1000 -10,-5,10,5\nC 0 0 0 1000 -10,-5,10,5\n";
+
+const FAR: &str = "A 1000 0 0 1000 500,-5,512,5\n";
+
+/// The table `t`, the slots `s`, the words, the status, and what is printed.
+const TABLE_RUNS: [(&str, &str, &str, Status, &str); 34] = [
+    ("", "", "show t 0 0 1024 768 1/1", Status::Done, "{\"labels\":[],\"scale\":\"1/1\"}\n"),
+    ("", "", "show t 0 0 1024 768 38/4", Status::Done, "{\"labels\":[],\"scale\":\"19/2\"}\n"),
+    (TWO, "", "show t 200 0 1024 768 19/1", Status::Done, "{\"labels\":[{\"at\":[0,0],\"boxes\":[[-10,-5,10,5]],\"id\":\"A\",\"text\":\"A\",\"until\":\"1000/1\"},{\"at\":[400,0],\"boxes\":[[-10,-5,10,5]],\"id\":\"B\",\"text\":\"B\",\"until\":\"20/1\"}],\"scale\":\"19/1\"}\n"),
+    (TWO, "", "show t 200 0 1024 768 39/2", Status::Done, "{\"labels\":[{\"at\":[0,0],\"boxes\":[[-10,-5,10,5]],\"id\":\"A\",\"text\":\"A\",\"until\":\"1000/1\"},{\"at\":[400,0],\"boxes\":[[-10,-5,10,5]],\"id\":\"B\",\"text\":\"B\",\"until\":\"20/1\"}],\"scale\":\"39/2\"}\n"),
+    (TWO, "", "show t 200 0 1024 768 20/1", Status::Done, "{\"labels\":[{\"at\":[0,0],\"boxes\":[[-10,-5,10,5]],\"id\":\"A\",\"text\":\"A\",\"until\":\"1000/1\"}],\"scale\":\"20/1\"}\n"),
+    (TWO, "", "show t 10 0 2 2 1", Status::Done, "{\"labels\":[{\"at\":[0,0],\"boxes\":[[-10,-5,10,5]],\"id\":\"A\",\"text\":\"A\",\"until\":\"1000/1\"}],\"scale\":\"1/1\"}\n"),
+    (TWO, "", "show t 11 0 2 2 1", Status::Done, "{\"labels\":[],\"scale\":\"1/1\"}\n"),
+    (FAR, "", "show t 2520 0 2 2 3", Status::Done, "{\"labels\":[{\"at\":[1000,0],\"boxes\":[[500,-5,512,5]],\"id\":\"A\",\"text\":\"A\",\"until\":\"1000/1\"}],\"scale\":\"3/1\"}\n"),
+    ("", "", "slots t", Status::Done, ""),
+    (TWO, "", "slots t", Status::Done, "A 1000/1 -\nB 20/1 A\n"),
+    ("A 0 0 0 1000 -10,-5,10,5\nB 400 0 0 1000 -10,-5,10,5\nC 800 0 0 1000 -10,-5,10,5\n", "", "slots t", Status::Done, "A 1000/1 -\nB 20/1 A\nC 40/1 A\n"),
+    ("B 400 0 0 1000 -10,-5,10,5\nC 800 0 0 1000 -10,-5,10,5\n", "", "slots t", Status::Done, "B 1000/1 -\nC 20/1 B\n"),
+    (TIED, "", "slots t", Status::Done, "A 1000/1 -\nB 40/1 A\nC 20/1 A\n"),
+    ("A 0 0 0 1000 -10,-5,10,5\nB 0 0 0 1000 -10,-5,10,5\n", "", "slots t", Status::Done, "A 1000/1 -\nB 0/1 A\n"),
+    ("A 0 0 0 1000 -10,-5,0,5\nB 0 0 0 1000 0,-5,10,5\n", "", "slots t", Status::Done, "A 1000/1 -\nB 1000/1 -\n"),
+    ("A 0 0 50 1000 -10,-5,10,5\nB 400 0 0 1000 -10,-5,10,5\n", "", "slots t", Status::Done, "A 1000/1 -\nB 50/1 A\n"),
+    ("A -1800000000 0 0 268435456 -10,-5,10,5\nB 1800000000 0 0 268435456 -10,-5,10,5\n", "", "slots t", Status::Done, "A 268435456/1 -\nB 180000000/1 A\n"),
+    ("A 0 0 0 1000 10,-5,30,5\nB 100 0 0 1000 -5,-5,5,5\n", "", "slots t", Status::Done, "A 1000/1 -\nB 20/7 A\n"),
+    (TWO, "A 1000/1 -\nB 20/1 A\n", "check t s", Status::Done, "Best\n"),
+    (TWO, "\r\nA 1000 -\r\nB 40/2 A", "check t s", Status::Done, "Best\n"),
+    (TWO, "A 1000/1 -\nB 30/1 A\n", "check t s", Status::NotBest, "Clash B A 20/1\n"),
+    (TWO, "A 1000/1 -\nB 10/1 A\n", "check t s", Status::NotBest, "Uncovered B\n"),
+    (TWO, "A 1000/1 -\nB 20/1 -\n", "check t s", Status::NotBest, "BadBlocker B\n"),
+    (TWO, "A 1000/1 -\nB 1001/1 -\n", "check t s", Status::NotBest, "BadEnd B\n"),
+    (TWO, "A 1000/1 -\n", "check t s", Status::InputRefused, "slots refused: 1 BadLine 2\n"),
+    (TWO, "B 20/1 A\nA 1000/1 -\n", "check t s", Status::InputRefused, "slots refused: 1 BadLine 1\n"),
+    (TIED, "A 1000/1 -\nB 40/1 A\nC 20/1 A\n", "check t s", Status::Done, "Best\n"),
+    (TIED, "A 1000/1 -\nB 40/1 A\nC 20/1 B\n", "check t s", Status::NotBest, "BadBlocker C\n"),
+    ("A 0 0 0 1000 -10,-5,10,5\nB 400 0 0\n", "", "slots t", Status::InputRefused, "table refused: 1 BadLine 2\n"),
+    ("A 0 0 0 1000 -10,-5,10,5\nB 400 0 0\n", "", "show t 0 0 2 2 1", Status::InputRefused, "table refused: 1 BadLine 2\n"),
+    ("A 0 0 0 1000 -10,-5,10,5\n\r\n\nA 0 0 0 1000 -10,-5,10,5\nx", "", "slots t", Status::InputRefused, "table refused: 2 SameId 4\n"),
+    ("A 0 0 0 1000 -10,-5,10,5\n\r\n\nA 0 0 0 1000 -10,-5,10,5\nx", "", "show t 0 0 2 2 1", Status::InputRefused, "table refused: 2 SameId 4\n"),
+    (TWO, "", "slots u", Status::FileFault, "file fault\n"),
+    (TWO, "", "check t u", Status::FileFault, "file fault\n"),
+];
+
 #[test]
-fn views_are_printed(rt: HostRuntime) -> Result<(), Fail> {
-    let alloc = rt.alloc();
-    let far = "A 1000 0 0 1000 500,-5,512,5\n";
-    let far_a = r#"{"at":[1000,0],"boxes":[[500,-5,512,5]],"id":"A","text":"A","until":"1000/1"}"#;
-    for (table, view, labels, scale) in [
-        ("", "0 0 1024 768 1/1", "", "1/1"),
-        ("", "0 0 1024 768 38/4", "", "19/2"),
-        (TWO, "200 0 1024 768 19/1", "AB", "19/1"),
-        (TWO, "200 0 1024 768 39/2", "AB", "39/2"),
-        (TWO, "200 0 1024 768 20/1", "A", "20/1"),
-        (TWO, "10 0 2 2 1", "A", "1/1"),
-        (TWO, "11 0 2 2 1", "", "1/1"),
-        (far, "2520 0 2 2 3", "F", "3/1"),
-    ] {
-        let shown = match labels {
-            "AB" => format!(in alloc; "{A},{B}")?,
-            "A" => format!(in alloc; "{A}")?,
-            "F" => format!(in alloc; "{far_a}")?,
-            _ => String::new(alloc),
-        };
-        let want = format!(in alloc; "{{\"labels\":[{shown}],\"scale\":\"{scale}\"}}\n")?;
-        let line = format!(in alloc; "show t {view}")?;
-        let (status, out) = run_over(alloc, table, line.as_str())?;
-        assert_eq!(rt; status, Status::Done, "{line}");
-        assert_eq!(rt; out.bytes(), want.as_bytes(), "{line}");
+fn tables_are_shown_chosen_and_judged(rt: HostRuntime) -> Result<(), Fail> {
+    for (table, slots, line, want, printed) in TABLE_RUNS {
+        let (status, out) = run_over(rt.alloc(), &[("t", table), ("s", slots)], line)?;
+        assert_eq!(rt; status, want, "{line} of {table}");
+        assert_eq!(rt; out.bytes(), printed.as_bytes(), "{line} of {table}");
     }
     Ok(())
 }
 
-#[test]
-fn slots_are_printed(rt: HostRuntime) -> Result<(), Fail> {
-    for (table, want) in [
-        ("", ""),
-        (TWO, "A 1000/1 -\nB 20/1 A\n"),
-        (
-            "A 0 0 0 1000 -10,-5,10,5\nB 400 0 0 1000 -10,-5,10,5\nC 800 0 0 1000 -10,-5,10,5\n",
-            "A 1000/1 -\nB 20/1 A\nC 40/1 A\n",
-        ),
-        (
-            "B 400 0 0 1000 -10,-5,10,5\nC 800 0 0 1000 -10,-5,10,5\n",
-            "B 1000/1 -\nC 20/1 B\n",
-        ),
-        (
-            "A -400 0 0 1000 -10,-5,10,5\nB 400 0 0 1000 -10,-5,10,5\nC 0 0 0 1000 -10,-5,10,5\n",
-            "A 1000/1 -\nB 40/1 A\nC 20/1 A\n",
-        ),
-        (
-            "A 0 0 0 1000 -10,-5,10,5\nB 0 0 0 1000 -10,-5,10,5\n",
-            "A 1000/1 -\nB 0/1 A\n",
-        ),
-        (
-            "A 0 0 0 1000 -10,-5,0,5\nB 0 0 0 1000 0,-5,10,5\n",
-            "A 1000/1 -\nB 1000/1 -\n",
-        ),
-        (
-            "A 0 0 50 1000 -10,-5,10,5\nB 400 0 0 1000 -10,-5,10,5\n",
-            "A 1000/1 -\nB 50/1 A\n",
-        ),
-        (
-            "A -1800000000 0 0 268435456 -10,-5,10,5\nB 1800000000 0 0 268435456 -10,-5,10,5\n",
-            "A 268435456/1 -\nB 180000000/1 A\n",
-        ),
-        (
-            "A 0 0 0 1000 10,-5,30,5\nB 100 0 0 1000 -5,-5,5,5\n",
-            "A 1000/1 -\nB 20/7 A\n",
-        ),
-    ] {
-        let (status, out) = run_over(rt.alloc(), table, "slots t")?;
-        assert_eq!(rt; status, Status::Done);
-        assert_eq!(rt; out.bytes(), want.as_bytes());
-    }
-    Ok(())
-}
+/// Words that have none of the forms.
+const NO_FORMS: &str = "\
 
-#[test]
-fn slots_are_judged(rt: HostRuntime) -> Result<(), Fail> {
-    for (slots, status, want) in [
-        ("A 1000/1 -\nB 20/1 A\n", Status::Done, "Best\n"),
-        ("\r\nA 1000 -\r\nB 40/2 A", Status::Done, "Best\n"),
-        (
-            "A 1000/1 -\nB 30/1 A\n",
-            Status::NotBest,
-            "Clash B A 20/1\n",
-        ),
-        ("A 1000/1 -\nB 10/1 A\n", Status::NotBest, "Uncovered B\n"),
-        ("A 1000/1 -\nB 20/1 -\n", Status::NotBest, "BadBlocker B\n"),
-        ("A 1000/1 -\nB 1001/1 -\n", Status::NotBest, "BadEnd B\n"),
-        (
-            "A 1000/1 -\n",
-            Status::InputRefused,
-            "slots refused: 1 BadLine 2\n",
-        ),
-        (
-            "B 20/1 A\nA 1000/1 -\n",
-            Status::InputRefused,
-            "slots refused: 1 BadLine 1\n",
-        ),
-    ] {
-        let (found, out) = judge(rt.alloc(), TWO, slots)?;
-        assert_eq!(rt; found, status, "{slots}");
-        assert_eq!(rt; out.bytes(), want.as_bytes(), "{slots}");
-    }
-    let three =
-        "A -400 0 0 1000 -10,-5,10,5\nB 400 0 0 1000 -10,-5,10,5\nC 0 0 0 1000 -10,-5,10,5\n";
-    let (status, out) = judge(rt.alloc(), three, "A 1000/1 -\nB 40/1 A\nC 20/1 B\n")?;
-    assert_eq!(rt; status, Status::NotBest);
-    assert_eq!(rt; out.bytes(), b"BadBlocker C\n".as_slice());
-    Ok(())
-}
+show
+slots
+slots t t
+check t
+check t t t
+Slots t
+show t 0 0 1024 768 0
+show t 0 0 1024 768 5/0
+show t 0 0 1024 768 268435456
+show t 0 0 1023 768 1
+show t 0 0 1024 768
+show t 0 0 1024 768 1 1
+show t 2000000001 0 1024 768 1
+show t 0 0 0 768 1
+show t 0 0 1024 4098 1
+--help
+view s m 0 0 1023 768 1
+view s m 0 0 1024 768 0
+view s m 0 0 1024 768
+view s m 0 0 1024 768 1 1
+View s m 0 0 1024 768 1
+show s m 0 0 1024 768 1";
 
 #[test]
 fn words_of_no_form_are_told_so(rt: HostRuntime) -> Result<(), Fail> {
     let usage = "usage: maplabel show, slots, check, view, pipe, serve or gen\n";
-    for line in [
-        "",
-        "show",
-        "slots",
-        "slots t t",
-        "check t",
-        "check t t t",
-        "Slots t",
-        "show t 0 0 1024 768 0",
-        "show t 0 0 1024 768 5/0",
-        "show t 0 0 1024 768 268435456",
-        "show t 0 0 1023 768 1",
-        "show t 0 0 1024 768",
-        "show t 0 0 1024 768 1 1",
-        "show t 2000000001 0 1024 768 1",
-        "show t 0 0 0 768 1",
-        "show t 0 0 1024 4098 1",
-        "--help",
-    ] {
-        let (status, out) = run_over(rt.alloc(), TWO, line)?;
+    for line in NO_FORMS.lines() {
+        let (status, out) = run_over(rt.alloc(), &[("t", TWO)], line)?;
         assert_eq!(rt; status, Status::Usage, "{line}");
         assert_eq!(rt; out.bytes(), usage.as_bytes(), "{line}");
-    }
-    Ok(())
-}
-
-#[test]
-fn tables_are_refused(rt: HostRuntime) -> Result<(), Fail> {
-    for (table, want) in [
-        (
-            "A 0 0 0 1000 -10,-5,10,5\nB 400 0 0\n",
-            "table refused: 1 BadLine 2\n",
-        ),
-        (
-            "A 0 0 0 1000 -10,-5,10,5\n\r\n\nA 0 0 0 1000 -10,-5,10,5\nx",
-            "table refused: 2 SameId 4\n",
-        ),
-    ] {
-        for line in ["slots t", "show t 0 0 2 2 1"] {
-            let (status, out) = run_over(rt.alloc(), table, line)?;
-            assert_eq!(rt; status, Status::InputRefused);
-            assert_eq!(rt; out.bytes(), want.as_bytes());
-        }
     }
     Ok(())
 }
@@ -223,28 +141,31 @@ fn a_table_is_full(rt: HostRuntime) -> Result<(), Fail> {
     for i in 0..32_769 {
         table.push_str(format!(in alloc; "L{i} 0 0 0 1 0,0,1,1\n")?.as_str())?;
     }
-    let (status, out) = run_over(alloc, table.as_str(), "slots t")?;
+    let (status, out) = run_over(alloc, &[("t", table.as_str())], "slots t")?;
     assert_eq!(rt; status, Status::InputRefused);
     assert_eq!(rt; out.bytes(), b"table refused: 3 Full\n".as_slice());
     Ok(())
 }
 
+/// The status of `slots t` and of `view t m ..` over a file `t` of so many bytes, where the first load
+/// fails or none does.
+fn status_over(alloc: Global, line: &str, count: usize, fails: Vec<u64>) -> Result<Status, Fail> {
+    let mut files = Vec::new(alloc);
+    files.push((Text::of(alloc, "t")?, vec![in alloc; b'\n'; count]?))?;
+    let mut files = MemFiles::new(files, fails);
+    let mut out = MemSink::new(alloc, 100, Vec::new(alloc))?;
+    Ok(run(alloc, &words_of(alloc, line)?, &mut files, &mut out))
+}
+
 #[test]
-fn files_that_fail(rt: HostRuntime) -> Result<(), Fail> {
+fn files_that_fail_or_are_too_long(rt: HostRuntime) -> Result<(), Fail> {
     let alloc = rt.alloc();
-    let (status, out) = run_over(alloc, TWO, "slots u")?;
-    assert_eq!(rt; status, Status::FileFault);
-    assert_eq!(rt; out.bytes(), b"file fault\n".as_slice());
-    let mut files = one_file(alloc, b"", vec![in alloc; 0]?)?;
-    let mut out = MemSink::new(alloc, 100, Vec::new(alloc))?;
-    let status = run(alloc, &words_of(alloc, "slots t")?, &mut files, &mut out);
-    assert_eq!(rt; status, Status::FileFault, "call 0 is listed");
-    let long = vec![in alloc; b'\n'; 67_108_865]?;
-    let mut files = one_file(alloc, &long, Vec::new(alloc))?;
-    let mut out = MemSink::new(alloc, 100, Vec::new(alloc))?;
-    let status = run(alloc, &words_of(alloc, "slots t")?, &mut files, &mut out);
-    assert_eq!(rt; status, Status::TooLong);
-    assert_eq!(rt; out.bytes(), b"file too long\n".as_slice());
+    for line in ["slots t", "view t m 0 0 1024 768 1"] {
+        let long = status_over(alloc, line, 67_108_865, Vec::new(alloc))?;
+        assert_eq!(rt; long, Status::TooLong, "{line}");
+        let failed = status_over(alloc, line, 0, vec![in alloc; 0]?)?;
+        assert_eq!(rt; failed, Status::FileFault, "{line}");
+    }
     Ok(())
 }
 
@@ -252,7 +173,7 @@ fn files_that_fail(rt: HostRuntime) -> Result<(), Fail> {
 fn sinks_that_fail(rt: HostRuntime) -> Result<(), Fail> {
     let alloc = rt.alloc();
     for line in ["show t 0 0 1024 768 1/1", "slots t", "slots u", "none"] {
-        let mut files = one_file(alloc, TWO.as_bytes(), Vec::new(alloc))?;
+        let mut files = MemFiles::new(files_of(alloc, &[("t", TWO)])?, Vec::new(alloc));
         let mut out = MemSink::new(alloc, 1000, vec![in alloc; 0]?)?;
         let status = run(alloc, &words_of(alloc, line)?, &mut files, &mut out);
         assert_eq!(rt; status, Status::WriteFault, "{line}");
@@ -264,16 +185,10 @@ fn sinks_that_fail(rt: HostRuntime) -> Result<(), Fail> {
 #[test]
 fn calm_things_do_not_fail(rt: HostRuntime) -> Result<(), Fail> {
     let alloc = rt.alloc();
-    let mut files = Vec::new(alloc);
-    files.push((
-        Text::of(alloc, "t")?,
-        Vec::from_slice(alloc, TWO.as_bytes())?,
-    ))?;
-    let mut files = CalmFiles::new(files);
+    let mut files = CalmFiles::new(files_of(alloc, &[("t", TWO)])?);
     let mut out = CalmSink::new();
     let status = run(alloc, &words_of(alloc, "slots t")?, &mut files, &mut out);
-    assert_eq!(rt; status, Status::Done);
-    assert_eq!(rt; out.count(), 20);
+    assert_eq!(rt; (status, out.count()), (Status::Done, 20));
     Ok(())
 }
 
