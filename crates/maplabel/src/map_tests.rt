@@ -66,10 +66,12 @@ const MAP: &str = r#"{
 "#;
 
 /// Four points whose names stand in priority order by class, then rank, then id, and one without name.
-const RANKED: &str = r#"{"type":"FeatureCollection","features":[{"type":"Feature","geometry":{"type":"Point","coordinates":[0,0]},"properties":{"name":"a","pop":9}},{"type":"Feature","geometry":{"type":"Point","coordinates":[0.001,0]},"properties":{"name":"b","place":"city","pop":1}},{"type":"Feature","geometry":{"type":"Point","coordinates":[0,0]}},{"type":"Feature","geometry":{"type":"Point","coordinates":[0.003,0]},"properties":{"name":"d","place":"city","pop":3}},{"type":"Feature","geometry":{"type":"Point","coordinates":[0.002,0]},"properties":{"name":"c","place":"city","pop":3}}]}"#;
+const RANKED: &str =
+    r#"{"type":"FeatureCollection","features":[{"type":"Feature","geometry":{"type":"Point","coordinates":[0,0]},"properties":{"name":"a","pop":9}},{"type":"Feature","geometry":{"type":"Point","coordinates":[0.001,0]},"properties":{"name":"b","place":"city","pop":1}},{"type":"Feature","geometry":{"type":"Point","coordinates":[0,0]}},{"type":"Feature","geometry":{"type":"Point","coordinates":[0.003,0]},"properties":{"name":"d","place":"city","pop":3}},{"type":"Feature","geometry":{"type":"Point","coordinates":[0.002,0]},"properties":{"name":"c","place":"city","pop":3}}]}"#;
 
 /// Three points of one class, 400 units from one another.
-const THREE: &str = r#"{"type":"FeatureCollection","features":[{"type":"Feature","geometry":{"type":"Point","coordinates":[0.0000800,0]},"properties":{"name":"ab","place":"city","pop":1}},{"type":"Feature","geometry":{"type":"Point","coordinates":[0.0000400,0]},"properties":{"name":"ab","place":"city","pop":2}},{"type":"Feature","geometry":{"type":"Point","coordinates":[0,0]},"properties":{"name":"ab","place":"city","pop":3}}]}"#;
+const THREE: &str =
+    r#"{"type":"FeatureCollection","features":[{"type":"Feature","geometry":{"type":"Point","coordinates":[0.0000800,0]},"properties":{"name":"ab","place":"city","pop":1}},{"type":"Feature","geometry":{"type":"Point","coordinates":[0.0000400,0]},"properties":{"name":"ab","place":"city","pop":2}},{"type":"Feature","geometry":{"type":"Point","coordinates":[0,0]},"properties":{"name":"ab","place":"city","pop":3}}]}"#;
 
 /// Cities that keep five pixels free around their names.
 const ROOMY: &str = r#"version = 2
@@ -91,31 +93,181 @@ margin = 5
 
 /// The style `s`, the map `m`, the words, the status, and what is printed.
 const MAP_RUNS: [(&str, &str, &str, Status, &str); 25] = [
-    (STYLE, MAP, "view s m 85416942 473768861 1024 768 100", Status::Done, "{\"labels\":[{\"at\":[85416942,473768861],\"boxes\":[[-27,-10,28,10]],\"id\":\"#0\",\"text\":\"Zürich\",\"until\":\"1000/1\"}],\"scale\":\"100/1\"}\n"),
-    (STYLE, MAP, "view s m 200000 100000 1024 768 1", Status::Done, "{\"labels\":[{\"at\":[200000,100000],\"boxes\":[[-17,-16,-7,4],[-7,-13,-2,7],[-2,-12,8,8],[8,-17,18,3]],\"id\":\"#2\",\"text\":\"Sihl\",\"until\":\"2000/1\"}],\"scale\":\"1/1\"}\n"),
-    (STYLE, MAP, "view s m 30000000 10000000 1024 768 99999", Status::Done, "{\"labels\":[{\"at\":[30000000,10000000],\"boxes\":[[-30,-10,30,10]],\"id\":\"#1\",\"text\":\"Inseln\",\"until\":\"100000/1\"}],\"scale\":\"99999/1\"}\n"),
-    (STYLE, MAP, "view s m 30000000 10000000 1024 768 100000", Status::Done, "{\"labels\":[],\"scale\":\"100000/1\"}\n"),
-    (STYLE, MAP, "view s m 85416942 473768861 1024 768 1000", Status::Done, "{\"labels\":[],\"scale\":\"1000/1\"}\n"),
-    (STYLE, MAP, "view s m 0 0 2 2 1", Status::Done, "{\"labels\":[],\"scale\":\"1/1\"}\n"),
-    (STYLE, RANKED, "view s m 15000 0 4096 4096 20", Status::Done, "{\"labels\":[{\"at\":[30000,0],\"boxes\":[[-5,-10,5,10]],\"id\":\"#3\",\"text\":\"d\",\"until\":\"1000/1\"},{\"at\":[20000,0],\"boxes\":[[-5,-10,5,10]],\"id\":\"#4\",\"text\":\"c\",\"until\":\"1000/1\"},{\"at\":[10000,0],\"boxes\":[[-5,-10,5,10]],\"id\":\"#1\",\"text\":\"b\",\"until\":\"1000/1\"},{\"at\":[0,0],\"boxes\":[[-5,-10,5,10]],\"id\":\"#0\",\"text\":\"a\",\"until\":\"1000/1\"}],\"scale\":\"20/1\"}\n"),
-    (STYLE, THREE, "view s m 0 0 1024 768 19/1", Status::Done, "{\"labels\":[{\"at\":[0,0],\"boxes\":[[-10,-10,10,10]],\"id\":\"#2\",\"text\":\"ab\",\"until\":\"1000/1\"},{\"at\":[400,0],\"boxes\":[[-10,-10,10,10]],\"id\":\"#1\",\"text\":\"ab\",\"until\":\"20/1\"},{\"at\":[800,0],\"boxes\":[[-10,-10,10,10]],\"id\":\"#0\",\"text\":\"ab\",\"until\":\"40/1\"}],\"scale\":\"19/1\"}\n"),
-    (STYLE, THREE, "view s m 0 0 1024 768 20/1", Status::Done, "{\"labels\":[{\"at\":[0,0],\"boxes\":[[-10,-10,10,10]],\"id\":\"#2\",\"text\":\"ab\",\"until\":\"1000/1\"},{\"at\":[800,0],\"boxes\":[[-10,-10,10,10]],\"id\":\"#0\",\"text\":\"ab\",\"until\":\"40/1\"}],\"scale\":\"20/1\"}\n"),
-    (STYLE, THREE, "view s m 0 0 1024 768 40/1", Status::Done, "{\"labels\":[{\"at\":[0,0],\"boxes\":[[-10,-10,10,10]],\"id\":\"#2\",\"text\":\"ab\",\"until\":\"1000/1\"}],\"scale\":\"40/1\"}\n"),
-    (ROOMY, THREE, "view s m 10 0 2 2 1", Status::Done, "{\"labels\":[{\"at\":[0,0],\"boxes\":[[-10,-10,10,10]],\"id\":\"#2\",\"text\":\"ab\",\"until\":\"1000/1\"}],\"scale\":\"1/1\"}\n"),
-    (ROOMY, THREE, "view s m 11 0 2 2 1", Status::Done, "{\"labels\":[],\"scale\":\"1/1\"}\n"),
-    (ROOMY, THREE, "view s m 0 0 1024 768 13/1", Status::Done, "{\"labels\":[{\"at\":[0,0],\"boxes\":[[-10,-10,10,10]],\"id\":\"#2\",\"text\":\"ab\",\"until\":\"1000/1\"},{\"at\":[400,0],\"boxes\":[[-10,-10,10,10]],\"id\":\"#1\",\"text\":\"ab\",\"until\":\"40/3\"},{\"at\":[800,0],\"boxes\":[[-10,-10,10,10]],\"id\":\"#0\",\"text\":\"ab\",\"until\":\"80/3\"}],\"scale\":\"13/1\"}\n"),
-    (ROOMY, THREE, "view s m 0 0 1024 768 40/3", Status::Done, "{\"labels\":[{\"at\":[0,0],\"boxes\":[[-10,-10,10,10]],\"id\":\"#2\",\"text\":\"ab\",\"until\":\"1000/1\"},{\"at\":[800,0],\"boxes\":[[-10,-10,10,10]],\"id\":\"#0\",\"text\":\"ab\",\"until\":\"80/3\"}],\"scale\":\"40/3\"}\n"),
-    (ROOMY, THREE, "view s m 0 0 1024 768 80/3", Status::Done, "{\"labels\":[{\"at\":[0,0],\"boxes\":[[-10,-10,10,10]],\"id\":\"#2\",\"text\":\"ab\",\"until\":\"1000/1\"}],\"scale\":\"80/3\"}\n"),
-    (STYLE, MAP, "view x m 0 0 1024 768 1", Status::FileFault, "file fault\n"),
-    (STYLE, MAP, "view s x 0 0 1024 768 1", Status::FileFault, "file fault\n"),
-    ("version = 3", MAP, "view s m 0 0 1024 768 1", Status::StyleRefused, "style refused: 2 Version\n"),
-    (STYLE, "{\"type\":\"Feature", "view s m 0 0 1024 768 1", Status::InputRefused, "map refused: 1 NotJson 16\n"),
-    (STYLE, "[[[[[[[[[[[[[[[[[[[[[[[[[[[[[[[[[[[[[[[[[[[[[[[[[[[[[[[[[[[[[[[[[", "view s m 0 0 1024 768 1", Status::InputRefused, "map refused: 2 Deep 64\n"),
-    (STYLE, "[]", "view s m 0 0 1024 768 1", Status::InputRefused, "map refused: 3 NotCollection\n"),
-    (STYLE, "{\"type\":\"FeatureCollection\",\"features\":[{\"type\":\"Feature\"},1]}", "view s m 0 0 1024 768 1", Status::InputRefused, "map refused: 4 NotFeature 1\n"),
-    (STYLE, "{\"type\":\"Feature\",\"geometry\":{\"type\":\"Circle\"}}", "view s m 0 0 1024 768 1", Status::InputRefused, "map refused: 5 BadGeometry 0\n"),
-    (STYLE, "{\"type\":\"Feature\",\"geometry\":{\"type\":\"LineString\",\"coordinates\":[[201,0],[1]]}}", "view s m 0 0 1024 768 1", Status::InputRefused, "map refused: 6 OutOfRange 0\n"),
-    (STYLE, "{\"type\":\"Feature\",\"geometry\":{\"type\":\"Polygon\",\"coordinates\":[[[0,0],[1,0]],5]}}", "view s m 0 0 1024 768 1", Status::InputRefused, "map refused: 7 ShortRing 0\n"),
+    (
+        STYLE,
+        MAP,
+        "view s m 85416942 473768861 1024 768 100",
+        Status::Done,
+        "{\"labels\":[{\"at\":[85416942,473768861],\"boxes\":[[-27,-10,28,10]],\"id\":\"#0\",\"text\":\"Zürich\",\"until\":\"1000/1\"}],\"scale\":\"100/1\"}\n",
+    ),
+    (
+        STYLE,
+        MAP,
+        "view s m 200000 100000 1024 768 1",
+        Status::Done,
+        "{\"labels\":[{\"at\":[200000,100000],\"boxes\":[[-17,-16,-7,4],[-7,-13,-2,7],[-2,-12,8,8],[8,-17,18,3]],\"id\":\"#2\",\"text\":\"Sihl\",\"until\":\"2000/1\"}],\"scale\":\"1/1\"}\n",
+    ),
+    (
+        STYLE,
+        MAP,
+        "view s m 30000000 10000000 1024 768 99999",
+        Status::Done,
+        "{\"labels\":[{\"at\":[30000000,10000000],\"boxes\":[[-30,-10,30,10]],\"id\":\"#1\",\"text\":\"Inseln\",\"until\":\"100000/1\"}],\"scale\":\"99999/1\"}\n",
+    ),
+    (
+        STYLE,
+        MAP,
+        "view s m 30000000 10000000 1024 768 100000",
+        Status::Done,
+        "{\"labels\":[],\"scale\":\"100000/1\"}\n",
+    ),
+    (
+        STYLE,
+        MAP,
+        "view s m 85416942 473768861 1024 768 1000",
+        Status::Done,
+        "{\"labels\":[],\"scale\":\"1000/1\"}\n",
+    ),
+    (
+        STYLE,
+        MAP,
+        "view s m 0 0 2 2 1",
+        Status::Done,
+        "{\"labels\":[],\"scale\":\"1/1\"}\n",
+    ),
+    (
+        STYLE,
+        RANKED,
+        "view s m 15000 0 4096 4096 20",
+        Status::Done,
+        "{\"labels\":[{\"at\":[30000,0],\"boxes\":[[-5,-10,5,10]],\"id\":\"#3\",\"text\":\"d\",\"until\":\"1000/1\"},{\"at\":[20000,0],\"boxes\":[[-5,-10,5,10]],\"id\":\"#4\",\"text\":\"c\",\"until\":\"1000/1\"},{\"at\":[10000,0],\"boxes\":[[-5,-10,5,10]],\"id\":\"#1\",\"text\":\"b\",\"until\":\"1000/1\"},{\"at\":[0,0],\"boxes\":[[-5,-10,5,10]],\"id\":\"#0\",\"text\":\"a\",\"until\":\"1000/1\"}],\"scale\":\"20/1\"}\n",
+    ),
+    (
+        STYLE,
+        THREE,
+        "view s m 0 0 1024 768 19/1",
+        Status::Done,
+        "{\"labels\":[{\"at\":[0,0],\"boxes\":[[-10,-10,10,10]],\"id\":\"#2\",\"text\":\"ab\",\"until\":\"1000/1\"},{\"at\":[400,0],\"boxes\":[[-10,-10,10,10]],\"id\":\"#1\",\"text\":\"ab\",\"until\":\"20/1\"},{\"at\":[800,0],\"boxes\":[[-10,-10,10,10]],\"id\":\"#0\",\"text\":\"ab\",\"until\":\"40/1\"}],\"scale\":\"19/1\"}\n",
+    ),
+    (
+        STYLE,
+        THREE,
+        "view s m 0 0 1024 768 20/1",
+        Status::Done,
+        "{\"labels\":[{\"at\":[0,0],\"boxes\":[[-10,-10,10,10]],\"id\":\"#2\",\"text\":\"ab\",\"until\":\"1000/1\"},{\"at\":[800,0],\"boxes\":[[-10,-10,10,10]],\"id\":\"#0\",\"text\":\"ab\",\"until\":\"40/1\"}],\"scale\":\"20/1\"}\n",
+    ),
+    (
+        STYLE,
+        THREE,
+        "view s m 0 0 1024 768 40/1",
+        Status::Done,
+        "{\"labels\":[{\"at\":[0,0],\"boxes\":[[-10,-10,10,10]],\"id\":\"#2\",\"text\":\"ab\",\"until\":\"1000/1\"}],\"scale\":\"40/1\"}\n",
+    ),
+    (
+        ROOMY,
+        THREE,
+        "view s m 10 0 2 2 1",
+        Status::Done,
+        "{\"labels\":[{\"at\":[0,0],\"boxes\":[[-10,-10,10,10]],\"id\":\"#2\",\"text\":\"ab\",\"until\":\"1000/1\"}],\"scale\":\"1/1\"}\n",
+    ),
+    (
+        ROOMY,
+        THREE,
+        "view s m 11 0 2 2 1",
+        Status::Done,
+        "{\"labels\":[],\"scale\":\"1/1\"}\n",
+    ),
+    (
+        ROOMY,
+        THREE,
+        "view s m 0 0 1024 768 13/1",
+        Status::Done,
+        "{\"labels\":[{\"at\":[0,0],\"boxes\":[[-10,-10,10,10]],\"id\":\"#2\",\"text\":\"ab\",\"until\":\"1000/1\"},{\"at\":[400,0],\"boxes\":[[-10,-10,10,10]],\"id\":\"#1\",\"text\":\"ab\",\"until\":\"40/3\"},{\"at\":[800,0],\"boxes\":[[-10,-10,10,10]],\"id\":\"#0\",\"text\":\"ab\",\"until\":\"80/3\"}],\"scale\":\"13/1\"}\n",
+    ),
+    (
+        ROOMY,
+        THREE,
+        "view s m 0 0 1024 768 40/3",
+        Status::Done,
+        "{\"labels\":[{\"at\":[0,0],\"boxes\":[[-10,-10,10,10]],\"id\":\"#2\",\"text\":\"ab\",\"until\":\"1000/1\"},{\"at\":[800,0],\"boxes\":[[-10,-10,10,10]],\"id\":\"#0\",\"text\":\"ab\",\"until\":\"80/3\"}],\"scale\":\"40/3\"}\n",
+    ),
+    (
+        ROOMY,
+        THREE,
+        "view s m 0 0 1024 768 80/3",
+        Status::Done,
+        "{\"labels\":[{\"at\":[0,0],\"boxes\":[[-10,-10,10,10]],\"id\":\"#2\",\"text\":\"ab\",\"until\":\"1000/1\"}],\"scale\":\"80/3\"}\n",
+    ),
+    (
+        STYLE,
+        MAP,
+        "view x m 0 0 1024 768 1",
+        Status::FileFault,
+        "file fault\n",
+    ),
+    (
+        STYLE,
+        MAP,
+        "view s x 0 0 1024 768 1",
+        Status::FileFault,
+        "file fault\n",
+    ),
+    (
+        "version = 3",
+        MAP,
+        "view s m 0 0 1024 768 1",
+        Status::StyleRefused,
+        "style refused: 2 Version\n",
+    ),
+    (
+        STYLE,
+        "{\"type\":\"Feature",
+        "view s m 0 0 1024 768 1",
+        Status::InputRefused,
+        "map refused: 1 NotJson 16\n",
+    ),
+    (
+        STYLE,
+        "[[[[[[[[[[[[[[[[[[[[[[[[[[[[[[[[[[[[[[[[[[[[[[[[[[[[[[[[[[[[[[[[[",
+        "view s m 0 0 1024 768 1",
+        Status::InputRefused,
+        "map refused: 2 Deep 64\n",
+    ),
+    (
+        STYLE,
+        "[]",
+        "view s m 0 0 1024 768 1",
+        Status::InputRefused,
+        "map refused: 3 NotCollection\n",
+    ),
+    (
+        STYLE,
+        "{\"type\":\"FeatureCollection\",\"features\":[{\"type\":\"Feature\"},1]}",
+        "view s m 0 0 1024 768 1",
+        Status::InputRefused,
+        "map refused: 4 NotFeature 1\n",
+    ),
+    (
+        STYLE,
+        "{\"type\":\"Feature\",\"geometry\":{\"type\":\"Circle\"}}",
+        "view s m 0 0 1024 768 1",
+        Status::InputRefused,
+        "map refused: 5 BadGeometry 0\n",
+    ),
+    (
+        STYLE,
+        "{\"type\":\"Feature\",\"geometry\":{\"type\":\"LineString\",\"coordinates\":[[201,0],[1]]}}",
+        "view s m 0 0 1024 768 1",
+        Status::InputRefused,
+        "map refused: 6 OutOfRange 0\n",
+    ),
+    (
+        STYLE,
+        "{\"type\":\"Feature\",\"geometry\":{\"type\":\"Polygon\",\"coordinates\":[[[0,0],[1,0]],5]}}",
+        "view s m 0 0 1024 768 1",
+        Status::InputRefused,
+        "map refused: 7 ShortRing 0\n",
+    ),
 ];
 
 #[test]

@@ -1,5 +1,5 @@
 //! Runs of the top call over files and sinks in memory, worked out by hand. A case is a row: the
-//! bytes of the files, the words, the status and what is printed.
+//! bytes of the files, the words, the exit code and what is printed.
 use crate::run::run;
 use crate::status::Status;
 use ml_io::{CalmFiles, CalmSink, MemFiles, MemSink};
@@ -44,55 +44,72 @@ pub(crate) fn run_over(
 
 const TWO: &str = "A 0 0 0 1000 -10,-5,10,5\nB 400 0 0 1000 -10,-5,10,5\n";
 
-const TIED: &str =
-    "A -400 0 0 1000 -10,-5,10,5\nB 400 0 0 1000 -10,-5,10,5\nC 0 0 0 1000 -10,-5,10,5\n";
+/// The table `t`, the slots `s` and the words; the exit code and what is printed. `¶` stands for a line
+/// feed, `↵` for a carriage return.
+const TABLE_RUNS: &str = r#"||show t 0 0 1024 768 1/1 => 0 {"labels":[],"scale":"1/1"}¶
+||show t 0 0 1024 768 38/4 => 0 {"labels":[],"scale":"19/2"}¶
+A 0 0 0 1000 -10,-5,10,5¶B 400 0 0 1000 -10,-5,10,5¶||show t 200 0 1024 768 19/1 => 0 {"labels":[{"at":[0,0],"boxes":[[-10,-5,10,5]],"id":"A","text":"A","until":"1000/1"},{"at":[400,0],"boxes":[[-10,-5,10,5]],"id":"B","text":"B","until":"20/1"}],"scale":"19/1"}¶
+A 0 0 0 1000 -10,-5,10,5¶B 400 0 0 1000 -10,-5,10,5¶||show t 200 0 1024 768 39/2 => 0 {"labels":[{"at":[0,0],"boxes":[[-10,-5,10,5]],"id":"A","text":"A","until":"1000/1"},{"at":[400,0],"boxes":[[-10,-5,10,5]],"id":"B","text":"B","until":"20/1"}],"scale":"39/2"}¶
+A 0 0 0 1000 -10,-5,10,5¶B 400 0 0 1000 -10,-5,10,5¶||show t 200 0 1024 768 20/1 => 0 {"labels":[{"at":[0,0],"boxes":[[-10,-5,10,5]],"id":"A","text":"A","until":"1000/1"}],"scale":"20/1"}¶
+A 0 0 0 1000 -10,-5,10,5¶B 400 0 0 1000 -10,-5,10,5¶||show t 10 0 2 2 1 => 0 {"labels":[{"at":[0,0],"boxes":[[-10,-5,10,5]],"id":"A","text":"A","until":"1000/1"}],"scale":"1/1"}¶
+A 0 0 0 1000 -10,-5,10,5¶B 400 0 0 1000 -10,-5,10,5¶||show t 11 0 2 2 1 => 0 {"labels":[],"scale":"1/1"}¶
+A 1000 0 0 1000 500,-5,512,5¶||show t 2520 0 2 2 3 => 0 {"labels":[{"at":[1000,0],"boxes":[[500,-5,512,5]],"id":"A","text":"A","until":"1000/1"}],"scale":"3/1"}¶
+||slots t => 0 
+A 0 0 0 1000 -10,-5,10,5¶B 400 0 0 1000 -10,-5,10,5¶||slots t => 0 A 1000/1 -¶B 20/1 A¶
+A 0 0 0 1000 -10,-5,10,5¶B 400 0 0 1000 -10,-5,10,5¶C 800 0 0 1000 -10,-5,10,5¶||slots t => 0 A 1000/1 -¶B 20/1 A¶C 40/1 A¶
+B 400 0 0 1000 -10,-5,10,5¶C 800 0 0 1000 -10,-5,10,5¶||slots t => 0 B 1000/1 -¶C 20/1 B¶
+A -400 0 0 1000 -10,-5,10,5¶B 400 0 0 1000 -10,-5,10,5¶C 0 0 0 1000 -10,-5,10,5¶||slots t => 0 A 1000/1 -¶B 40/1 A¶C 20/1 A¶
+A 0 0 0 1000 -10,-5,10,5¶B 0 0 0 1000 -10,-5,10,5¶||slots t => 0 A 1000/1 -¶B 0/1 A¶
+A 0 0 0 1000 -10,-5,0,5¶B 0 0 0 1000 0,-5,10,5¶||slots t => 0 A 1000/1 -¶B 1000/1 -¶
+A 0 0 50 1000 -10,-5,10,5¶B 400 0 0 1000 -10,-5,10,5¶||slots t => 0 A 1000/1 -¶B 50/1 A¶
+A -1800000000 0 0 268435456 -10,-5,10,5¶B 1800000000 0 0 268435456 -10,-5,10,5¶||slots t => 0 A 268435456/1 -¶B 180000000/1 A¶
+A 0 0 0 1000 10,-5,30,5¶B 100 0 0 1000 -5,-5,5,5¶||slots t => 0 A 1000/1 -¶B 20/7 A¶
+A 0 0 0 1000 -10,-5,10,5¶B 400 0 0 1000 -10,-5,10,5¶|A 1000/1 -¶B 20/1 A¶|check t s => 0 Best¶
+A 0 0 0 1000 -10,-5,10,5¶B 400 0 0 1000 -10,-5,10,5¶|↵¶A 1000 -↵¶B 40/2 A|check t s => 0 Best¶
+A 0 0 0 1000 -10,-5,10,5¶B 400 0 0 1000 -10,-5,10,5¶|A 1000/1 -¶B 30/1 A¶|check t s => 1 Clash B A 20/1¶
+A 0 0 0 1000 -10,-5,10,5¶B 400 0 0 1000 -10,-5,10,5¶|A 1000/1 -¶B 10/1 A¶|check t s => 1 Uncovered B¶
+A 0 0 0 1000 -10,-5,10,5¶B 400 0 0 1000 -10,-5,10,5¶|A 1000/1 -¶B 20/1 -¶|check t s => 1 BadBlocker B¶
+A 0 0 0 1000 -10,-5,10,5¶B 400 0 0 1000 -10,-5,10,5¶|A 1000/1 -¶B 1001/1 -¶|check t s => 1 BadEnd B¶
+A 0 0 0 1000 -10,-5,10,5¶B 400 0 0 1000 -10,-5,10,5¶|A 1000/1 -¶|check t s => 4 slots refused: 1 BadLine 2¶
+A 0 0 0 1000 -10,-5,10,5¶B 400 0 0 1000 -10,-5,10,5¶|B 20/1 A¶A 1000/1 -¶|check t s => 4 slots refused: 1 BadLine 1¶
+A -400 0 0 1000 -10,-5,10,5¶B 400 0 0 1000 -10,-5,10,5¶C 0 0 0 1000 -10,-5,10,5¶|A 1000/1 -¶B 40/1 A¶C 20/1 A¶|check t s => 0 Best¶
+A -400 0 0 1000 -10,-5,10,5¶B 400 0 0 1000 -10,-5,10,5¶C 0 0 0 1000 -10,-5,10,5¶|A 1000/1 -¶B 40/1 A¶C 20/1 B¶|check t s => 1 BadBlocker C¶
+A 0 0 0 1000 -10,-5,10,5¶B 400 0 0¶||slots t => 4 table refused: 1 BadLine 2¶
+A 0 0 0 1000 -10,-5,10,5¶B 400 0 0¶||show t 0 0 2 2 1 => 4 table refused: 1 BadLine 2¶
+A 0 0 0 1000 -10,-5,10,5¶↵¶¶A 0 0 0 1000 -10,-5,10,5¶x||slots t => 4 table refused: 2 SameId 4¶
+A 0 0 0 1000 -10,-5,10,5¶↵¶¶A 0 0 0 1000 -10,-5,10,5¶x||show t 0 0 2 2 1 => 4 table refused: 2 SameId 4¶
+A 0 0 0 1000 -10,-5,10,5¶B 400 0 0 1000 -10,-5,10,5¶||slots u => 5 file fault¶
+A 0 0 0 1000 -10,-5,10,5¶B 400 0 0 1000 -10,-5,10,5¶||check t u => 5 file fault¶"#;
 
-const FAR: &str = "A 1000 0 0 1000 500,-5,512,5\n";
+/// The text with a line feed for each `¶` and a carriage return for each `↵`.
+fn text_of(alloc: Global, written: &str) -> Result<String, Fail> {
+    let lines = written.replace(alloc, "¶", "\n")?;
+    Ok(lines.replace(alloc, "↵", "\r")?)
+}
 
-/// The table `t`, the slots `s`, the words, the status, and what is printed.
-const TABLE_RUNS: [(&str, &str, &str, Status, &str); 34] = [
-    ("", "", "show t 0 0 1024 768 1/1", Status::Done, "{\"labels\":[],\"scale\":\"1/1\"}\n"),
-    ("", "", "show t 0 0 1024 768 38/4", Status::Done, "{\"labels\":[],\"scale\":\"19/2\"}\n"),
-    (TWO, "", "show t 200 0 1024 768 19/1", Status::Done, "{\"labels\":[{\"at\":[0,0],\"boxes\":[[-10,-5,10,5]],\"id\":\"A\",\"text\":\"A\",\"until\":\"1000/1\"},{\"at\":[400,0],\"boxes\":[[-10,-5,10,5]],\"id\":\"B\",\"text\":\"B\",\"until\":\"20/1\"}],\"scale\":\"19/1\"}\n"),
-    (TWO, "", "show t 200 0 1024 768 39/2", Status::Done, "{\"labels\":[{\"at\":[0,0],\"boxes\":[[-10,-5,10,5]],\"id\":\"A\",\"text\":\"A\",\"until\":\"1000/1\"},{\"at\":[400,0],\"boxes\":[[-10,-5,10,5]],\"id\":\"B\",\"text\":\"B\",\"until\":\"20/1\"}],\"scale\":\"39/2\"}\n"),
-    (TWO, "", "show t 200 0 1024 768 20/1", Status::Done, "{\"labels\":[{\"at\":[0,0],\"boxes\":[[-10,-5,10,5]],\"id\":\"A\",\"text\":\"A\",\"until\":\"1000/1\"}],\"scale\":\"20/1\"}\n"),
-    (TWO, "", "show t 10 0 2 2 1", Status::Done, "{\"labels\":[{\"at\":[0,0],\"boxes\":[[-10,-5,10,5]],\"id\":\"A\",\"text\":\"A\",\"until\":\"1000/1\"}],\"scale\":\"1/1\"}\n"),
-    (TWO, "", "show t 11 0 2 2 1", Status::Done, "{\"labels\":[],\"scale\":\"1/1\"}\n"),
-    (FAR, "", "show t 2520 0 2 2 3", Status::Done, "{\"labels\":[{\"at\":[1000,0],\"boxes\":[[500,-5,512,5]],\"id\":\"A\",\"text\":\"A\",\"until\":\"1000/1\"}],\"scale\":\"3/1\"}\n"),
-    ("", "", "slots t", Status::Done, ""),
-    (TWO, "", "slots t", Status::Done, "A 1000/1 -\nB 20/1 A\n"),
-    ("A 0 0 0 1000 -10,-5,10,5\nB 400 0 0 1000 -10,-5,10,5\nC 800 0 0 1000 -10,-5,10,5\n", "", "slots t", Status::Done, "A 1000/1 -\nB 20/1 A\nC 40/1 A\n"),
-    ("B 400 0 0 1000 -10,-5,10,5\nC 800 0 0 1000 -10,-5,10,5\n", "", "slots t", Status::Done, "B 1000/1 -\nC 20/1 B\n"),
-    (TIED, "", "slots t", Status::Done, "A 1000/1 -\nB 40/1 A\nC 20/1 A\n"),
-    ("A 0 0 0 1000 -10,-5,10,5\nB 0 0 0 1000 -10,-5,10,5\n", "", "slots t", Status::Done, "A 1000/1 -\nB 0/1 A\n"),
-    ("A 0 0 0 1000 -10,-5,0,5\nB 0 0 0 1000 0,-5,10,5\n", "", "slots t", Status::Done, "A 1000/1 -\nB 1000/1 -\n"),
-    ("A 0 0 50 1000 -10,-5,10,5\nB 400 0 0 1000 -10,-5,10,5\n", "", "slots t", Status::Done, "A 1000/1 -\nB 50/1 A\n"),
-    ("A -1800000000 0 0 268435456 -10,-5,10,5\nB 1800000000 0 0 268435456 -10,-5,10,5\n", "", "slots t", Status::Done, "A 268435456/1 -\nB 180000000/1 A\n"),
-    ("A 0 0 0 1000 10,-5,30,5\nB 100 0 0 1000 -5,-5,5,5\n", "", "slots t", Status::Done, "A 1000/1 -\nB 20/7 A\n"),
-    (TWO, "A 1000/1 -\nB 20/1 A\n", "check t s", Status::Done, "Best\n"),
-    (TWO, "\r\nA 1000 -\r\nB 40/2 A", "check t s", Status::Done, "Best\n"),
-    (TWO, "A 1000/1 -\nB 30/1 A\n", "check t s", Status::NotBest, "Clash B A 20/1\n"),
-    (TWO, "A 1000/1 -\nB 10/1 A\n", "check t s", Status::NotBest, "Uncovered B\n"),
-    (TWO, "A 1000/1 -\nB 20/1 -\n", "check t s", Status::NotBest, "BadBlocker B\n"),
-    (TWO, "A 1000/1 -\nB 1001/1 -\n", "check t s", Status::NotBest, "BadEnd B\n"),
-    (TWO, "A 1000/1 -\n", "check t s", Status::InputRefused, "slots refused: 1 BadLine 2\n"),
-    (TWO, "B 20/1 A\nA 1000/1 -\n", "check t s", Status::InputRefused, "slots refused: 1 BadLine 1\n"),
-    (TIED, "A 1000/1 -\nB 40/1 A\nC 20/1 A\n", "check t s", Status::Done, "Best\n"),
-    (TIED, "A 1000/1 -\nB 40/1 A\nC 20/1 B\n", "check t s", Status::NotBest, "BadBlocker C\n"),
-    ("A 0 0 0 1000 -10,-5,10,5\nB 400 0 0\n", "", "slots t", Status::InputRefused, "table refused: 1 BadLine 2\n"),
-    ("A 0 0 0 1000 -10,-5,10,5\nB 400 0 0\n", "", "show t 0 0 2 2 1", Status::InputRefused, "table refused: 1 BadLine 2\n"),
-    ("A 0 0 0 1000 -10,-5,10,5\n\r\n\nA 0 0 0 1000 -10,-5,10,5\nx", "", "slots t", Status::InputRefused, "table refused: 2 SameId 4\n"),
-    ("A 0 0 0 1000 -10,-5,10,5\n\r\n\nA 0 0 0 1000 -10,-5,10,5\nx", "", "show t 0 0 2 2 1", Status::InputRefused, "table refused: 2 SameId 4\n"),
-    (TWO, "", "slots u", Status::FileFault, "file fault\n"),
-    (TWO, "", "check t u", Status::FileFault, "file fault\n"),
-];
+/// What a run prints, with `¶` for each line feed, behind its exit code.
+fn told(alloc: Global, status: Status, out: &MemSink) -> Result<String, Fail> {
+    let printed = std::str::from_utf8(out.bytes()).ok().ok_or("a text")?;
+    let printed = printed.replace(alloc, "\n", "¶")?;
+    let code = status.code();
+    Ok(format!(in alloc; "{code} {printed}")?)
+}
+
+/// What the run of a table, of slots and of words prints, behind its exit code.
+fn table_run(alloc: Global, input: &str) -> Result<String, Fail> {
+    let (table, rest) = input.split_once("|").ok_or("a table")?;
+    let (slots, line) = rest.split_once("|").ok_or("slots")?;
+    let (table, slots) = (text_of(alloc, table)?, text_of(alloc, slots)?);
+    let files = [("t", table.as_str()), ("s", slots.as_str())];
+    let (status, out) = run_over(alloc, &files, line)?;
+    told(alloc, status, &out)
+}
 
 #[test]
 fn tables_are_shown_chosen_and_judged(rt: HostRuntime) -> Result<(), Fail> {
-    for (table, slots, line, want, printed) in TABLE_RUNS {
-        let (status, out) = run_over(rt.alloc(), &[("t", table), ("s", slots)], line)?;
-        assert_eq!(rt; status, want, "{line} of {table}");
-        assert_eq!(rt; out.bytes(), printed.as_bytes(), "{line} of {table}");
+    for case in TABLE_RUNS.lines() {
+        let (input, want) = case.split_once(" => ").ok_or("a case")?;
+        assert_eq!(rt; table_run(rt.alloc(), input)?.as_str(), want, "{case}");
     }
     Ok(())
 }
