@@ -145,6 +145,17 @@ fn real_files_are_read_to_their_end(rt: HostRuntime) -> Result<(), Fail> {
     Ok(())
 }
 
+#[test]
+fn a_name_is_taken_with_its_blanks(rt: HostRuntime) -> Result<(), Fail> {
+    let alloc = rt.alloc();
+    fs::write(&rt, " blanks ", b"abc")?;
+    let mut files = RealFiles::new(&rt);
+    assert!(rt; is_loaded(alloc, &mut files, " blanks ", 3, b"abc"));
+    assert!(rt; is_refused(alloc, &mut files, "blanks", 3, FileFault::Failed));
+    fs::remove_file(&rt, " blanks ")?;
+    Ok(())
+}
+
 /// A writer that takes two bytes a call, and fails once it has `room` bytes.
 #[derive(Drop)]
 struct Narrow {
