@@ -6,8 +6,7 @@ use Rattle.ml_ratio.specs.declared.ratio.Ratio.{Ratio}
 use Rattle.ml_cone.specs.Slots.{no_slot}
 use Rattle.ml_cone.specs.declared.label.Label.{Label}
 use Rattle.ml_cone.specs.declared.slot.Slot.{Slot}
-use Rattle.ml_answer.specs.View.{view_text}
-use Rattle.ml_answer.specs.declared.shown.Shown.{Shown}
+use Rattle.ml_answer.specs.View.{Shown, view_text}
 
 -- the label at a place with the end of its slot, if there is one
 abbrev pub shown_at : List Label → List Slot → ℕ → Option Shown

@@ -29,7 +29,7 @@ pub fn line_of(alloc: Global, labels: &[Label], view: &View) -> Result<Seq<u8>, 
         labels,
         slots.as_slice(),
         places.as_slice(),
-        view.scale(),
+        view.scale,
     )
 }
 

@@ -1,6 +1,7 @@
 //! The line of a view.
 ghost use Rattle.std.specs.Prelude.{◌≡◌, ◌<◌, length, All, IfOk};
 ghost use Rattle.std.specs.List.{filter_map};
+ghost use Rattle.ml_answer.specs.View.{no_label, with_labels};
 ghost use Rattle.maplabel.specs.ViewLine.{shown_at, view_line};
 
 use ml_answer::JsonView;
@@ -39,7 +40,7 @@ fn view_of(
 ) -> Result<JsonView, AllocError>
     requires one_each { length slots.now ≡ length labels.now }
     requires placed { All (λ place. place < length labels.now) places.now }
-    ensures { IfOk result (λ view. view ≡ record { scale = scale; labels = filter_map (shown_at labels.now slots.now) places.now }) }
+    ensures { IfOk result (λ view. view ≡ with_labels (no_label scale) (filter_map (shown_at labels.now slots.now) places.now)) }
 {
     let mut view = JsonView::new(alloc, scale)?;
     for place in places {

@@ -1,15 +1,35 @@
-//! Replies of the engine as text: the JSON of a view.
+//! Replies of the engine as text: the JSON of views, slots, reasons and edits, and views as SVG.
 //!
-//! - [`view`]: the JSON text of a view, fed label by label ([`JsonView`]);
-//! - [`shown`]: a label that a view shows ([`Shown`]), and its value;
-//! - [`values`]: the small values that others are made of;
-//! - [`compact`]: a value as compact text.
+//! - [`view`]: the JSON text of a view, fed label by label ([`JsonView`]); `shown`: the text of a label
+//!   in it;
+//! - [`slot`]: the JSON text of a label's slot ([`slot_json`]);
+//! - [`reason`]: the JSON text of why a feature has no label ([`reason_json`]);
+//! - [`edit`]: the JSON texts of an edit ([`edit_json`]) and of a revision ([`rev_json`]);
+//! - [`fault`]: the JSON text of why an edit is refused ([`fault_json`]);
+//! - `values`: the small values that others are made of; `compact`: a value as compact text;
+//! - [`svg`]: the SVG text of a view, fed label by label ([`SvgView`]); `drawn`: the lines of a label,
+//!   `place`: where its boxes lie, `escape`: text as XML has it;
+//! - [`px`]: hundredths of a pixel as text ([`write_px`]).
 #![tactic(auto)]
 
 mod compact;
-pub mod shown;
+mod drawn;
+pub mod edit;
+mod escape;
+pub mod fault;
+mod place;
+pub mod px;
+pub mod reason;
+mod shown;
+pub mod slot;
+pub mod svg;
 mod values;
 pub mod view;
 
-pub use shown::Shown;
+pub use edit::{edit_json, rev_json};
+pub use fault::fault_json;
+pub use px::write_px;
+pub use reason::reason_json;
+pub use slot::slot_json;
+pub use svg::SvgView;
 pub use view::JsonView;

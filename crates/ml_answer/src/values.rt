@@ -1,11 +1,13 @@
 //! The small values that others are made of.
 ghost use Rattle.std.specs.Prelude.{◌≡◌, IfOk, string_bytes};
 ghost use Rattle.std.specs.List.{concat};
+ghost use Rattle.serde_json.specs.Data.{string};
 ghost use Rattle.serde_json.specs.View.{view};
-ghost use Rattle.ml_answer.specs.Values.{boxes_data};
+ghost use Rattle.ml_ratio.specs.Ratio.{ratio_text};
+ghost use Rattle.ml_answer.specs.Values.{box_data, boxes_data};
 
 use ml_cone::BoxPx;
-use ml_ratio::Text;
+use ml_ratio::{Ratio, Text};
 use serde_json::{Value, json};
 use std::alloc::{AllocError, Global};
 
@@ -15,9 +17,16 @@ pub(crate) fn boxes_value(alloc: Global, boxes: &[BoxPx]) -> Result<Value, Alloc
 {
     let mut items = Vec::with_capacity(alloc, boxes.len())?;
     for p in boxes {
-        items.push(json!(in alloc; [p.l, p.b, p.r, p.t])?)?;
+        items.push(box_value(alloc, p)?)?;
     }
     Ok(Value::Array(items))
+}
+
+// The value of a box.
+fn box_value(alloc: Global, p: &BoxPx) -> Result<Value, AllocError>
+    ensures { IfOk result (λ value. view value ≡ box_data p.now) }
+{
+    json!(in alloc; [p.l, p.b, p.r, p.t])
 }
 
 // Pieces of text, one behind the other.
@@ -29,4 +38,12 @@ pub(crate) fn joined(alloc: Global, pieces: &[Text]) -> Result<String, AllocErro
         text.push_str(piece.as_str())?;
     }
     Ok(text)
+}
+
+// The value of a fraction, which is its text.
+pub(crate) fn ratio_value(alloc: Global, ratio: Ratio) -> Result<Value, AllocError>
+    ensures { IfOk result (λ value. view value ≡ string (ratio_text ratio)) }
+{
+    let text = ratio.text(alloc)?;
+    Value::try_from_str(alloc, text.as_str())
 }

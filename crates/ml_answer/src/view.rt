@@ -1,84 +1,100 @@
 //! The JSON text of a view.
-ghost use Rattle.std.specs.Prelude.{◌≡◌, ◌++◌, ◌∷◌, [], map, IfOk, OnOk, OnErr};
-ghost use Rattle.serde_json.specs.Data.{array};
-ghost use Rattle.serde_json.specs.View.{view, items_of};
-ghost use Rattle.ml_answer.specs.View.{shown_data, view_data, view_text};
+ghost use Rattle.std.specs.Prelude.{◌≡◌, ◌++◌, List, IfOk, OnOk, OnErr};
+ghost use Rattle.serde_json.specs.Data.{string};
+ghost use Rattle.serde_json.specs.Written.{compact_text};
+ghost use Rattle.ml_ratio.specs.Ratio.{ratio_text};
+ghost use Rattle.ml_ratio.specs.declared.ratio.Ratio.{Ratio};
+ghost use Rattle.ml_answer.specs.View.{Shown, view_text, no_label, with_label, with_labels, view_end};
 
 use crate::compact::compact;
-use crate::shown::{Shown, shown_value};
+use crate::shown::listed_label;
+use crate::values::ratio_value;
 use ml_cone::Label;
 use ml_ratio::{Ratio, Seq};
-use serde_json::{Value, json};
 use std::alloc::{AllocError, Global};
+use std::marker::Model;
 
 /// The text of a view, fed with the labels that it shows.
 ///
-/// The whole is made at the end, so no part of a text is ever left behind.
+/// The text grows with each label, so the labels themselves are not kept.
 #[derive(Drop)]
 pub struct JsonView {
     scale: Ratio,
-    labels: Seq<Shown>,
+    text: Vec<u8>,
+    // whether a label was added
+    later: bool,
+}
+
+impl Model for JsonView {
+    ghost use Rattle.ml_answer.specs.View.{JsonViewState};
+
+    ghost Value = { JsonViewState };
+
+    ghost view = { λ v. record { scale = v.scale; text = v.text.items; later = v.later } };
 }
 
 impl JsonView {
     /// A view at this scale, in world units a pixel, that shows no label yet.
     ///
     /// # Errors
-    /// Want of memory, which does not come today: nothing is made before the first label.
+    /// Want of memory.
     pub fn new(alloc: Global, scale: Ratio) -> Result<JsonView, AllocError>
-        ensures { IfOk result (λ view. view ≡ record { scale = scale; labels = [] }) }
+        ensures { IfOk result (λ view. view ≡ no_label scale) }
     {
+        let text = Vec::from_slice(alloc, b"{\"labels\":[")?;
         Ok(JsonView {
             scale,
-            labels: Seq::new(alloc),
+            text,
+            later: false,
         })
     }
 
     /// Adds a label behind those that were added before, with the scale from which on it is not shown
-    /// any more. The label is copied.
+    /// any more.
     ///
     /// # Errors
     /// Want of memory, which leaves the view as it was.
     pub fn add(&mut self, label: &Label, until: Ratio) -> Result<(), AllocError>
-        ensures ok { OnOk result
-            (self.new ≡ record self.old { labels = self.old.labels ++ record { label = label.now; until = until } ∷ [] }) }
+        ensures ok { OnOk result (self.new ≡ with_label self.old label.now until) }
         ensures err { OnErr result (self.new ≡ self.old) }
     {
-        let label = label.copy()?;
-        self.labels.push(Shown { label, until })?;
+        let alloc = *self.text.allocator();
+        let listed = listed_label(alloc, self.later, label, until)?;
+        self.text.extend_from_slice(&listed)?;
+        self.later = true;
         Ok(())
     }
 
-    /// The text of the view, with no end of line.
+    /// The text of the view, with no end of line, as
+    /// `{"labels":[{"at":[0,0],"boxes":[[-10,-5,10,5]],"id":"A","text":"A","until":"20/1"}],"scale":"19/1"}`.
     ///
     /// # Errors
     /// Want of memory.
     pub fn finish(self) -> Result<Seq<u8>, AllocError>
-        ensures { IfOk result (λ text. text ≡ view_text self.scale self.labels) }
+        ensures ok { IfOk result (λ text. text ≡ self.text ++ view_end self.scale) }
+        ensures whole { IfOk result (λ text. (scale : Ratio) (labels : List Shown) →
+            self ≡ with_labels (no_label scale) labels → text ≡ view_text scale labels) }
     {
-        let labels = self.labels.into_vec();
-        let alloc = *labels.allocator();
-        let value = view_value(alloc, &self.scale, &labels)?;
-        compact(alloc, &value)
+        let mut text = self.text;
+        push_end(&mut text, self.scale)?;
+        Ok(Seq::of_vec(text))
     }
 }
 
-// The value of a view.
-fn view_value(alloc: Global, scale: &Ratio, labels: &[Shown]) -> Result<Value, AllocError>
-    ensures { IfOk result (λ value. view value ≡ view_data scale.now labels.now) }
+// Adds what stands behind the labels: the end of their list, and the scale.
+fn push_end(text: &mut Vec<u8>, scale: Ratio) -> Result<(), AllocError>
+    ensures { OnOk result (text.new.items ≡ text.old.items ++ view_end scale) }
 {
-    let items = labels_value(alloc, labels)?;
-    let scale = scale.text(alloc)?;
-    json!(in alloc; {"labels": items, "scale": scale.as_str()})
+    let scale = scale_text(*text.allocator(), scale)?;
+    text.extend_from_slice(b"],\"scale\":")?;
+    text.extend_from_slice(scale.as_slice())?;
+    text.extend_from_slice(b"}")
 }
 
-// The value of the labels of a view.
-fn labels_value(alloc: Global, labels: &[Shown]) -> Result<Value, AllocError>
-    ensures { IfOk result (λ value. view value ≡ array (items_of (map shown_data labels.now))) }
+// The text of a scale.
+fn scale_text(alloc: Global, scale: Ratio) -> Result<Seq<u8>, AllocError>
+    ensures { IfOk result (λ text. text ≡ compact_text (string (ratio_text scale))) }
 {
-    let mut items = Vec::with_capacity(alloc, labels.len())?;
-    for shown in labels {
-        items.push(shown_value(alloc, shown)?)?;
-    }
-    Ok(Value::Array(items))
+    let value = ratio_value(alloc, scale)?;
+    compact(alloc, &value)
 }

@@ -8,23 +8,29 @@
 //! - [`slot`]: active ranges and what ends them; [`view`]: a window of the world at a scale;
 //! - [`overlap`], [`window`]: the tests of single labels at a scale, over `edge` and `margin`: where
 //!   edges lie, and boxes widened by a margin ([`widened`]);
+//! - [`cells`], [`reach`]: squares of the world in bands of scales, and those that a label covers
+//!   ([`hull`]);
 //! - [`laws`]: laws over the definitions alone.
 #![tactic(auto)]
 
+pub mod cells;
 mod edge;
 pub mod label;
 pub mod laws;
 mod margin;
 pub mod order;
 pub mod overlap;
+pub mod reach;
 pub mod slot;
 pub mod view;
 pub mod window;
 
+pub use cells::Cells;
 pub use label::{BoxPx, Label};
 pub use margin::widened;
 pub use order::Order;
 pub use overlap::overlaps;
+pub use reach::hull;
 pub use slot::{Slot, Span, active};
 pub use view::View;
 pub use window::meets;

@@ -1,3 +1,4 @@
+pub mod Bands
 pub mod Floors
 pub mod Fractions
 pub mod Gauss

@@ -1,3 +1,4 @@
+pub mod Band
 pub mod Feature
 pub mod Floor
 pub mod Fraction

@@ -54,6 +54,7 @@ impl PartialOrd for Ratio {
 impl Ratio {
     ghost use Rattle.ml_ratio.specs.Ratio.{IsRatioOf, ReadsRatio, ratio_text};
     ghost use Rattle.ml_ratio.specs.Fraction.{IsLess, IsAtMost, value_of};
+    ghost use Rattle.ml_ratio.specs.Band.{IsInBand};
 
     /// The fraction `n/d` in lowest terms.
     ///
@@ -90,6 +91,16 @@ impl Ratio {
         ensures { IsTrue result ↔ ((0 < self.now.num) × (self.now.num < 2 ^ 28 * self.now.den)) }
     {
         self.num > 0 && self.num < 268435456 * self.den
+    }
+
+    /// The band of the value: 0 below 2, and `k` from 2^k up to but not including 2^(k+1). A scale's
+    /// band is at most 27.
+    pub fn band(&self) -> u8
+        ensures band { IsInBand (value_of self.now) result }
+        ensures low { self.now.num < 2 ^ 28 * self.now.den → result < 28 }
+    {
+        let whole = self.num / self.den;
+        if whole < 2 { 0 } else { whole.ilog2() as u8 }
     }
 
     /// Whether the value is less than the other's.

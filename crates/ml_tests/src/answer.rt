@@ -8,7 +8,7 @@ use std::alloc::Global;
 use std::test::Fail;
 
 /// The pieces of a text that has a `/` before each but the first.
-fn pieces_of(alloc: Global, text: &str) -> Result<Seq<Text>, Fail> {
+pub fn pieces_of(alloc: Global, text: &str) -> Result<Seq<Text>, Fail> {
     let parts = parts_of(alloc, text, '/')?;
     let mut pieces = Seq::new(alloc);
     for part in parts.as_slice() {
@@ -18,7 +18,7 @@ fn pieces_of(alloc: Global, text: &str) -> Result<Seq<Text>, Fail> {
 }
 
 /// The label of an id, of places that a text writes as `X Y BOX ..`, and of pieces.
-fn label_of(alloc: Global, id: &str, places: &str, pieces: Seq<Text>) -> Result<Label, Fail> {
+pub fn label_of(alloc: Global, id: &str, places: &str, pieces: Seq<Text>) -> Result<Label, Fail> {
     let fields = parts_of(alloc, places, ' ')?;
     match fields.as_slice() {
         [x, y, boxes @ ..] => {

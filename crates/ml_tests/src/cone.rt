@@ -182,11 +182,8 @@ fn views_have_even_sides_and_a_scale(rt: HostRuntime) -> Result<(), Fail> {
         assert_eq!(rt; view.is_some(), good == "true", "{line}");
     }
     let view = view_of(rt.alloc(), "5 -6 4096 2 38/4")?.ok_or("a view")?;
-    assert_eq!(rt;
-        (view.cx(), view.cy(), view.w(), view.h()),
-        (5, -6, 4096, 2)
-    );
-    assert_eq!(rt; view.scale(), fraction("19/2")?);
+    assert_eq!(rt; (view.cx, view.cy, view.w, view.h), (5, -6, 4096, 2));
+    assert_eq!(rt; view.scale, fraction("19/2")?);
     Ok(())
 }
 

@@ -5,9 +5,9 @@
 //! nothing anew.
 //!
 //! - `cases`: reads the parts of a case;
-//! - `ratio`, `io`, `spans`, `watch`, `cone`, `conflict`, `choice`, `view`, `answer`: the tests of these
-//!   crates, `choice` those of the pass and the judge; `walk`: a slow program that knows the
-//!   definitions alone.
+//! - `ratio`, `io`, `spans`, `grid`, `watch`, `cone`, `conflict`, `choice`, `view`, `answer`: the tests
+//!   of these crates, `choice` those of the pass and the judge, `replies`, `faults` and `svg` those of
+//!   the other replies; `walk`: a slow program that knows the definitions alone.
 #![tactic(auto)]
 
 #[cfg(test)]
@@ -21,11 +21,19 @@ mod cone;
 #[cfg(test)]
 mod conflict;
 #[cfg(test)]
+mod faults;
+#[cfg(test)]
+mod grid;
+#[cfg(test)]
 mod io;
 #[cfg(test)]
 mod ratio;
 #[cfg(test)]
+mod replies;
+#[cfg(test)]
 mod spans;
+#[cfg(test)]
+mod svg;
 #[cfg(test)]
 mod view;
 #[cfg(test)]

@@ -78,9 +78,9 @@ fn a_view_shows_what_is_active_and_meets_its_window(rt: HostRuntime) -> Result<(
     let view = read_view("-7", "2000000000", "4096", "2", "38/4").ok();
     let view = view.ok_or("a view")?;
     assert_eq!(rt;
-        (view.cx(), view.cy(), view.w(), view.h()),
+        (view.cx, view.cy, view.w, view.h),
         (-7, 2000000000, 4096, 2)
     );
-    assert_eq!(rt; view.scale(), fraction("19/2")?);
+    assert_eq!(rt; view.scale, fraction("19/2")?);
     Ok(())
 }

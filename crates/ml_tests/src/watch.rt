@@ -18,7 +18,7 @@ fn span_of(word: &str) -> Result<Option<Span>, Fail> {
 }
 
 /// The change that an id and two words write.
-fn change_of(alloc: Global, id: &str, spans: &str) -> Result<Change, Fail> {
+pub fn change_of(alloc: Global, id: &str, spans: &str) -> Result<Change, Fail> {
     let (before, after) = spans.split_once(" ").ok_or("two spans")?;
     let (before, after) = (span_of(before)?, span_of(after)?);
     let id = Text::of(alloc, id)?;

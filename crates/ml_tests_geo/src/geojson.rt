@@ -1,5 +1,6 @@
 //! Map files: worked files and odd ones, and that calls succeed where memory is ample.
 //! A case is a line, what is given before the arrow and what is wanted behind it.
+use crate::cases::case;
 use ml_geojson::{GeoFault, read_collection, read_feature, write_collection, write_feature};
 use ml_ratio::{Feature, Geometry, Scalar};
 use std::alloc::Global;
@@ -116,11 +117,6 @@ const FEATURES: &str =
 {"type":"Feature","id":"d","geometry":{"type":"Polygon","coordinates":[[[0.0000000,0.0000000],[1.0000000,0.0000000],[1.0000000,1.0000000],[0.0000000,0.0000000]]]},"properties":{"text":"\"\n"}}
 {"type":"Feature","id":"e","geometry":{"type":"MultiPolygon","coordinates":[[[[0.0000000,0.0000000],[1.0000000,0.0000000],[1.0000000,1.0000000],[0.0000000,0.0000000]]]]},"properties":{}}
 {"type":"Feature","id":"","geometry":null,"properties":{"":""}}"##;
-
-/// What is given and what is wanted.
-fn case(line: &str) -> Result<(&str, &str), Fail> {
-    Ok(line.split_once(" => ").ok_or("an arrow")?)
-}
 
 /// The fault of this name at this place.
 fn fault_at(name: &str, place: usize) -> GeoFault {

@@ -1,5 +1,6 @@
 //! JSON texts: worked cases and hostile texts, and that calls succeed where memory is ample.
 //! A case is a line, what is given before the arrow and what is wanted behind it.
+use crate::cases::case;
 use ml_json::{Json, JsonFault, e7, read, whole_part, write, write_e7};
 use ml_ratio::Text;
 use std::alloc::Global;
@@ -126,11 +127,6 @@ const WRITTEN: &str = "85416942 => 8.5416942
 0 => 0.0000000
 2000000000 => 200.0000000
 -1234567890 => -123.4567890";
-
-/// What is given and what is wanted.
-fn case(line: &str) -> Result<(&str, &str), Fail> {
-    Ok(line.split_once(" => ").ok_or("an arrow")?)
-}
 
 /// The fault of this name with its place.
 fn fault(text: &str) -> Result<Option<JsonFault>, Fail> {

@@ -1,58 +1,14 @@
 //! Labels worked out by hand. A label is written as its id, class, rank, anchor, range of scales, and
 //! its pieces, each with the left, bottom, right and top of its box.
+use crate::cases::case;
+use crate::style::SAMPLE;
 use ml_cone::Label;
 use ml_geojson::read_collection;
 use ml_label::{label_of, labels_of};
+use ml_pass::{assign, write_slots};
 use ml_style::{Style, read_style};
 use std::alloc::Global;
 use std::test::Fail;
-
-/// A style of cities, other points, lines and areas.
-const SAMPLE: &str = r#"
-version = 1
-name = "name"
-rank = "pop"
-
-[fonts.sans]
-units = 1000
-default = 500
-advances = { "i" = 250, "\u0301" = 0 }
-
-[[class]]
-geometry = "point"
-key = "place"
-value = "city"
-font = "sans"
-size = 20
-priority = 1
-min = "0"
-max = "1000"
-
-[[class]]
-geometry = "point"
-font = "sans"
-size = 20
-priority = 2
-min = "0"
-max = "1000"
-
-[[class]]
-geometry = "line"
-font = "sans"
-size = 20
-priority = 3
-ref = 1000
-min = "0"
-max = "2000"
-
-[[class]]
-geometry = "area"
-font = "sans"
-size = 20
-priority = 4
-min = "0"
-max = "100000"
-"#;
 
 /// A style of points and lines, each letter one pixel wide and high.
 const PIXELS: &str = r#"
@@ -192,6 +148,19 @@ NoGeometry
     Ok(())
 }
 
+#[test]
+fn the_labels_of_a_map_are_chosen_in_priority_order(rt: HostRuntime) -> Result<(), Fail> {
+    let alloc = rt.alloc();
+    let style = read_style(alloc, SAMPLE.as_bytes())?;
+    let features = read_collection(alloc, MAP.as_bytes())?;
+    let labels = labels_of(alloc, &style, features.as_slice())?;
+    let slots = assign(alloc, labels.as_slice())?;
+    let text = write_slots(alloc, labels.as_slice(), slots.as_slice())?;
+    let want = b"#0 1000/1 -\n#2 2000/1 -\n#1 100000/1 -\n";
+    assert_eq!(rt; text.as_slice(), want.as_slice());
+    Ok(())
+}
+
 /// Shapes and properties, and the labels under the sample style.
 const SHAPES: &str =
     r#"{"type":"MultiPoint","coordinates":[[3,2],[1,1]]} & "name":"ab" => f 2 0 30000000,20000000 0/1..1000/1 ab[-10,-10,10,10]
@@ -229,11 +198,6 @@ point left 1023 => f 7 0 1,-2 0/1..1/1 [-512,0,511,1]
 line still 1024 => f 8 0 200000,100000 0/1..1/1 [-512,0,512,1]
 line still 1025 => TooWide
 line still 5000 => TooWide";
-
-/// What is given and what is wanted.
-fn case(line: &str) -> Result<(&str, &str), Fail> {
-    Ok(line.split_once(" => ").ok_or("an arrow")?)
-}
 
 /// The geometry that a word stands for, or that is written.
 fn geometry(text: &str) -> &str {

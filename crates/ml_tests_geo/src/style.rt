@@ -4,13 +4,14 @@ ghost use Rattle.std.specs.Prelude.{IfOk};
 ghost use Rattle.ml_ratio.specs.Feature.{IsScalar};
 ghost use Rattle.ml_ratio.specs.Geometry.{IsSomeGeometry};
 
+use crate::cases::case;
 use ml_ratio::{Feature, Geometry, Pos, Prop, Scalar, Seq, Text};
 use ml_style::{Class, Kind, Style, StyleFault, class_of, read_style};
 use std::alloc::Global;
 use std::test::Fail;
 
 /// A style of four classes and one font.
-const SAMPLE: &str = r#"version = 1
+pub(crate) const SAMPLE: &str = r#"version = 1
 name = "name"
 rank = "pop"
 
@@ -246,11 +247,6 @@ place null => 1";
 const IN_FLAGGED: &str = "river true => 1
 river false => none
 river yes => 0";
-
-/// What is given and what is wanted.
-fn case(line: &str) -> Result<(&str, &str), Fail> {
-    Ok(line.split_once(" => ").ok_or("an arrow")?)
-}
 
 /// A fault of this name, with what is told of it.
 fn fault_of(alloc: Global, name: &str, about: &str) -> Result<StyleFault, Fail> {

@@ -41,5 +41,5 @@ fn is_shown(label: &Label, slot: &Slot, view: &View) -> bool
         min: label.min(),
         until: slot.until,
     };
-    active(&span, &view.scale()) && meets(label, view)
+    active(&span, &view.scale) && meets(label, view)
 }

@@ -1,7 +1,5 @@
-use Rattle.std.proofs.Common.{◌+◌, ◌++◌, drop, ap, sym, ◌∙◌}
-use Rattle.std.specs.List.{filter_map}
-use Rattle.std.proofs.lemmas.List.{append_assoc}
-use Rattle.maplabel.specs.ViewLine.{shown_at}
+use Rattle.std.proofs.Common.{ap, sym, ◌∙◌}
+use Rattle.ml_answer.specs.View.{with_labels}
 use Rattle.maplabel.proofs.ShownMore.{shown_more}
 use Rattle.maplabel.proofs.view_line.view_of.Goals as goal
 
@@ -12,8 +10,5 @@ loop-place-preserved c =
     let places = c.args.places.now in
     let k = c.loop-place.place-index in
     let left = c.loop-place-test.true in
-    let done = c.loop-place.view.labels in
-    let rest = filter_map (shown_at labels slots) (drop (k + 1) places) in
     let more = shown_more labels slots c.requires.one_each c.index-labels-i.result c.index-slots-i.result places k left (c.requires.placed k 0 left) c.index-labels-i.is in
-    rw (c.in_ok-add.ensures.ok)
-    (c.loop-place.invariant.0, append_assoc done _ rest ∙ ap (λ xs. done ++ xs) (sym more) ∙ c.loop-place.invariant.1)
+    rw (c.in_ok-add.ensures.ok) (ap (with_labels c.loop-place.view) (sym more) ∙ c.loop-place.invariant)

@@ -1,7 +1,9 @@
-use Rattle.std.proofs.Common.{◌∙◌, ap}
-use Rattle.serde_json.specs.Written.{has_float}
-use Rattle.ml_answer.proofs.NoFloats.{view_no_float}
+use Rattle.std.proofs.Common.{rules, ◌≡◌, ◌++◌, ◌∙◌}
+use Rattle.ml_answer.specs.View.{view_end}
+use Rattle.ml_answer.proofs.Views.{view_whole}
 use Rattle.ml_answer.proofs.view.JsonView.finish.Goals as goal
 
-pub compact-requires : goal.compact-requires
-compact-requires c = ap has_float c.in_ok-value.ensures ∙ view_no_float c.args.self.scale c.deref.result.now
+pub returns-clause-whole : goal.returns-clause-whole
+returns-clause-whole c =
+    let written : c.of_vec.result ≡ c.args.self.text ++ view_end c.args.self.scale = search rules in
+    λ scale labels added. written ∙ view_whole c.args.self scale labels added

@@ -1,0 +1,81 @@
+//! The hull of a label: the cells of a band that hold it at every scale of the band.
+ghost use Rattle.std.specs.Prelude.{◌≡◌, ◌≤◌};
+ghost use Rattle.ml_ratio.specs.World.{IsInWorld};
+ghost use Rattle.ml_cone.specs.Plane.{IsReach, IsBox};
+ghost use Rattle.ml_cone.specs.Overlap.{widened};
+ghost use Rattle.ml_cone.specs.Cells.{cell_at};
+ghost use Rattle.ml_cone.specs.Hull.{reach_of, join, hull_of, AreFew};
+
+use crate::cells::{Cells, pixel_of, side_of};
+use crate::label::{BoxPx, Label};
+use crate::margin::widened;
+use std::cmp::{max, min};
+
+// The least box that holds both.
+fn joined(a: &BoxPx, p: &BoxPx) -> BoxPx
+    ensures { result ≡ join a.now p.now }
+{
+    BoxPx {
+        l: min(a.l, p.l),
+        b: min(a.b, p.b),
+        r: max(a.r, p.r),
+        t: max(a.t, p.t),
+    }
+}
+
+// The least box that holds `all` and the label's box `p`, widened by its margin.
+fn holding(label: &Label, all: &BoxPx, p: &BoxPx) -> BoxPx
+    requires { IsBox p.now.l p.now.b p.now.r p.now.t }
+    ensures { result ≡ join all.now (widened label.now p.now) }
+{
+    joined(all, &widened(label, p))
+}
+
+// The least box that holds the anchor and all boxes of the label, widened by its margin.
+fn extent(label: &Label) -> BoxPx
+    ensures { result ≡ reach_of label.now }
+{
+    let mut all = BoxPx {
+        l: 0,
+        b: 0,
+        r: 0,
+        t: 0,
+    };
+    for p in label.boxes.as_slice() {
+        all = holding(label, &all, p);
+    }
+    all
+}
+
+// The column of cells of the band in which the place `u` pixels from `x` lies, a pixel being as large
+// as at the upper end of the band.
+fn column(x: i64, u: i32, band: u8) -> i64
+    requires x_in_world { IsInWorld x }
+    requires u_in_reach { IsReach u }
+    requires low_band { band ≤ 27 }
+    ensures { result ≡ cell_at x u band }
+{
+    let wide = u as i64;
+    let offset = wide * pixel_of(band);
+    let place = x + offset;
+    place.div_euclid(side_of(band))
+}
+
+/// The label's hull in the band, which is at most 27: the cells from that of the lower left corner of
+/// all that the label covers at the upper end of the band, with its boxes widened by its margin and its
+/// anchor counted in, to that of the upper right corner. These are at most 4 by 4 cells.
+pub fn hull(label: &Label, band: u8) -> Cells
+    requires { band ≤ 27 }
+    ensures hull { result ≡ hull_of label.now band }
+    ensures few_columns { AreFew result.x0 result.x1 }
+    ensures few_rows { AreFew result.y0 result.y1 }
+{
+    let all = extent(label);
+    Cells {
+        band,
+        x0: column(label.x, all.l, band),
+        y0: column(label.y, all.b, band),
+        x1: column(label.x, all.r, band),
+        y1: column(label.y, all.t, band),
+    }
+}

@@ -1,0 +1,26 @@
+-- Numbers that went to bits and came back.
+use Rattle.std.proofs.Common.{◌≡◌, ◌∙◌, ap, refl, ℕ, ◌^◌, ◌<◌, arith, w64, ℤ, pos, ◌+ℤ◌, ◌≤ℤ◌, FitsSigned, to_z, of_z}
+use Rattle.std.proofs.lemmas.Int.{ints, to_z-of_z, to_z_pos}
+use Rattle.ml_grid.specs.Count.{span_of}
+
+pub between_fits : (a b x : ℤ) → FitsSigned w64 a → FitsSigned w64 b → a ≤ℤ x → x ≤ℤ b → FitsSigned w64 x
+between_fits a b x f g h i = omega (arith, ints)
+
+-- a sum from its bits
+pub sum_back : (a : ℤ) (n m : ℕ) → FitsSigned w64 a → n < 2 ^ 63 → FitsSigned w64 (a +ℤ pos n) → n ≡ m → to_z w64 (of_z w64 (to_z w64 (of_z w64 a) +ℤ to_z w64 n)) ≡ (a +ℤ pos m)
+sum_back a n m f low g e =
+    let p : to_z w64 n ≡ pos n = to_z_pos w64 n low in
+    let q : (to_z w64 (of_z w64 a) +ℤ to_z w64 n) ≡ (a +ℤ pos n) = rw (to_z-of_z w64 a f, p) refl in
+    ap (λ (z : ℤ). to_z w64 (of_z w64 z)) q ∙ to_z-of_z w64 (a +ℤ pos n) g ∙ ap (λ (k : ℕ). a +ℤ pos k) e
+
+pub sum_fits : (a : ℤ) (n m : ℕ) → FitsSigned w64 a → n < 2 ^ 63 → FitsSigned w64 (a +ℤ pos m) → n ≡ m → FitsSigned w64 (to_z w64 (of_z w64 a) +ℤ to_z w64 n)
+sum_fits a n m f low g e =
+    let p : to_z w64 n ≡ pos n = to_z_pos w64 n low in
+    rw (to_z-of_z w64 a f, p, e) g
+
+pub few_span : (a b : ℤ) → a ≤ℤ b → b ≤ℤ (a +ℤ pos 8) → span_of a b < 10
+few_span a b h i = omega (arith, ints)
+
+-- the number of rows, as it was computed
+pub rows_back : (a b : ℤ) (r : ℕ) → FitsSigned w64 a → FitsSigned w64 b → r ≡ span_of (to_z w64 (of_z w64 a)) (to_z w64 (of_z w64 b)) → r ≡ span_of a b
+rows_back a b r f g e = e ∙ (rw (to_z-of_z w64 a f, to_z-of_z w64 b g) refl)

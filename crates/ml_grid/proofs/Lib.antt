@@ -1,0 +1,12 @@
+pub mod Answered
+pub mod Casts
+pub mod Columns
+pub mod Counts
+pub mod Finds
+pub mod Near
+pub mod Partial
+pub mod Places
+pub mod Seen
+pub mod Sets
+pub mod Sums
+pub mod Windows

@@ -1,0 +1,32 @@
+//! A cell of a band, as a key.
+ghost use Rattle.std.specs.Prelude.{◌≡◌};
+
+use ml_spans::Key;
+use std::cmp::Ordering;
+
+/// The cell `(x, y)` of a band; cells are ordered by band, then x, then y.
+///
+/// So the cells of one column of a band between two heights stand together.
+#[derive(Clone, Copy, Debug, PartialEq, Eq)]
+pub struct Cell {
+    pub band: u8,
+    pub x: i64,
+    pub y: i64,
+}
+
+impl Key for Cell {
+    ghost use Rattle.ml_grid.specs.Cell.{cell_cmp, cell_total, cell_exact};
+
+    ghost order = { cell_cmp };
+
+    ghost total = { cell_total };
+
+    ghost exact = { cell_exact };
+
+    fn compare(&self, other: &Cell) -> Ordering {
+        self.band
+            .cmp(&other.band)
+            .then(self.x.cmp(&other.x))
+            .then(self.y.cmp(&other.y))
+    }
+}

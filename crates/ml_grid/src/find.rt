@@ -1,0 +1,141 @@
+//! The numbers that are found in cells.
+ghost use Rattle.std.specs.Prelude.{ℕ, ◌≡◌, ◌+◌, ◌<◌, ◌++◌, ◌≤ℤ◌, ◌↔◌, OnOk, OnErr, Contains, take, length};
+ghost use Rattle.std.specs.List.Sorted.{IsStrictlyIncreasing};
+ghost use Rattle.ml_ratio.specs.Fraction.{value_of, IsAtMost};
+ghost use Rattle.ml_grid.specs.Count.{AreUpToNine};
+ghost use Rattle.ml_grid.specs.Found.{Finds, IsAmong};
+ghost use Rattle.ml_grid.specs.Column.{IsInColumn, IsInColumnFrom, IsAmongFrom};
+
+use crate::bands::span_len;
+use crate::cell::Cell;
+use crate::keep::Tree;
+use ml_cone::Cells;
+use ml_ratio::{Ratio, Seq, Steps};
+use ml_spans::laws::{found_value, value_found};
+use std::alloc::AllocError;
+use std::sync::ledger::Ledger;
+
+// Finds the numbers in the cells of the column.
+fn find_column(tree: &Tree, x: i64, cells: &Cells, found: &mut Seq<u32>) -> Result<(), AllocError>
+    ensures ok { OnOk result (Finds (IsInColumn cells.now x) tree.now.entries found.old found.new) }
+{
+    let from = Cell {
+        band: cells.band,
+        x,
+        y: cells.y0,
+    };
+    let to = Cell {
+        band: cells.band,
+        x,
+        y: cells.y1,
+    };
+    value_found::<Cell, Ratio, u32>();
+    found_value::<Cell, Ratio, u32>();
+    tree.range(&from, &to, found)
+}
+
+// Finds the numbers of the entries in the cells of the column that end at the scale at the earliest.
+fn find_column_from(
+    tree: &Tree,
+    x: i64,
+    cells: &Cells,
+    scale: &Ratio,
+    found: &mut Seq<u32>,
+) -> Result<(), AllocError>
+    ensures ok { OnOk result (Finds (IsInColumnFrom cells.now x scale.now) tree.now.entries found.old found.new) }
+{
+    let from = Cell {
+        band: cells.band,
+        x,
+        y: cells.y0,
+    };
+    let to = Cell {
+        band: cells.band,
+        x,
+        y: cells.y1,
+    };
+    value_found::<Cell, Ratio, u32>();
+    found_value::<Cell, Ratio, u32>();
+    tree.stab(&from, &to, scale, found)
+}
+
+/// Finds the numbers in the cells.
+pub fn find_cells(tree: &Tree, cells: &Cells, found: &mut Seq<u32>) -> Result<(), AllocError>
+    requires few { AreUpToNine cells.now.x0 cells.now.x1 }
+    ensures ok { OnOk result (Finds (IsAmong cells.now) tree.now.entries found.old found.new) }
+{
+    for i in 0..span_len(cells.x0, cells.x1) {
+        find_column(tree, cells.x0 + i as i64, cells, found)?;
+    }
+    Ok(())
+}
+
+/// Finds the numbers of the entries in the cells that end at the scale at the earliest.
+pub fn find_cells_from(
+    tree: &Tree,
+    cells: &Cells,
+    scale: &Ratio,
+    found: &mut Seq<u32>,
+) -> Result<(), AllocError>
+    requires few { AreUpToNine cells.now.x0 cells.now.x1 }
+    ensures ok { OnOk result (Finds (IsAmongFrom cells.now scale.now) tree.now.entries found.old found.new) }
+{
+    for i in 0..span_len(cells.x0, cells.x1) {
+        find_column_from(tree, cells.x0 + i as i64, cells, scale, found)?;
+    }
+    Ok(())
+}
+
+/// The same numbers, ascending and each once.
+pub fn ascending(found: Seq<u32>) -> Vec<u32>
+    ensures ascending { IsStrictlyIncreasing result.items }
+    ensures same { (n : ℕ) → Contains result.items n ↔ Contains found n }
+{
+    let mut numbers = found.into_vec();
+    numbers.sort_unstable();
+    numbers.dedup();
+    numbers
+}
+
+/// Appends the numbers.
+///
+/// # Errors
+/// Want of memory; a prefix of them was appended.
+pub fn append(numbers: &[u32], out: &mut Seq<u32>) -> Result<(), AllocError>
+    ensures ok { OnOk result (out.new ≡ out.old ++ numbers.now) }
+    ensures err { OnErr result ((k : ℕ) × (out.new ≡ out.old ++ take k numbers.now)) }
+{
+    for n in numbers {
+        match out.push(*n) {
+            Ok(()) => {}
+            Err(_) => {
+                return Err(AllocError);
+            }
+        }
+    }
+    Ok(())
+}
+
+/// Appends the numbers, a step for each.
+///
+/// # Errors
+/// Want of memory; a prefix of them was appended.
+pub fn append_counted<L: Ledger>(
+    numbers: &[u32],
+    out: &mut Seq<u32>,
+    steps: &mut Steps<L>,
+) -> Result<(), AllocError>
+    ensures ok { OnOk result (out.new ≡ out.old ++ numbers.now) }
+    ensures err { OnErr result ((k : ℕ) × (out.new ≡ out.old ++ take k numbers.now)) }
+    ensures spent { steps.new + length out.old ≡ steps.old + length out.new }
+{
+    for n in numbers {
+        match out.push(*n) {
+            Ok(()) => steps.tick(),
+            Err(_) => {
+                return Err(AllocError);
+            }
+        }
+    }
+    Ok(())
+}

@@ -1,0 +1,143 @@
+//! The grid.
+ghost use Rattle.std.specs.Prelude.{◌≡◌, ◌+◌, ◌≤◌, [], max, length, OnOk, OnErr};
+ghost use Rattle.std.specs.Ordering.{nat_cmp};
+ghost use Rattle.ml_ratio.specs.RatioOrder.{ratio_cmp};
+ghost use Rattle.ml_spans.specs.Order.{entry_order, IsRising};
+ghost use Rattle.ml_grid.specs.Cell.{cell_cmp};
+ghost use Rattle.ml_grid.specs.Count.{entry_count};
+ghost use Rattle.ml_grid.specs.Entry.{IsEntryOf, Adds, Drops, IsFree, AreEntriesOf};
+ghost use Rattle.ml_grid.specs.Found.{Appends, AppendsFirst, IsInHull, IsSeen};
+
+use crate::bands::entries_of;
+use crate::find::{append, append_counted, ascending, find_cells, find_cells_from};
+use crate::keep::{Tree, add_all, drop_all};
+use crate::window::window_cells;
+use ml_cone::{Label, Span, View, hull};
+use ml_ratio::{Seq, Steps};
+use ml_spans::SpanTree;
+use std::alloc::{AllocError, Global};
+use std::marker::Model;
+use std::sync::ledger::Ledger;
+
+/// Entries of labels in cells.
+///
+/// A label with a number and a span is kept in each band from 0 to 27 that meets the closed range from
+/// its minimum to its maximum, and there in each cell of its hull. Each entry has the span's end and the
+/// label's number. The label's maximum counts and not the span's end, so that a label that ends early is
+/// still found as a rival.
+///
+/// Contracts see the entries, each once, and how many may come in before memory is taken again.
+#[derive(Drop)]
+pub struct Grid {
+    tree: Tree,
+}
+
+impl Model for Grid {
+    ghost use Rattle.ml_grid.specs.Entry.{Kept};
+
+    ghost Value = { Kept };
+
+    ghost view = { λ g. record { entries = g.tree.entries; spare = g.tree.spare } };
+}
+
+impl Grid {
+    /// No entries, and no room. It takes no memory; the allocator serves `reserve`.
+    pub fn new(alloc: Global) -> Grid
+        ensures { result ≡ record { entries = []; spare = 0 } }
+    {
+        Grid {
+            tree: SpanTree::new(alloc),
+        }
+    }
+
+    /// How many entries there are. They are in order of cell, then number, then end, each once.
+    pub fn len(&self) -> usize
+        ensures count { result ≡ length self.now.entries }
+        ensures rising { IsRising (entry_order cell_cmp ratio_cmp nat_cmp) self.now.entries }
+    {
+        self.tree.len()
+    }
+
+    /// How many entries may come in without memory.
+    pub fn spare(&self) -> usize
+        ensures { result ≡ self.now.spare }
+    {
+        self.tree.spare()
+    }
+
+    /// How many entries the label with this span has.
+    pub fn entries(label: &Label, _span: &Span) -> usize
+        ensures { result ≡ entry_count label.now }
+    {
+        entries_of(label)
+    }
+
+    /// Makes sure that at least `n` entries may come in. It makes no more room than is missing.
+    ///
+    /// # Errors
+    /// Want of memory, which leaves the entries; the room may have grown.
+    pub fn reserve(&mut self, n: usize) -> Result<(), AllocError>
+        ensures ok { OnOk result (n ≤ self.new.spare) }
+        ensures same { self.new.entries ≡ self.old.entries }
+        ensures grows { self.old.spare ≤ self.new.spare }
+        ensures room { self.new.spare ≤ max self.old.spare n }
+    {
+        self.tree.reserve(n)
+    }
+
+    /// Puts in the entries of a label whose number has none. It takes no memory and cannot fail.
+    pub fn add(&mut self, number: u32, label: &Label, span: &Span)
+        requires free { IsFree number self.old.entries }
+        requires room { entry_count label.now ≤ self.old.spare }
+        ensures entries { Adds (IsEntryOf number label.now span.now.until) self.old.entries self.new.entries }
+        ensures spare { self.new.spare + entry_count label.now ≡ self.old.spare }
+    {
+        add_all(&mut self.tree, number, span.until, label);
+    }
+
+    /// Takes out the entries of a label with this span, which are those with its number; they may come
+    /// in again. It takes no memory and cannot fail.
+    pub fn drop_label(&mut self, number: u32, label: &Label, span: &Span)
+        requires its { AreEntriesOf number label.now span.now.until self.old.entries }
+        ensures entries { Drops (IsEntryOf number label.now span.now.until) self.old.entries self.new.entries }
+        ensures spare { self.new.spare ≡ self.old.spare + entry_count label.now }
+    {
+        drop_all(&mut self.tree, number, span.until, label);
+    }
+
+    /// Appends the numbers that have an entry in the band in a cell of the label's hull there, ascending
+    /// and each once. The band is at most 27. The label itself need not be in the grid.
+    ///
+    /// # Errors
+    /// Want of memory; the first of them were appended.
+    pub fn near(&self, label: &Label, band: u8, out: &mut Seq<u32>) -> Result<(), AllocError>
+        requires { band ≤ 27 }
+        ensures ok { OnOk result (Appends (IsInHull label.now band) self.now.entries out.old out.new) }
+        ensures err { OnErr result (AppendsFirst (IsInHull label.now band) self.now.entries out.old out.new) }
+    {
+        let mut found = out.emptied();
+        find_cells(&self.tree, &hull(label, band), &mut found)?;
+        append(&ascending(found), out)
+    }
+
+    /// Appends the numbers that have an entry in the band of the view's scale, in a cell whose square meets
+    /// the window (lower sides counted in, upper sides left out), with an end of at least that scale;
+    /// ascending and each once. It spends a step for each number appended.
+    ///
+    /// # Errors
+    /// Want of memory; the first of them were appended.
+    pub fn in_window<L: Ledger>(
+        &self,
+        view: &View,
+        out: &mut Seq<u32>,
+        looks: &mut Steps<L>,
+    ) -> Result<(), AllocError>
+        ensures ok { OnOk result (Appends (IsSeen view.now) self.now.entries out.old out.new) }
+        ensures err { OnErr result (AppendsFirst (IsSeen view.now) self.now.entries out.old out.new) }
+        ensures spent { looks.new + length out.old ≡ looks.old + length out.new }
+    {
+        let mut found = out.emptied();
+        find_cells_from(&self.tree, &window_cells(view), &view.scale, &mut found)?;
+        append_counted(&ascending(found), out, looks)
+    }
+}

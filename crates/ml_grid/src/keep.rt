@@ -1,0 +1,117 @@
+//! A label's entries, put in and taken out.
+ghost use Rattle.std.specs.Prelude.{ℕ, ◌≡◌, ◌+◌, ◌<◌, ◌≤◌, ◌≤ℤ◌, Contains};
+ghost use Rattle.ml_grid.specs.Count.{AreUpToNine, cell_count, cell_in, band_count, entry_count};
+ghost use Rattle.ml_grid.specs.Entry.{Entry, IsEntryOf, Adds, Drops, IsFree, AreEntriesOf};
+ghost use Rattle.ml_grid.specs.Placed.{IsPlaced, IsEntryAt};
+ghost use Rattle.ml_spans.specs.Spans.{entry_of};
+
+use crate::bands::{BANDS, cell_at, cells_of, is_kept};
+use crate::cell::Cell;
+use ml_cone::laws::hulls_are_few;
+use ml_cone::{Cells, Label, hull};
+use ml_ratio::Ratio;
+use ml_spans::SpanTree;
+use ml_spans::laws::{added_has, added_only};
+
+/// The index below the grid: cells as keys, ends, and the numbers of labels.
+pub type Tree = SpanTree<Cell, Ratio, u32>;
+
+// Puts in an entry that is not there.
+fn put_in(tree: &mut Tree, number: u32, until: Ratio, cell: Cell)
+    requires room { 0 < tree.old.spare }
+    requires new { ¬ (Contains tree.old.entries (entry_of cell until number)) }
+    ensures entries { Adds (λ e. e ≡ entry_of cell until number) tree.old.entries tree.new.entries }
+    ensures spare { tree.new.spare + 1 ≡ tree.old.spare }
+{
+    added_has::<Cell, Ratio, u32>();
+    added_only::<Cell, Ratio, u32>();
+    tree.insert(cell, until, number);
+}
+
+// Puts in an entry for each of the cells.
+fn add_cells(tree: &mut Tree, number: u32, until: Ratio, cells: &Cells)
+    requires few_columns { AreUpToNine cells.now.x0 cells.now.x1 }
+    requires few_rows { AreUpToNine cells.now.y0 cells.now.y1 }
+    requires room { cell_count cells.now ≤ tree.old.spare }
+    requires new { (i : ℕ) → i < cell_count cells.now → ¬ (Contains tree.old.entries (entry_of (cell_in cells.now i) until number)) }
+    ensures entries { Adds (IsPlaced number until cells.now (cell_count cells.now)) tree.old.entries tree.new.entries }
+    ensures spare { tree.new.spare + cell_count cells.now ≡ tree.old.spare }
+{
+    for i in 0..cells_of(cells) {
+        put_in(tree, number, until, cell_at(cells, i));
+    }
+}
+
+// Takes out an entry that is there.
+fn take_out(tree: &mut Tree, number: u32, until: Ratio, cell: Cell)
+    requires there { Contains tree.old.entries (entry_of cell until number) }
+    ensures entries { Drops (λ e. e ≡ entry_of cell until number) tree.old.entries tree.new.entries }
+    ensures spare { tree.new.spare ≡ tree.old.spare + 1 }
+{
+    added_has::<Cell, Ratio, u32>();
+    added_only::<Cell, Ratio, u32>();
+    let _there = tree.remove(&cell, &until, &number);
+}
+
+// Takes out the entry for each of the cells.
+fn drop_cells(tree: &mut Tree, number: u32, until: Ratio, cells: &Cells)
+    requires few_columns { AreUpToNine cells.now.x0 cells.now.x1 }
+    requires few_rows { AreUpToNine cells.now.y0 cells.now.y1 }
+    requires there { (i : ℕ) → i < cell_count cells.now → Contains tree.old.entries (entry_of (cell_in cells.now i) until number) }
+    ensures entries { Drops (IsPlaced number until cells.now (cell_count cells.now)) tree.old.entries tree.new.entries }
+    ensures spare { tree.new.spare ≡ tree.old.spare + cell_count cells.now }
+{
+    for i in 0..cells_of(cells) {
+        take_out(tree, number, until, cell_at(cells, i));
+    }
+}
+
+// Puts in the label's entries of the band.
+fn add_band(tree: &mut Tree, number: u32, until: Ratio, label: &Label, band: u8)
+    requires low { band < 28 }
+    requires room { band_count label.now band ≤ tree.old.spare }
+    requires new { (e : Entry) → IsEntryAt number label.now until band e → ¬ (Contains tree.old.entries e) }
+    ensures entries { Adds (IsEntryAt number label.now until band) tree.old.entries tree.new.entries }
+    ensures spare { tree.new.spare + band_count label.now band ≡ tree.old.spare }
+{
+    if is_kept(label, band) {
+        hulls_are_few();
+        add_cells(tree, number, until, &hull(label, band));
+    }
+}
+
+// Takes out the label's entries of the band.
+fn drop_band(tree: &mut Tree, number: u32, until: Ratio, label: &Label, band: u8)
+    requires low { band < 28 }
+    requires there { (e : Entry) → IsEntryAt number label.now until band e → Contains tree.old.entries e }
+    ensures entries { Drops (IsEntryAt number label.now until band) tree.old.entries tree.new.entries }
+    ensures spare { tree.new.spare ≡ tree.old.spare + band_count label.now band }
+{
+    if is_kept(label, band) {
+        hulls_are_few();
+        drop_cells(tree, number, until, &hull(label, band));
+    }
+}
+
+/// Puts in the entries of a label whose number has none.
+pub fn add_all(tree: &mut Tree, number: u32, until: Ratio, label: &Label)
+    requires free { IsFree number tree.old.entries }
+    requires room { entry_count label.now ≤ tree.old.spare }
+    ensures entries { Adds (IsEntryOf number label.now until) tree.old.entries tree.new.entries }
+    ensures spare { tree.new.spare + entry_count label.now ≡ tree.old.spare }
+{
+    for band in 0..BANDS {
+        add_band(tree, number, until, label, band);
+    }
+}
+
+/// Takes out the entries of a label, which are those with its number.
+pub fn drop_all(tree: &mut Tree, number: u32, until: Ratio, label: &Label)
+    requires its { AreEntriesOf number label.now until tree.old.entries }
+    ensures entries { Drops (IsEntryOf number label.now until) tree.old.entries tree.new.entries }
+    ensures spare { tree.new.spare ≡ tree.old.spare + entry_count label.now }
+{
+    for band in 0..BANDS {
+        drop_band(tree, number, until, label, band);
+    }
+}
