@@ -3,7 +3,7 @@ use crate::cases::{case, fraction};
 use ml_cone::Span;
 use ml_io::{Failed, MemSink};
 use ml_ratio::{Duplicate, Seq, Text};
-use ml_watch::{Change, Crowd, LineWatcher, MemWatcher, Watcher};
+use ml_watch::{Change, Crowd, LineWatcher, MemWatcher, Watcher, id_text};
 use std::alloc::Global;
 use std::test::Fail;
 
@@ -63,6 +63,16 @@ fn changes_are_written_as_lines(rt: HostRuntime) -> Result<(), Fail> {
             "{want}"
         );
         assert_eq!(rt; watcher.sink().bytes(), want.as_bytes(), "{want}");
+    }
+    Ok(())
+}
+
+#[test]
+fn ids_are_written_as_in_lines(rt: HostRuntime) -> Result<(), Fail> {
+    for (id, _spans, line) in LINES {
+        let text = id_text(rt.alloc(), &Text::of(rt.alloc(), id)?)?;
+        let (want, _spans) = line.split_once(" ").ok_or("an id")?;
+        assert_eq!(rt; text.as_slice(), want.as_bytes(), "{want}");
     }
     Ok(())
 }

@@ -1,6 +1,7 @@
 //! Watchers, who are told what each edit of a map changes in the active ranges of its labels.
 //!
-//! - [`change`]: what an edit changes of one label; `line`: the line that says it;
+//! - [`change`]: what an edit changes of one label; `line`: the line that says it; [`id`]: an id as it
+//!   stands in a line;
 //! - [`watcher`]: one who is told changes ([`Watcher`]); [`crowd`]: watchers, each in its place
 //!   ([`Crowd`]);
 //! - [`mem_watcher`], [`line_watcher`]: a watcher in memory, and one that writes lines into a sink;
@@ -9,6 +10,7 @@
 
 pub mod change;
 pub mod crowd;
+pub mod id;
 pub mod laws;
 mod line;
 pub mod line_watcher;
@@ -17,6 +19,7 @@ pub mod watcher;
 
 pub use change::Change;
 pub use crowd::Crowd;
+pub use id::id_text;
 pub use line_watcher::LineWatcher;
 pub use mem_watcher::MemWatcher;
 pub use watcher::Watcher;

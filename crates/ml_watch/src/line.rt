@@ -1,9 +1,10 @@
 //! The line of a change, written into a sink without taking memory.
-ghost use Rattle.std.specs.Prelude.{◌≡◌, ◌<◌, ◌++◌, ℕ, flat_map, codes};
-ghost use Rattle.ml_watch.specs.Line.{is_plain, hex_digit, byte_text, id_text, spaced_span, change_line};
+ghost use Rattle.std.specs.Prelude.{◌≡◌, ◌++◌, ℕ, flat_map, codes};
+ghost use Rattle.ml_watch.specs.Line.{byte_text, id_text, spaced_span, change_line};
 ghost use Rattle.ml_watch.specs.Puts.{Puts};
 
 use crate::change::Change;
+use crate::id::{hex_digit, is_plain};
 use itoa::Buffer;
 use ml_cone::Span;
 use ml_io::{Failed, Sink, put_all};
@@ -110,24 +111,6 @@ fn put_byte<K: Sink>(sink: &mut K, byte: u8) -> Result<(), Failed>
     } else {
         put_piece(sink, &[b'%', hex_digit(byte / 16), hex_digit(byte % 16)])
     }
-}
-
-// Whether a byte of an id stands as it is.
-fn is_plain(byte: u8) -> bool
-    ensures { result ≡ is_plain byte }
-{
-    let letter_or_digit = byte.is_ascii_uppercase()
-        || byte.is_ascii_lowercase()
-        || byte.is_ascii_digit();
-    letter_or_digit || byte == b'-' || byte == b'.' || byte == b'_' || byte == b'~' || byte == b'#'
-}
-
-// The upper-case hexadecimal digit of a number below 16.
-fn hex_digit(n: u8) -> u8
-    requires { n < 16 }
-    ensures { result ≡ hex_digit n }
-{
-    if n < 10 { b'0' + n } else { b'A' + (n - 10) }
 }
 
 // Writes a text.
