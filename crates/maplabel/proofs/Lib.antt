@@ -4,4 +4,6 @@ pub mod Chosen
 pub mod EndsWell
 pub mod MapViewing
 pub mod ShownMore
-pub mod WordLemmas
+pub mod FormLemmas
+pub mod ZoomLemmas
+pub mod GapLemmas

@@ -1,4 +1,4 @@
--- From the readers of styles and maps to a view of a map.
+-- From the readers of styles and maps to what is asked of a map.
 use Rattle.std.proofs.Common.{◌≡◌, ℕ, ◌<◌, ◌≤◌, List, length, Result, Ok, Err, IfErr, inr, sym, arith}
 use Rattle.std.specs.Result.{IsErrAnd}
 use Rattle.ml_io.specs.Causes.{Rose}
@@ -10,7 +10,7 @@ use Rattle.ml_style.specs.declared.style.Style.{Style}
 use Rattle.ml_geojson.specs.Map.{IsMap}
 use Rattle.maplabel.specs.Inputs.{most_bytes, IsInputRefusal}
 use Rattle.maplabel.specs.MapInputs.{most_features, IsStyleRefusal, IsStyleStop, HasStyle, IsMapStop, IsFullLine}
-use Rattle.maplabel.specs.Outcome.{IsMapViewStop}
+use Rattle.maplabel.specs.Outcome.{IsMapAnswerStop}
 use Rattle.maplabel.specs.declared.stop.Stop.{Stop}
 use Rattle.maplabel.specs.declared.stop.Stop.TheVariants as stop
 
@@ -52,6 +52,6 @@ map_earlier one two name stop.TooLong same later h = rw same at h
 map_earlier one two name stop.Memory same later h = tt
 
 -- a map that was not read after its style was
-pub map_stopped : {A : Type 0} (one two : Seen) (style map : List ℕ) (classes : Style) (answer : Result A Stop) (s : Stop) → two.told ≡ one.told → one.faults_before ≤ two.faults_before → HasStyle one.told style classes → IsErrAnd answer (λ e. e ≡ s) → IsMapStop two map s → IfErr answer (IsMapViewStop (since one two) style map)
+pub map_stopped : {A : Type 0} (one two : Seen) (style map : List ℕ) (classes : Style) (answer : Result A Stop) (s : Stop) → two.told ≡ one.told → one.faults_before ≤ two.faults_before → HasStyle one.told style classes → IsErrAnd answer (λ e. e ≡ s) → IsMapStop two map s → IfErr answer (IsMapAnswerStop (since one two) style map)
 map_stopped one two style map classes (Ok a) s same later has is h = tt
 map_stopped one two style map classes (Err e) s same later has is h = inr (classes, has, map_earlier one two map e same later (rw (sym is) at h))

@@ -19,11 +19,12 @@ use Rattle.maplabel.specs.declared.status.Status.TheVariants.{Done, NotBest}
 use Rattle.maplabel.specs.Inputs.{HasTable, HasSlots}
 use Rattle.maplabel.specs.MapInputs.{HasStyle, HasMap}
 use Rattle.maplabel.specs.ViewLine.{view_line}
-
--- the named table has these labels, and the slots are their longest choice with its blockers
-pub record HasChoice (told : Option FileSet) (table : List ℕ) (labels : List Label) (slots : List Slot) : Type 0 where
-  pub has : HasTable told table labels
-  pub best : AreSlots (λ j. j) labels slots
+use Rattle.maplabel.specs.GapLines.{IsGapsOf, IsGapViewOf}
+use Rattle.maplabel.specs.Zoom.{IsZoomOf}
+use Rattle.maplabel.specs.declared.command.TableTask.{TableTask}
+use Rattle.maplabel.specs.declared.command.TableTask.TheVariants.{Show, Slots, Gaps, GapView}
+use Rattle.maplabel.specs.declared.command.MapTask.{MapTask}
+use Rattle.maplabel.specs.declared.command.MapTask.TheVariants.{ShowMap, Zoom}
 
 -- the text is the line of a view of labels: exactly those that are active at the scale, each until its end in the longest choice, and of which a box meets the window
 pub record IsViewOf (labels : List Label) (view : View) (text : List ℕ) : Type 0 where
@@ -33,26 +34,37 @@ pub record IsViewOf (labels : List Label) (view : View) (text : List ℕ) : Type
   pub shown : AreShown labels (ends slots) view places
   pub line : text ≡ view_line labels slots places view.scale
 
--- the text is the line of a view of the named table's labels
-abbrev pub IsShowText : Option FileSet → List ℕ → View → List ℕ → Type 0
-IsShowText told table view text = (labels : List Label) × HasTable told table labels × IsViewOf labels view text
+-- the text lists the ends and blockers of labels in their longest choice
+pub record IsSlotsOf (labels : List Label) (text : List ℕ) : Type 0 where
+  pub slots : List Slot
+  pub best : AreSlots (λ j. j) labels slots
+  pub lines : text ≡ slots_text labels slots
 
--- the text is the line of a view of the labels of the named map's features under the named style
-pub record IsMapViewText (told : Option FileSet) (style map : List ℕ) (view : View) (text : List ℕ) : Type 0 where
+-- the text is what is asked of a table, of which these are the labels
+abbrev pub IsTableText : List Label → TableTask → List ℕ → Type 0
+IsTableText labels (Show view) text = IsViewOf labels view text
+IsTableText labels Slots text = IsSlotsOf labels text
+IsTableText labels Gaps text = IsGapsOf labels text
+IsTableText labels (GapView view) text = IsGapViewOf labels view text
+
+-- the text is what is asked of a map, of which these are the labels
+abbrev pub IsMapText : List Label → MapTask → List ℕ → Type 0
+IsMapText labels (ShowMap view) text = IsViewOf labels view text
+IsMapText labels (Zoom window) text = IsZoomOf labels window text
+
+-- the text is what is asked of the named table
+abbrev pub IsTableAnswer : Option FileSet → List ℕ → TableTask → List ℕ → Type 0
+IsTableAnswer told table task text = (labels : List Label) × HasTable told table labels × IsTableText labels task text
+
+-- the text is what is asked of the labels of the named map's features under the named style
+pub record IsMapAnswer (told : Option FileSet) (style map : List ℕ) (task : MapTask) (text : List ℕ) : Type 0 where
   pub classes : Style
   pub features : List Feature
   pub labels : List Label
   pub has_style : HasStyle told style classes
   pub has_map : HasMap told map features
   pub labels_are : AreLabelsOf classes features labels
-  pub viewed : IsViewOf labels view text
-
--- the text is that of the longest choice of the named table
-pub record IsSlotsText (told : Option FileSet) (table text : List ℕ) : Type 0 where
-  pub labels : List Label
-  pub slots : List Slot
-  pub chosen : HasChoice told table labels slots
-  pub lines : text ≡ slots_text labels slots
+  pub answered : IsMapText labels task text
 
 -- the text is the line of the verdict on the slots that a file gives to the labels of a table
 pub record IsJudged (told : Option FileSet) (table slots : List ℕ) (verdict : Verdict) (text : List ℕ) : Type 0 where

@@ -1,9 +1,11 @@
 pub mod Answers
 pub mod Codes
 pub mod Forms
+pub mod GapLines
 pub mod Inputs
 pub mod MapInputs
 pub mod Outcome
 pub mod Ready
 pub mod VerdictText
 pub mod ViewLine
+pub mod Zoom

@@ -4,13 +4,12 @@ use Rattle.ml_io.specs.Causes.{Rose}
 use Rattle.ml_io.specs.Files.{FileSet, Seen}
 use Rattle.ml_cone.specs.declared.label.Label.{Label}
 use Rattle.ml_cone.specs.declared.slot.Slot.{Slot}
-use Rattle.ml_cone.specs.declared.view.View.{View}
 use Rattle.ml_ratio.specs.declared.feature.Feature.{Feature}
 use Rattle.ml_style.specs.declared.style.Style.{Style}
-use Rattle.maplabel.specs.Forms.{IsShow, IsSlots, IsCheck, IsMapView}
+use Rattle.maplabel.specs.Forms.{IsForm}
 use Rattle.maplabel.specs.Inputs.{HasTable, HasSlots}
 use Rattle.maplabel.specs.MapInputs.{HasStyle, HasMap}
-use Rattle.maplabel.specs.Outcome.{IsOutcome}
+use Rattle.maplabel.specs.Outcome.{IsTableOf, IsSlotsFile, IsStyleOf, IsMapOf, IsOutcome}
 use Rattle.maplabel.specs.declared.status.Status.{Status}
 use Rattle.maplabel.specs.declared.status.Status.TheVariants.{Done, NotBest, Memory}
 
@@ -26,14 +25,13 @@ IsSomeStyle files style = (classes : Style) × HasStyle (Some files) style class
 abbrev pub IsSomeMap : FileSet → List ℕ → Type 0
 IsSomeMap files map = (features : List Feature) × HasMap (Some files) map features
 
--- the words have one of the forms, and the files that they name are there, within the limit and what they should be
-abbrev pub AreReady : FileSet → List (List ℕ) → Type 0
-AreReady files words =
-    ((table : List ℕ) × (view : View) × IsShow words table view × IsSomeTable files table)
-    ⊎ ((table : List ℕ) × IsSlots words table × IsSomeTable files table)
-    ⊎ ((table : List ℕ) × (slots : List ℕ) × IsCheck words table slots × IsSomeTable files table
-    × ((labels : List Label) → HasTable (Some files) table labels → (given : List Slot) × HasSlots (Some files) labels slots given))
-    ⊎ ((style : List ℕ) × (map : List ℕ) × (view : View) × IsMapView words style map view × IsSomeStyle files style × IsSomeMap files map)
+-- the words have one of the forms, and each file that comes due is there, within the limit and what it should be: the table, the slots for its labels, the style, the map
+pub record AreReady (files : FileSet) (words : List (List ℕ)) : Type 0 where
+  pub form : IsForm words
+  pub table_is : (table : List ℕ) → IsTableOf words table → IsSomeTable files table
+  pub slots_are : (name : List ℕ) (labels : List Label) → IsSlotsFile (Some files) words name labels → (given : List Slot) × HasSlots (Some files) labels name given
+  pub style_is : (style : List ℕ) → IsStyleOf words style → IsSomeStyle files style
+  pub map_is : (map : List ℕ) (classes : Style) → IsMapOf (Some files) words map classes → IsSomeMap files map
 
 -- where words and files are ready and no fault of a file is counted, what is due is that the command is done, or want of memory
 abbrev pub EndsWell : FileSet → List (List ℕ) → Type 0

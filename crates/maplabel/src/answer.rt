@@ -6,11 +6,10 @@ ghost use Rattle.maplabel.specs.Outcome.{IsAnswer, IsStop};
 
 use crate::check::check;
 use crate::command::{Command, read_command};
-use crate::map_view::map_view;
-use crate::show::show;
-use crate::slots::slots;
+use crate::map::on_map;
 use crate::status::Status;
 use crate::stop::Stop;
+use crate::table::on_table;
 use ml_io::Files;
 use ml_ratio::Seq;
 use std::alloc::Global;
@@ -31,17 +30,13 @@ pub fn answer<F: Files>(
     ensures later { F.faults files.old ≤ F.faults files.new }
 {
     match read_command(words) {
-        Some(Command::Show(table, view)) => {
-            let text = show(alloc, files, table, &view)?;
+        Some(Command::OnTable(table, task)) => {
+            let text = on_table(alloc, files, table, task)?;
             Ok((Status::Done, text))
         }
-        Some(Command::Slots(table)) => {
-            let text = slots(alloc, files, table)?;
-            Ok((Status::Done, text))
-        }
-        Some(Command::Check(table, slots)) => check(alloc, files, table, slots),
-        Some(Command::MapView(style, map, view)) => {
-            let text = map_view(alloc, files, style, map, &view)?;
+        Some(Command::Judge(table, slots)) => check(alloc, files, table, slots),
+        Some(Command::OnMap(style, map, task)) => {
+            let text = on_map(alloc, files, style, map, task)?;
             Ok((Status::Done, text))
         }
         None => Err(Stop::Usage),

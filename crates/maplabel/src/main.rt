@@ -2,26 +2,32 @@
 //!
 //! - [`run`]: the top call ([`run`](run::run)); [`status`]: how it ends;
 //! - [`command`]: what the words ask for; [`answer`]: what they come to;
-//! - [`show`], [`slots`], [`check`], [`map_view`]: one module a command;
+//! - [`table`], [`map`], [`check`]: what is asked of a table and of a map, and the verdict on slots;
+//! - [`choice`]: the longest choice of any labels; [`gap_lines`]: their longest free gaps; [`zoom`]:
+//!   their zoom timeline;
 //! - [`inputs`], [`map_inputs`]: the files that a command needs; [`stop`]: what ends a command early;
-//! - [`view_line`]: the line of a view; [`verdict_text`]: the line of a verdict;
+//! - [`view_line`]: the line of a view; [`verdict_text`]: the line of a verdict; [`zoom_text`]: the
+//!   lines of a zoom timeline;
 //! - [`laws`]: a law of what a run comes to.
 #![tactic(auto)]
 
 pub mod answer;
 pub mod check;
+pub mod choice;
 pub mod command;
+pub mod gap_lines;
 pub mod inputs;
 pub mod laws;
+pub mod map;
 pub mod map_inputs;
-pub mod map_view;
 pub mod run;
-pub mod show;
-pub mod slots;
 pub mod status;
 pub mod stop;
+pub mod table;
 pub mod verdict_text;
 pub mod view_line;
+pub mod zoom;
+pub mod zoom_text;
 
 use crate::run::run;
 use crate::status::Status;
@@ -59,3 +65,5 @@ fn main(rt: HostRuntime) -> ExitCode {
 mod map_tests;
 #[cfg(test)]
 mod tests;
+#[cfg(test)]
+mod zoom_tests;

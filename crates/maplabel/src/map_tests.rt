@@ -5,7 +5,7 @@ use std::alloc::Global;
 use std::test::Fail;
 
 /// A style of cities, other points, rivers and areas.
-const STYLE: &str = r#"version = 1
+pub(crate) const STYLE: &str = r#"version = 1
 name = "name"
 rank = "pop"
 

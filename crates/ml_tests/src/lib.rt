@@ -5,9 +5,9 @@
 //! nothing anew.
 //!
 //! - `cases`: reads the parts of a case;
-//! - `ratio`, `io`, `spans`, `grid`, `watch`, `cone`, `conflict`, `choice`, `view`, `answer`: the tests
-//!   of these crates, `choice` those of the pass and the judge, `replies`, `faults` and `svg` those of
-//!   the other replies; `walk`: a slow program that knows the definitions alone.
+//! - `ratio`, `io`, `spans`, `grid`, `watch`, `cone`, `flight`, `conflict`, `gaps`, `choice`, `view`,
+//!   `answer`: the tests of these crates, `choice` those of the pass and the judge, `replies`, `faults`
+//!   and `svg` those of the other replies; `walk`: a slow program that knows the definitions alone.
 #![tactic(auto)]
 
 #[cfg(test)]
@@ -22,6 +22,10 @@ mod cone;
 mod conflict;
 #[cfg(test)]
 mod faults;
+#[cfg(test)]
+mod flight;
+#[cfg(test)]
+mod gaps;
 #[cfg(test)]
 mod grid;
 #[cfg(test)]

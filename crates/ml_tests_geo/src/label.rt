@@ -6,6 +6,7 @@ use ml_cone::Label;
 use ml_geojson::read_collection;
 use ml_label::{label_of, labels_of};
 use ml_pass::{assign, write_slots};
+use ml_ratio::Seq;
 use ml_style::{Style, read_style};
 use std::alloc::Global;
 use std::test::Fail;
@@ -148,14 +149,22 @@ NoGeometry
     Ok(())
 }
 
+/// The ends of labels in their longest choice, a line each.
+fn slots_told(alloc: Global, labels: &[Label]) -> Result<Seq<u8>, Fail> {
+    if labels.len() > 32_768 {
+        return Err(Fail::from("at most 32768 labels"));
+    }
+    let slots = assign(alloc, labels)?;
+    Ok(write_slots(alloc, labels, slots.as_slice())?)
+}
+
 #[test]
 fn the_labels_of_a_map_are_chosen_in_priority_order(rt: HostRuntime) -> Result<(), Fail> {
     let alloc = rt.alloc();
     let style = read_style(alloc, SAMPLE.as_bytes())?;
     let features = read_collection(alloc, MAP.as_bytes())?;
     let labels = labels_of(alloc, &style, features.as_slice())?;
-    let slots = assign(alloc, labels.as_slice())?;
-    let text = write_slots(alloc, labels.as_slice(), slots.as_slice())?;
+    let text = slots_told(alloc, labels.as_slice())?;
     let want = b"#0 1000/1 -\n#2 2000/1 -\n#1 100000/1 -\n";
     assert_eq!(rt; text.as_slice(), want.as_slice());
     Ok(())

@@ -1,6 +1,8 @@
-use Rattle.maplabel.proofs.WordLemmas.{no_form}
+use Rattle.std.proofs.Common.{string_bytes}
+use Rattle.maplabel.proofs.FormLemmas.{first_item, no_show}
 use Rattle.maplabel.proofs.command.show_command.Goals as goal
 
-pub returns-in-Err : goal.returns-in-Err
-returns-in-Err c =
-    no_form c.in-Err._place c.args.name.now c.args.table.now c.args.cx.now c.args.cy.now c.args.w.now c.args.h.now c.args.scale.now c.in-Err.ensures
+pub returns-in-None : goal.returns-in-None
+returns-in-None c =
+    let words = first_item string_bytes c.args.rest.now c.table-item.result c.in-len1-up.len_at_least c.table-item.is in
+    rw words (no_show (string_bytes c.table-item.result) _ c.in-None.ensures)

@@ -1,0 +1,67 @@
+//! Zoom timelines of maps over files in memory, worked out by hand.
+use crate::map_tests::STYLE;
+use crate::status::Status;
+use crate::tests::run_over;
+use std::alloc::Global;
+use std::test::Fail;
+
+/// Three cities, 400 units from one another.
+const ABC: &str =
+    r#"{"type":"FeatureCollection","features":[{"type":"Feature","id":"A","geometry":{"type":"Point","coordinates":[0,0]},"properties":{"name":"ab","place":"city","pop":3}},{"type":"Feature","id":"B","geometry":{"type":"Point","coordinates":[0.0000400,0]},"properties":{"name":"ab","place":"city","pop":2}},{"type":"Feature","id":"C","geometry":{"type":"Point","coordinates":[0.0000800,0]},"properties":{"name":"ab","place":"city","pop":1}}]}"#;
+
+/// One city to the west, whose id is no plain word.
+const WEST: &str =
+    r#"{"type":"Feature","id":"A b","geometry":{"type":"Point","coordinates":[-0.0001,0]},"properties":{"name":"ab","place":"city"}}"#;
+
+/// What stands in the style in place of `min = "0"`, what stands behind the city's key, the words
+/// behind style and map, and what is printed, with `¶` for each line feed.
+const ABC_ZOOMS: &str =
+    r#"min = "0" |  | 0 0 100 100 => A (0/1,1000/1)¶B (20/3,20/1)¶C (40/3,40/1)¶peak 3 after 40/3¶
+min = "0" |  | 0 0 2 2 => A (0/1,1000/1)¶peak 1 after 0/1¶
+min = "10" |  | 0 0 2 2 => A [10/1,1000/1)¶peak 1 at 10/1¶
+min = "0" |  | 2000000000 0 2 2 => peak 0 after 0/1¶"#;
+
+/// The same of the city to the west.
+const WEST_ZOOMS: &str =
+    r#"min = "0" | dx = 100 | 0 0 2 2 => A%20b (1000/111,1000/89)¶peak 1 after 1000/111¶
+min = "0" |  | -1000 0 2 2 => A%20b (0/1,1000/1)¶peak 1 after 0/1¶"#;
+
+/// The style with another minimum and a further line in the class of cities.
+fn style_with(alloc: Global, min: &str, line: &str) -> Result<String, Fail> {
+    let style = STYLE.replace(alloc, "min = \"0\"", min)?;
+    let city = format!(in alloc; "value = \"city\"\n{line}")?;
+    Ok(style.replace(alloc, "value = \"city\"", city.as_str())?)
+}
+
+/// What is printed of a map for a case.
+fn printed(alloc: Global, map: &str, input: &str) -> Result<String, Fail> {
+    let (min, rest) = input.split_once(" | ").ok_or("a minimum")?;
+    let (line, words) = rest.split_once(" | ").ok_or("a line")?;
+    let style = style_with(alloc, min, line)?;
+    let words = format!(in alloc; "zoom s m {words}")?;
+    let map = String::from_str(alloc, map)?;
+    let files = [("s", style.as_str()), ("m", map.as_str())];
+    let (status, out) = run_over(alloc, &files, words.as_str())?;
+    if status != Status::Done {
+        return Err(Fail::from("a timeline"));
+    }
+    let text = str::from_utf8(out.bytes())?;
+    Ok(text.replace(alloc, "\n", "¶")?)
+}
+
+/// Whether each case of a map is printed so.
+fn all_printed(alloc: Global, map: &str, cases: &str) -> Result<bool, Fail> {
+    let mut right = true;
+    for line in cases.lines() {
+        let (input, want) = line.split_once(" => ").ok_or("a case")?;
+        right = right && printed(alloc, map, input)?.as_str() == want;
+    }
+    Ok(right)
+}
+
+#[test]
+fn timelines_are_printed(rt: HostRuntime) -> Result<(), Fail> {
+    assert!(rt; all_printed(rt.alloc(), ABC, ABC_ZOOMS)?);
+    assert!(rt; all_printed(rt.alloc(), WEST, WEST_ZOOMS)?);
+    Ok(())
+}

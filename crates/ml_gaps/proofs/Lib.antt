@@ -1,0 +1,9 @@
+pub mod Anys
+pub mod Adding
+pub mod Rows
+pub mod Lengths
+pub mod Results
+pub mod Swept
+pub mod Choosing
+pub mod Finding
+pub mod Clearing

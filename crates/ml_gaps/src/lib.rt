@@ -1,0 +1,22 @@
+//! Longest gaps: active ranges that need not begin at a label's minimum.
+//!
+//! - [`piece`]: intervals of scales; [`block`]: those at which one label blocks another ([`blocked`]);
+//! - [`gap`]: ranges and how long they are; `sweep`: the longest that pieces leave;
+//! - [`choice`]: the longest free gap of each label ([`gaps`]);
+//! - [`filter`]: the labels that a view shows under their gaps ([`shown_gaps`]);
+//! - [`laws`]: laws over the definitions alone.
+#![tactic(auto)]
+
+pub mod block;
+pub mod choice;
+pub mod filter;
+pub mod gap;
+pub mod laws;
+pub mod piece;
+mod sweep;
+
+pub use block::blocked;
+pub use choice::gaps;
+pub use filter::shown_gaps;
+pub use gap::Gap;
+pub use piece::Piece;
