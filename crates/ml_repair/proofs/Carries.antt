@@ -1,0 +1,146 @@
+-- How a plan's rows come about, step by step.
+use Rattle.std.proofs.Common.{◌≡◌, ◌≢◌, ℕ, zero, suc, ◌+◌, ◌<◌, ◌≤◌, List, [], ◌∷◌, length, get_or, Contains, inl, inr, refl, sym, ap, ◌∙◌, subst, arith, Bool, true, false, drop}
+use Rattle.std.specs.Prelude.{insert, All, if◌then◌else◌}
+use Rattle.std.specs.Ordering.{is_lt}
+use Rattle.std.proofs.lemmas.Bool.{cases_lt}
+use Rattle.std.proofs.lemmas.List.{get_or_default, get_or-map, length-map}
+use Rattle.std.proofs.lemmas.List.Edits.{length-insert, get_or-insert_below, get_or-insert_at, get_or-insert_above}
+use Rattle.ml_cone.specs.Label.{IsLabelList}
+use Rattle.ml_cone.specs.Order.{order_cmp}
+use Rattle.ml_cone.specs.declared.label.Label.{Label}
+use Rattle.ml_cone.specs.declared.slot.Slot.{Slot}
+use Rattle.ml_store.specs.Rows.{numbers_in, labels_in, number_at, HasId, IsFresh, HaveOwnNumbers, AreDifferent}
+use Rattle.ml_store.specs.Table.{IsRowAt, with_slot}
+use Rattle.ml_store.specs.declared.row.Row.{Row}
+use Rattle.ml_store.proofs.Different.{same_place}
+use Rattle.ml_store.proofs.Lists.{map_insert}
+use Rattle.ml_watch.specs.declared.change.Change.{Change}
+use Rattle.ml_store.specs.Rows.{Stored}
+use Rattle.ml_repair.specs.Carry.{CanComeIn, HasRoomIn, gone_count}
+use Rattle.ml_repair.specs.Plan.{Planned, HasRoom, room_of, moved_row, moved_rows, moved_pairs, with_row, rows_with, kept_rows, planned_rows}
+use Rattle.ml_repair.specs.declared.edit.LabelEdit.{LabelEdit}
+use Rattle.ml_repair.specs.declared.edit.LabelEdit.TheVariants.{Add, Remove, Replace}
+use Rattle.ml_repair.specs.Settled.{IsSettled}
+use Rattle.ml_repair.specs.declared.edit.Moved.{Moved}
+use Rattle.ml_repair.proofs.Edited.{remove_insert, moved_none}
+use Rattle.ml_repair.proofs.Moving.{slot_here, slot_elsewhere}
+use Rattle.ml_repair.proofs.Placing.{list_remove}
+use Rattle.ml_repair.proofs.Present.{length-labels}
+
+-- ---- one move after another
+
+pub moved_cons : (m : Moved) (moved : List Moved) (rows : List Row) → moved_rows (m ∷ moved) rows ≡ moved_rows moved (moved_rows (m ∷ []) rows)
+moved_cons m moved [] = refl
+moved_cons m moved (r ∷ rows) = ap (λ rs. moved_row (m ∷ moved) r ∷ rs) (moved_cons m moved rows)
+
+pub none_moved : (m : Moved) (rows : List Row) → ((k : ℕ) (d : Row) → k < length rows → (get_or rows k d).number ≢ m.number) → moved_rows (m ∷ []) rows ≡ rows
+none_moved m [] others = refl
+none_moved m (r ∷ rows) others =
+    ap (λ (s : Slot). (record r { slot = s }) ∷ moved_rows (m ∷ []) rows) (slot_elsewhere m.number r.number m.slot r.slot (λ e. others 0 r (omega arith) (sym e)))
+    ∙ ap (λ rs. r ∷ rs) (none_moved m rows (λ k d lt. others (suc k) d (omega arith)))
+
+pub one_moved : (m : Moved) (rows : List Row) (at : ℕ) → at < length rows → ((d : Row) → (get_or rows at d).number ≡ m.number) → ((k : ℕ) (d : Row) → k < length rows → k ≢ at → (get_or rows k d).number ≢ m.number) →
+    moved_rows (m ∷ []) rows ≡ with_slot rows at m.slot
+one_moved m [] at lt here others = absurd (omega arith)
+one_moved m (r ∷ rows) zero lt here others =
+    ap (λ (s : Slot). (record r { slot = s }) ∷ moved_rows (m ∷ []) rows) (slot_here m.number r.number m.slot r.slot (sym (here r)))
+    ∙ ap (λ rs. (record r { slot = m.slot }) ∷ rs) (none_moved m rows (λ k d lt. others (suc k) d (omega arith) (λ e. omega arith)))
+one_moved m (r ∷ rows) (suc at) lt here others =
+    ap (λ (s : Slot). (record r { slot = s }) ∷ moved_rows (m ∷ []) rows) (slot_elsewhere m.number r.number m.slot r.slot (λ e. others 0 r (omega arith) (λ f. omega arith) (sym e)))
+    ∙ ap (λ rs. r ∷ rs) (one_moved m rows at (omega arith) here (λ k d lt ne. others (suc k) d (omega arith) (λ e. omega arith)))
+
+number_is : (rows : List Row) (k : ℕ) (d : Row) → k < length rows → number_at rows k ≡ (get_or rows k d).number
+number_is rows k d lt = get_or-map (λ (t : Row). t.number) rows k d 0 lt
+
+pub moved_fresh : (m : Moved) (rows : List Row) → IsFresh m.number rows → moved_rows (m ∷ []) rows ≡ rows
+moved_fresh m rows fresh =
+    none_moved m rows (λ k d lt e. let many = length-map rows (λ (t : Row). t.number) in fresh (k, omega arith, get_or_default (numbers_in rows) k m.number 0 (omega arith) ∙ number_is rows k d lt ∙ e))
+
+pub moved_at_row : (m : Moved) (rows : List Row) (at : ℕ) → HaveOwnNumbers rows → IsRowAt rows m.number at → moved_rows (m ∷ []) rows ≡ with_slot rows at m.slot
+moved_at_row m rows at differ here =
+    let many = length-map rows (λ (t : Row). t.number) in
+    let lt : at < length rows = here.0 in
+    one_moved m rows at here.0 (λ d. sym (number_is rows at d here.0) ∙ here.1)
+    (λ k d k_in ne e. ne (same_place (numbers_in rows) k at differ (omega arith) (omega arith) (number_is rows k d k_in ∙ e ∙ sym here.1)))
+
+-- ---- the label that comes
+
+pub with_row_some : (row : Row) (rows : List Row) → (p : ℕ) × (p ≤ length rows) × (with_row row rows ≡ insert rows p row)
+with_row_some row [] = (0, omega arith, refl)
+with_row_some row (r ∷ rows) = go (is_lt (order_cmp r.label.order row.label.order)) refl (with_row_some row rows)
+  where
+    go : (b : Bool) → is_lt (order_cmp r.label.order row.label.order) ≡ b → ((p : ℕ) × (p ≤ length rows) × (with_row row rows ≡ insert rows p row)) → (p : ℕ) × (p ≤ length (r ∷ rows)) × (with_row row (r ∷ rows) ≡ insert (r ∷ rows) p row)
+    go true e s =
+        let le : s.0 ≤ length rows = s.1 in
+        (suc s.0, omega arith, ap (λ (b : Bool). if b then r ∷ with_row row rows else row ∷ (r ∷ rows)) e ∙ ap (λ rs. r ∷ rs) s.2)
+    go false e s = (0, omega arith, ap (λ (b : Bool). if b then r ∷ with_row row rows else row ∷ (r ∷ rows)) e)
+
+-- a number that stands once is not there besides
+differ_once : (xs : List ℕ) (p x : ℕ) → p ≤ length xs → AreDifferent (insert xs p x) → ¬ (Contains xs x)
+differ_once xs p x le differ there =
+    let n = length-insert xs p x le in
+    let k : ℕ = there.0 in
+    let lt : k < length xs = there.1 in
+    elim (cases_lt k p) [
+      | inl low ↦ differ k p x low (omega arith) (get_or-insert_below xs p x x k low le ∙ there.2 ∙ sym (get_or-insert_at xs p x x le))
+      | inr high ↦ differ p (k + 1) x (omega arith) (omega arith) (get_or-insert_at xs p x x le ∙ sym there.2 ∙ sym (get_or-insert_above xs p x x k high le))
+    ]
+
+pub id_once : (labels : List Label) (p : ℕ) (a : Label) → p ≤ length labels → IsLabelList (insert labels p a) → ¬ (HasId labels a.order.id)
+id_once labels p a le up has =
+    let n = length-insert labels p a le in
+    let k : ℕ = has.1.0 in
+    let lt : k < length labels = has.1.1 in
+    let is : (get_or labels k a).order.id ≡ a.order.id = ap (λ (l : Label). l.order.id) (get_or_default labels k a has.0 lt ∙ has.1.2) ∙ has.2 in
+    elim (cases_lt k p) [
+      | inl low ↦ (up k p a low (omega arith)).1 (ap (λ (l : Label). l.order.id) (get_or-insert_below labels p a a k low le) ∙ is ∙ sym (ap (λ (l : Label). l.order.id) (get_or-insert_at labels p a a le)))
+      | inr high ↦ (up p (k + 1) a (omega arith) (omega arith)).1 (ap (λ (l : Label). l.order.id) (get_or-insert_at labels p a a le) ∙ sym is ∙ sym (ap (λ (l : Label). l.order.id) (get_or-insert_above labels p a a k high le)))
+    ]
+
+module _ (row : Row) (rows : List Row) (settled : IsSettled (with_row row rows)) where
+  pub come_up : IsLabelList (labels_in rows)
+  come_up =
+      let s = with_row_some row rows in
+      let many = length-labels rows in
+      let le : s.0 ≤ length rows = s.1 in
+      let up : IsLabelList (insert (labels_in rows) s.0 row.label) = rw (s.2, map_insert (λ (t : Row). t.label) rows s.0 row) at settled.in_order in
+      let n = length-insert (labels_in rows) s.0 row.label (omega arith) in
+      subst IsLabelList (remove_insert (labels_in rows) s.0 row.label (omega arith)) (list_remove (insert (labels_in rows) s.0 row.label) s.0 (omega arith) up)
+
+  pub can_come : CanComeIn row rows
+  can_come =
+      let s = with_row_some row rows in
+      let many = length-labels rows in
+      let le : s.0 ≤ length rows = s.1 in
+      let numbers = length-map rows (λ (t : Row). t.number) in
+      let long = length-insert rows s.0 row s.1 in
+      record {
+        fresh = differ_once (numbers_in rows) s.0 row.number (omega arith) (rw (s.2, map_insert (λ (t : Row). t.number) rows s.0 row) at settled.own_numbers);
+        low = (let all : All (λ r. r.number < 32768) (insert rows s.0 row) = rw s.2 at settled.low_numbers in let h = all s.0 row (omega arith) in let e : (get_or (insert rows s.0 row) s.0 row).number ≡ row.number = ap (λ (t : Row). t.number) (get_or-insert_at rows s.0 row row s.1) in omega arith);
+        new_id = id_once (labels_in rows) s.0 row.label (omega arith) (rw (s.2, map_insert (λ (t : Row). t.label) rows s.0 row) at settled.in_order);
+      }
+
+pub rows_none : (moved : List Moved) (k : ℕ) (rows : List Row) → length moved ≤ k → moved_rows (drop k moved) rows ≡ rows
+rows_none [] zero rows le = moved_none rows
+rows_none [] (suc k) rows le = moved_none rows
+rows_none (m ∷ moved) zero rows le = absurd (omega arith)
+rows_none (m ∷ moved) (suc k) rows le = rows_none moved k rows (omega arith)
+
+-- ---- room
+
+pub carried_room : (edit : LabelEdit) (moved : List Moved) (changes : List Change) (n : ℕ) (old mid last : Stored) → HasRoom (room_of (record { edit = edit; moved = moved; changes = changes; evaluated = n })) old →
+    mid.labels ≡ old.labels + gone_count edit → old.cells ≤ mid.cells → old.blocks ≤ mid.blocks → last.labels ≡ mid.labels → last.cells ≡ mid.cells → mid.blocks ≤ last.blocks + moved_pairs moved → HasRoomIn edit last
+carried_room (Add row) moved changes n old mid last room l1 c1 b1 l2 c2 b2 =
+    let l = room.labels in let c = room.cells in let b = room.blocks in
+    record { labels = omega arith; cells = omega arith; blocks = omega arith }
+carried_room (Remove id) moved changes n old mid last room l1 c1 b1 l2 c2 b2 = tt
+carried_room (Replace row) moved changes n old mid last room l1 c1 b1 l2 c2 b2 =
+    let l = room.labels in let c = room.cells in let b = room.blocks in
+    record { labels = omega arith; cells = omega arith; blocks = omega arith }
+
+pub moved_room : (edit : LabelEdit) (moved : List Moved) (changes : List Change) (n : ℕ) (old mid : Stored) → HasRoom (room_of (record { edit = edit; moved = moved; changes = changes; evaluated = n })) old → old.blocks ≤ mid.blocks → moved_pairs moved ≤ mid.blocks
+moved_room edit moved changes n old mid room le = let b = room.blocks in omega arith
+
+pub planned_parts : (plan : Planned) (rows : List Row) → planned_rows plan rows ≡ rows_with plan.edit (moved_rows plan.moved (kept_rows plan.edit rows))
+unfolding planned_rows
+planned_parts plan rows = refl

@@ -1,0 +1,166 @@
+-- New slots by number.
+use Rattle.std.proofs.Common.{◌≡◌, ◌≢◌, ℕ, zero, suc, ◌+◌, ◌-◌, ◌<◌, ◌≤◌, List, [], ◌∷◌, ◌++◌, length, get_or, set, inl, inr, refl, sym, ap, ◌∙◌, arith, length-set, length-append, get_or-set_same, get_or-set_other, Bool, true, false}
+use Rattle.std.specs.Prelude.{◌==◌, if◌then◌else◌}
+use Rattle.std.proofs.lemmas.Bool.{cases_lt, cases_eq}
+use Rattle.std.proofs.lemmas.Bool.Decides.{nat_tests}
+use Rattle.std.proofs.lemmas.List.{get_or_default, get_or-map, length-map, map-set, get_or_push, map-append}
+use Rattle.std.proofs.Math.ListN.{get_or-append}
+use Rattle.std.proofs.lemmas.List.Elements.{All-push}
+use Rattle.std.proofs.lemmas.List.Quantifiers.{all_pairs_push}
+use Rattle.ml_cone.specs.declared.slot.Slot.{Slot}
+use Rattle.ml_store.specs.Rows.{AreDifferent}
+use Rattle.ml_repair.specs.declared.edit.Moved.{Moved}
+use Rattle.ml_repair.specs.Plan.{slot_for}
+use Rattle.ml_repair.specs.Moves.{numbers_of, AreMoves}
+use Rattle.ml_repair.proofs.Pigeons.{at_most}
+
+yes : (n m : ℕ) → n ≡ m → (n == m) ≡ true
+yes n m e = grind (arith, nat_tests)
+
+no : (n m : ℕ) → n ≢ m → (n == m) ≡ false
+no n m e = grind (arith, nat_tests)
+
+pub slot_here : (n m : ℕ) (s t : Slot) → n ≡ m → (if n == m then s else t) ≡ s
+slot_here n m s t e = ap (λ (b : Bool). if b then s else t) (yes n m e)
+
+pub slot_elsewhere : (n m : ℕ) (s t : Slot) → n ≢ m → (if n == m then s else t) ≡ t
+slot_elsewhere n m s t e = ap (λ (b : Bool). if b then s else t) (no n m e)
+
+-- a number without a new slot has its own
+pub slot_kept : (n : ℕ) (own : Slot) (moved : List Moved) → ((k : ℕ) → k < length moved → get_or (numbers_of moved) k 0 ≢ n) → slot_for n own moved ≡ own
+slot_kept n own [] h = refl
+slot_kept n own (m ∷ moved) h = ap (λ s. slot_for n s moved) (slot_elsewhere m.number n m.slot own (h 0 (omega arith))) ∙ slot_kept n own moved (λ k lt. h (suc k) (omega arith))
+
+-- a number with one new slot has that
+pub slot_new : (n : ℕ) (own : Slot) (moved : List Moved) (k : ℕ) (d : Moved) → AreDifferent (numbers_of moved) → k < length moved → get_or (numbers_of moved) k 0 ≡ n → slot_for n own moved ≡ (get_or moved k d).slot
+slot_new n own [] k d differ lt e = absurd (omega arith)
+slot_new n own (m ∷ moved) zero d differ lt e =
+    let many = length-map moved (λ (x : Moved). x.number) in
+    ap (λ s. slot_for n s moved) (slot_here m.number n m.slot own e)
+    ∙ slot_kept n m.slot moved (λ k h f. differ 0 (suc k) 0 (omega arith) (omega arith) (e ∙ sym f))
+slot_new n own (m ∷ moved) (suc k) d differ lt e =
+    slot_new n (if m.number == n then m.slot else own) moved k d (λ i j z less h. differ (suc i) (suc j) z (omega arith) (omega arith)) (omega arith) e
+
+slot_push : (n : ℕ) (own : Slot) (moved : List Moved) (m : Moved) → slot_for n own (moved ++ m ∷ []) ≡ (if m.number == n then m.slot else slot_for n own moved)
+slot_push n own [] m = refl
+slot_push n own (x ∷ moved) m = slot_push n (if x.number == n then x.slot else own) moved m
+
+-- a new slot of another number does not count
+set_elsewhere : (x : ℕ) (own : Slot) (moved : List Moved) (at : ℕ) (new d : Moved) → at < length moved → new.number ≢ x → (get_or moved at d).number ≢ x → slot_for x own (set moved at new) ≡ slot_for x own moved
+set_elsewhere x own [] at new d lt a b = absurd (omega arith)
+set_elsewhere x own (m ∷ moved) zero new d lt a b = ap (λ s. slot_for x s moved) (slot_elsewhere new.number x new.slot own a ∙ sym (slot_elsewhere m.number x m.slot own b))
+set_elsewhere x own (m ∷ moved) (suc at) new d lt a b = set_elsewhere x (if m.number == x then m.slot else own) moved at new d (omega arith) a b
+
+-- ---- the column
+
+pub moves_none : (column : List ℕ) → length column ≡ 32768 → ((k : ℕ) → k < 32768 → get_or column k 0 ≡ 0) → AreMoves [] column
+moves_none column many zeros = record {
+  all_numbers = many;
+  low = λ k d lt. absurd (omega arith);
+  differ = λ i j d less lt. absurd (omega arith);
+  found = λ n lt. (let z = zeros n lt in (omega arith, λ k h. absurd (omega arith), λ h. absurd (omega arith)));
+}
+
+module _ (moved : List Moved) (column : List ℕ) (are : AreMoves moved column) (n : ℕ) (low : n < 32768) where
+  -- nothing stands in the column: the number has no new slot
+  pub none_there : get_or column n 0 ≡ 0 → (k : ℕ) → k < length moved → get_or (numbers_of moved) k 0 ≢ n
+  none_there e k lt same = let f = (are.found n low).1 k lt same in absurd (omega arith)
+
+  pub one_there : 0 < get_or column n 0 → (get_or column n 0 - 1 < length moved) × (get_or (numbers_of moved) (get_or column n 0 - 1) 0 ≡ n)
+  one_there some =
+      let f = are.found n low in
+      let bound : get_or column n 0 ≤ length moved = f.0 in
+      (omega arith, f.2 some (get_or column n 0 - 1) (omega arith))
+
+  pub moves_push : (slot : Slot) → get_or column n 0 ≡ 0 → AreMoves (moved ++ (record { number = n; slot = slot }) ∷ []) (set column n (length moved + 1))
+  moves_push slot e =
+      let m : Moved = record { number = n; slot = slot } in
+      let many = length-map moved (λ (x : Moved). x.number) in
+      let numbers : numbers_of (moved ++ m ∷ []) ≡ numbers_of moved ++ n ∷ [] = map-append (λ (x : Moved). x.number) moved (m ∷ []) in
+      let long = length-append moved (m ∷ []) in
+      let last : get_or (numbers_of (moved ++ m ∷ [])) (length moved) 0 ≡ n = ap (λ ns. get_or ns (length moved) 0) numbers ∙ get_or_push (numbers_of moved) n 0 (length moved) many in
+      let left : (k : ℕ) → k < length moved → get_or (numbers_of (moved ++ m ∷ [])) k 0 ≡ get_or (numbers_of moved) k 0 = λ k lt. ap (λ ns. get_or ns k 0) numbers ∙ get_or-append (numbers_of moved) (n ∷ []) 0 k (omega arith) in
+      let all : length column ≡ 32768 = are.all_numbers in
+      record {
+        all_numbers = length-set column n (length moved + 1) ∙ all;
+        low = rw numbers (All-push (λ x. x < 32768) (numbers_of moved) n are.low low);
+        differ = rw numbers (all_pairs_push (λ (a : ℕ) (b : ℕ). a ≢ b) (numbers_of moved) n are.differ (λ k d lt f. none_there e k (omega arith) (get_or_default (numbers_of moved) k 0 d lt ∙ f)));
+        found = λ x lt.
+            elim (cases_eq x n) [
+              | inl here ↦
+                  let new : get_or (set column n (length moved + 1)) x 0 ≡ length moved + 1 = ap (λ y. get_or (set column n (length moved + 1)) y 0) here ∙ get_or-set_same column n (length moved + 1) 0 (omega arith) in (
+                    omega arith,
+                    (λ k in' f. elim (cases_lt k (length moved)) [
+                      | inl less ↦ absurd (none_there e k less (sym (left k less) ∙ f ∙ here))
+                      | inr more ↦ omega arith
+                    ]),
+                    (λ some k f. let h : k ≡ length moved = omega arith in ap (λ y. get_or (numbers_of (moved ++ m ∷ [])) y 0) h ∙ last ∙ sym here),
+                  )
+              | inr other ↦
+                  let same : get_or (set column n (length moved + 1)) x 0 ≡ get_or column x 0 = get_or-set_other column n x (length moved + 1) 0 other in
+                  let f = are.found x lt in
+                  let bound : get_or column x 0 ≤ length moved = f.0 in (
+                    omega arith,
+                    (λ k in' g. elim (cases_lt k (length moved)) [
+                      | inl less ↦ same ∙ f.1 k less (sym (left k less) ∙ g)
+                      | inr more ↦ let h : k ≡ length moved = omega arith in absurd (other (sym g ∙ ap (λ y. get_or (numbers_of (moved ++ m ∷ [])) y 0) h ∙ last))
+                    ]),
+                    (λ some k g. let less : k < length moved = omega arith in left k less ∙ f.2 (omega arith) k (omega arith)),
+                  )
+            ];
+      }
+
+  pub few_pushed : (slot : Slot) → get_or column n 0 ≡ 0 → length (moved ++ (record { number = n; slot = slot }) ∷ []) ≤ 32768
+  few_pushed slot e =
+      let m : Moved = record { number = n; slot = slot } in
+      let after = moves_push slot e in
+      let many = length-map (moved ++ m ∷ []) (λ (x : Moved). x.number) in
+      let few = at_most 32768 (numbers_of (moved ++ m ∷ [])) after.differ after.low in
+      omega arith
+
+  pub slots_pushed : (slot : Slot) → get_or column n 0 ≡ 0 → (x : ℕ) (own : Slot) → slot_for x own (moved ++ (record { number = n; slot = slot }) ∷ []) ≡ (if x == n then slot else slot_for x own moved)
+  slots_pushed slot e x own =
+      slot_push x own moved (record { number = n; slot = slot }) ∙ elim (cases_eq x n) [
+        | inl here ↦ slot_here n x slot (slot_for x own moved) (sym here) ∙ sym (slot_here x n slot (slot_for x own moved) here)
+        | inr other ↦ slot_elsewhere n x slot (slot_for x own moved) (λ f. other (sym f)) ∙ sym (slot_elsewhere x n slot (slot_for x own moved) other)
+      ]
+
+  -- ---- a new slot takes the place of another
+
+  module _ (at : ℕ) (old : Moved) (slot : Slot) (in' : at < length moved) (read : old ≡ get_or moved at old) (here : get_or (numbers_of moved) at 0 ≡ n) where
+    number_old : old.number ≡ n
+    number_old = ap (λ (m : Moved). m.number) read ∙ sym (get_or-map (λ (m : Moved). m.number) moved at old 0 in') ∙ here
+
+    numbers_set : numbers_of (set moved at (record { number = old.number; slot = slot })) ≡ numbers_of moved
+    numbers_set =
+        let new : Moved = record { number = old.number; slot = slot } in
+        map-set (λ (m : Moved). m.number) moved at new ∙ set_again (numbers_of moved) at old.number (let many = length-map moved (λ (m : Moved). m.number) in omega arith) (here ∙ sym number_old)
+      where
+        set_again : (xs : List ℕ) (i x : ℕ) → i < length xs → get_or xs i 0 ≡ x → set xs i x ≡ xs
+        set_again [] i x lt e = refl
+        set_again (y ∷ xs) zero x lt e = ap (λ z. z ∷ xs) (sym e)
+        set_again (y ∷ xs) (suc i) x lt e = ap (λ zs. y ∷ zs) (set_again xs i x (omega arith) e)
+
+    pub moves_set : AreMoves (set moved at (record { number = old.number; slot = slot })) column
+    moves_set =
+        let new : Moved = record { number = old.number; slot = slot } in
+        let len = length-set moved at new in
+        record {
+          all_numbers = are.all_numbers;
+          low = rw numbers_set are.low;
+          differ = rw numbers_set are.differ;
+          found = rw (numbers_set, len) are.found;
+        }
+
+    pub slots_set : (x : ℕ) (own : Slot) → slot_for x own (set moved at (record { number = old.number; slot = slot })) ≡ (if x == n then slot else slot_for x own moved)
+    slots_set x own =
+        let new : Moved = record { number = old.number; slot = slot } in
+        let len = length-set moved at new in
+        elim (cases_eq x n) [
+          | inl here' ↦
+              slot_new x own (set moved at new) at new (rw numbers_set are.differ) (omega arith) (rw numbers_set (here ∙ sym here'))
+              ∙ ap (λ (m : Moved). m.slot) (get_or-set_same moved at new new in') ∙ sym (slot_here x n slot (slot_for x own moved) here')
+          | inr other ↦
+              set_elsewhere x own moved at new old in' (λ f. other (sym f ∙ number_old)) (λ f. other (sym f ∙ ap (λ (m : Moved). m.number) (sym read) ∙ number_old))
+              ∙ sym (slot_elsewhere x n slot (slot_for x own moved) other)
+        ]

@@ -1,0 +1,136 @@
+-- What a search finds in a list of which one row may go, and into which one may come.
+use Rattle.std.proofs.Common.{◌≡◌, ◌≢◌, ℕ, zero, suc, ◌+◌, ◌-◌, ◌<◌, ◌≤◌, List, [], ◌∷◌, length, get_or, take, Contains, ◌⊎◌, inl, inr, refl, sym, ap, ◌∙◌, subst, arith, Option, Some, None}
+use Rattle.std.specs.Prelude.{insert, All, IfSome, IsSome}
+use denote.Ref.{Bor}
+use Rattle.std.proofs.lemmas.Bool.{cases_lt, cases_eq, false≢true}
+use Rattle.std.proofs.lemmas.List.{get_or_default, get_or-map, length-map, take_more, take_all}
+use Rattle.std.proofs.lemmas.List.Edits.{length-insert, get_or-insert_below}
+use Rattle.std.proofs.lemmas.List.Elements.{Contains-append_left, Contains-push, Contains-push_cases}
+use Rattle.ml_cone.specs.declared.label.Label.{Label}
+use Rattle.ml_store.specs.Rows.{numbers_in, labels_in, IsFresh, HaveOwnNumbers}
+use Rattle.ml_store.specs.Search.{IsFoundIn, IsNumberWith, Gathers}
+use Rattle.ml_store.specs.Table.{IsRowAt}
+use Rattle.ml_store.specs.declared.row.Row.{Row}
+use Rattle.ml_store.proofs.Fresh.{differ_inserted, differ_removed}
+use Rattle.ml_store.proofs.Lists.{added_remove, added_insert, added_has, all_longer, all_shorter, map_insert, map_remove}
+use Rattle.ml_store.proofs.Naming.{number_read}
+use Rattle.ml_repair.specs.Roster.{left_rows, joined_rows, AreNumbered, AreFound, PlacesCame}
+use Rattle.ml_repair.proofs.Rosters.{joined_above, left_most}
+
+pub row_there : (rows : List Row) (j : ℕ) → j < length rows → (r : Row) × (r ≡ get_or rows j r)
+row_there [] j lt = absurd (omega arith)
+row_there (r ∷ rows) zero lt = (r, refl)
+row_there (r ∷ rows) (suc j) lt = row_there rows j (omega arith)
+
+pub left_contains : (gone : Option ℕ) (rows : List Row) (r : Row) → IfSome gone (λ g. g < length rows) → Contains (left_rows gone rows) r → Contains rows r
+left_contains None rows r in' there = there
+left_contains (Some g) rows r in' there =
+    let s = row_there rows g in' in
+    added_has (added_remove rows g s.0 in' s.1) r there
+
+-- a row of the list is the one that is to come, or one of those that were there
+pub row_from : (come : Option (Bor Row)) (at : ℕ) (gone : Option ℕ) (rows : List Row) (p : ℕ) → IfSome gone (λ g. g < length rows) → IfSome come (λ row. at ≤ length (left_rows gone rows)) → p < length (joined_rows come at (left_rows gone rows)) →
+    (IsSome come × (p ≡ at)) ⊎ ((r : Row) × Contains rows r × (r ≡ get_or (joined_rows come at (left_rows gone rows)) p r))
+row_from None at gone rows p in' le lt =
+    let s = row_there (left_rows gone rows) p lt in
+    inr (s.0, left_contains gone rows s.0 in' (p, lt, sym s.1), s.1)
+row_from (Some row) at gone rows p in' le lt =
+    let left = left_rows gone rows in
+    let long = length-insert left at row.now le in
+    elim (cases_lt p at) [
+      | inl low ↦
+          let s = row_there left p (omega arith) in
+          inr (s.0, left_contains gone rows s.0 in' (p, omega arith, sym s.1), s.1 ∙ sym (get_or-insert_below left at row.now s.0 p low le))
+      | inr high ↦ elim (cases_eq p at) [
+        | inl here ↦ inl (refl, here)
+        | inr past ↦
+            let more : at < p = (let no : p ≢ at = past in omega arith) in
+            let s = row_there left (p - 1) (omega arith) in
+            inr (s.0, left_contains gone rows s.0 in' (p - 1, omega arith, sym s.1), s.1 ∙ sym (joined_above row.now at left s.0 p le more))
+      ]
+    ]
+
+pub label_read : (rows : List Row) (p : ℕ) (r : Row) (d : Label) → p < length rows → r ≡ get_or rows p r → get_or (labels_in rows) p d ≡ r.label
+label_read rows p r d lt read = get_or-map (λ (t : Row). t.label) rows p r d lt ∙ ap (λ (t : Row). t.label) (sym read)
+
+pub near_found : (come : Option (Bor Row)) (at : ℕ) (gone : Option ℕ) (rows : List Row) (a : Label) (k : ℕ) (numbers before middle after : List ℕ) →
+    IfSome gone (λ g. g < length rows) → IfSome come (λ row. at ≤ length (left_rows gone rows)) →
+    Gathers (IsNumberWith (λ r. IsFoundIn a r.label k) rows) [] numbers → PlacesCame (joined_rows come at (left_rows gone rows)) numbers before middle → Gathers (λ p. IsSome come × (p ≡ at)) middle after →
+    AreFound (joined_rows come at (left_rows gone rows)) a k before after
+near_found come at gone rows a k numbers before middle after in' le found came last = record {
+  kept = λ p h. (last p).1 (inl ((came p).1 (inl h)));
+  sound = λ p h. elim ((last p).0 h) [
+    | inl m ↦ elim ((came p).0 m) [
+      | inl old ↦ inl old
+      | inr new ↦ inr new.2.0
+    ]
+    | inr one ↦ inr (rw one.1 (within come at le one.0))
+  ];
+  whole = λ p h.
+      elim (row_from come at gone rows p in' le h.0) [
+        | inl one ↦ (last p).1 (inr one)
+        | inr some ↦
+            let r : Row = some.0 in
+            let all = joined_rows come at (left_rows gone rows) in
+            let label : get_or (labels_in all) p r.label ≡ r.label = label_read all p r r.label h.0 some.2 in
+            let number = (found r.number).1 (inr (r, some.1, refl, subst (λ (b : Label). IsFoundIn a b k) label (h.1 r.label))) in
+            (last p).1 (inl ((came p).1 (inr (r.number, number, (h.0, number_read all p r h.0 some.2)))))
+      ];
+}
+  where
+    within : (come : Option (Bor Row)) (at : ℕ) → IfSome come (λ row. at ≤ length (left_rows gone rows)) → IsSome come → at < length (joined_rows come at (left_rows gone rows))
+    within None at le some = absurd (false≢true some)
+    within (Some row) at le some = let long = length-insert (left_rows gone rows) at row.now le in omega arith
+
+-- ---- places of numbers, a number at a time
+
+pub places_more : (rows : List Row) (numbers before places next : List ℕ) (k : ℕ) → k < length numbers → PlacesCame rows (take k numbers) before places → Gathers (IsRowAt rows (get_or numbers k 0)) places next → PlacesCame rows (take (k + 1) numbers) before next
+places_more rows numbers before places next k lt so_far one p =
+    let n : ℕ = get_or numbers k 0 in
+    let e = take_more numbers k 0 lt in (
+      λ h. elim ((one p).0 h) [
+        | inl old ↦ elim ((so_far p).0 old) [
+          | inl was ↦ inl was
+          | inr some ↦ inr (some.0, rw e (Contains-append_left (take k numbers) (n ∷ []) some.0 some.1), some.2)
+        ]
+        | inr new ↦ inr (n, rw e (Contains-push (take k numbers) n), new)
+      ],
+      λ h. elim h [
+        | inl was ↦ (one p).1 (inl ((so_far p).1 (inl was)))
+        | inr some ↦ elim (Contains-push_cases (take k numbers) n some.0 (rw e at some.1)) [
+          | inl old ↦ (one p).1 (inl ((so_far p).1 (inr (some.0, old, some.2))))
+          | inr same ↦ (one p).1 (inr (subst (λ (m : ℕ). IsRowAt rows m p) (sym same) some.2))
+        ]
+      ],
+    )
+
+pub places_all : (rows : List Row) (numbers before places : List ℕ) (k : ℕ) → length numbers ≤ k → PlacesCame rows (take k numbers) before places → PlacesCame rows numbers before places
+places_all rows numbers before places k le so_far = rw (take_all k numbers le) at so_far
+
+-- ---- a list with one that is to come
+
+left_differ : (gone : Option ℕ) (rows : List Row) → IfSome gone (λ g. g < length rows) → HaveOwnNumbers rows → HaveOwnNumbers (left_rows gone rows)
+left_differ None rows in' differ = differ
+left_differ (Some g) rows in' differ = differ_removed rows g differ in'
+
+left_low : (gone : Option ℕ) (rows : List Row) → IfSome gone (λ g. g < length rows) → All (λ n. n < 32768) (numbers_in rows) → All (λ n. n < 32768) (numbers_in (left_rows gone rows))
+left_low None rows in' all = all
+left_low (Some g) rows in' all =
+    let many = length-map rows (λ (r : Row). r.number) in
+    let n : ℕ = get_or (numbers_in rows) g 0 in
+    rw (map_remove (λ (r : Row). r.number) rows g) (all_shorter (λ n. n < 32768) (added_remove (numbers_in rows) g n (omega arith) (get_or_default (numbers_in rows) g 0 n (omega arith))) all)
+
+pub numbered_left : (gone : Option ℕ) (rows : List Row) → IfSome gone (λ g. g < length rows) → length rows ≤ 32768 → HaveOwnNumbers rows → All (λ n. n < 32768) (numbers_in rows) → AreNumbered (left_rows gone rows)
+numbered_left gone rows in' few differ all = record {
+  few = (let n = left_most gone rows in' in omega arith);
+  differ = left_differ gone rows in' differ;
+  low = left_low gone rows in' all;
+}
+
+pub numbered_with : (gone : Option ℕ) (rows : List Row) (row : Row) (at : ℕ) → IfSome gone (λ g. g < length rows) → at ≤ length (left_rows gone rows) → length (left_rows gone rows) < 32768 → IsFresh row.number (left_rows gone rows) → row.number < 32768 →
+    HaveOwnNumbers rows → All (λ n. n < 32768) (numbers_in rows) → AreNumbered (insert (left_rows gone rows) at row)
+numbered_with gone rows row at in' le few fresh low differ all = record {
+  few = (let n = length-insert (left_rows gone rows) at row le in omega arith);
+  differ = differ_inserted (left_rows gone rows) at row (left_differ gone rows in' differ) le fresh;
+  low = rw (map_insert (λ (r : Row). r.number) (left_rows gone rows) at row) (all_longer (λ n. n < 32768) (added_insert (numbers_in (left_rows gone rows)) at row.number) low (left_low gone rows in' all));
+}

@@ -1,0 +1,293 @@
+-- Plans, from what their parts say.
+use Rattle.std.proofs.Common.{◌≡◌, ◌≢◌, ℕ, ◌+◌, ◌<◌, ◌≤◌, List, [], length, get_or, map, Contains, ◌⊎◌, inl, inr, refl, sym, ap, ◌∙◌, subst, arith, Option, Some, None, true, false}
+use Rattle.std.specs.Prelude.{insert, remove, ◌↔◌, Box, IfSome}
+use Rattle.std.specs.declared.alloc.Global.{Global}
+use Rattle.std.specs.Ordering.{nat_cmp}
+use Rattle.std.specs.Cmp.Lexicographic.{slice_cmp}
+use Rattle.std.specs.List.Sorted.{IsStrictlySortedBy}
+use Rattle.ml_cone.specs.Label.{IsLabelList}
+use Rattle.ml_cone.specs.declared.label.Label.{Label}
+use Rattle.ml_cone.specs.declared.slot.Slot.{Slot}
+use Rattle.ml_cone.specs.declared.slot.Span.{Span}
+use Rattle.ml_watch.specs.declared.change.Change.{Change}
+use Rattle.ml_store.specs.Rows.{numbers_in, labels_in, slots_in, HasId, IsFresh}
+use Rattle.ml_store.specs.declared.row.Row.{Row}
+use Rattle.ml_store.proofs.Lists.{map_insert, map_remove, map_contains, contains_map, contained, added_insert}
+use Rattle.std.proofs.lemmas.List.Edits.{length-insert, get_or-insert_at}
+use Rattle.ml_repair.specs.Changes.{Ranged, IsStateOf, AreChanges}
+use Rattle.ml_repair.specs.Cost.{IsCost}
+use Rattle.ml_repair.specs.Edit.{IsEdited}
+use Rattle.ml_repair.specs.Placed.{IsPlaceFor}
+use Rattle.ml_repair.specs.Plan.{Planned, IsPlanOf, CanBeMade, planned_rows, kept_rows, rows_with, with_row, without_id, moved_row, moved_rows, slot_for}
+use Rattle.ml_repair.specs.Repair.{AreSettled}
+use Rattle.ml_repair.specs.Roster.{AreNumbered}
+use Rattle.ml_repair.specs.Settled.{IsSettled}
+use Rattle.ml_repair.specs.Stays.{IsStayChange, IsChangeBetween}
+use Rattle.ml_repair.specs.Touched.{AreTouched}
+use Rattle.ml_repair.specs.declared.edit.LabelEdit.{LabelEdit}
+use Rattle.ml_repair.specs.declared.edit.LabelEdit.TheVariants.{Add, Remove, Replace}
+use Rattle.ml_repair.specs.declared.edit.Moved.{Moved}
+use Rattle.ml_repair.proofs.Changing.{ranged, standing, is_absent, are_changes, edited_change, change_same}
+use Rattle.ml_repair.proofs.Placing.{list_insert, list_remove}
+use Rattle.ml_repair.proofs.Edited.{moved_none}
+use Rattle.ml_repair.proofs.NearRosters.{numbered_left, numbered_with}
+use Rattle.ml_repair.proofs.Present.{labels-moved, length-labels, low_number}
+use Rattle.std.proofs.lemmas.List.{length-map}
+use Rattle.ml_store.proofs.Different.{removed_gone}
+use Rattle.ml_store.proofs.Naming.{number_read}
+use Rattle.ml_repair.proofs.Shapes.{AreLeft, AreJoinedBy, label_of, edit_is, edited_is, settled_after, left_remove, left_all, left_no_id, without_remove_is, joined_none, joined_some, come_is, place_of_id, no_id, low_of_rows}
+
+planned_is : (plan : Planned) (rows : List Row) → planned_rows plan rows ≡ rows_with plan.edit (moved_rows plan.moved (kept_rows plan.edit rows))
+unfolding planned_rows
+planned_is plan rows = refl
+
+module _ (rows left all : List Row) (moved : List Moved) (id : List ℕ) (come : Option Row) (are : AreLeft rows left id) (joined : AreJoinedBy left all id come) (edit : LabelEdit) (changes : List Change) (n : ℕ)
+    (settled : IsSettled rows) (numbered_all : AreNumbered all) (up_all : IsLabelList (labels_in all)) (slots : AreSettled all moved)
+    (made : rows_with edit (moved_rows moved (kept_rows edit rows)) ≡ moved_rows moved all) where
+  abbrev pub the_plan : Planned
+  the_plan = record { edit = edit; moved = moved; changes = changes; evaluated = n }
+
+  pub planned : planned_rows (record { edit = edit; moved = moved; changes = changes; evaluated = n }) rows ≡ moved_rows moved all
+  planned = planned_is (record { edit = edit; moved = moved; changes = changes; evaluated = n }) rows ∙ made
+
+  pub plan_of_state : CanBeMade edit rows → IsPlanOf (record { edit = edit; moved = moved; changes = changes; evaluated = n }) rows
+  plan_of_state possible = record { possible = possible; settled = subst IsSettled (sym planned) (settled_after all moved numbered_all up_all slots) }
+
+  pub plan_labels : IsEdited id (label_of come) (labels_in rows) (labels_in (planned_rows (record { edit = edit; moved = moved; changes = changes; evaluated = n }) rows))
+  plan_labels = subst (λ (rs : List Row). IsEdited id (label_of come) (labels_in rows) (labels_in rs)) (sym planned) (edited_is rows left all moved id come are joined)
+
+  pub plan_changes : (was is : Option Ranged) → IsStateOf (labels_in rows) (slots_in rows) id was → IsStateOf (labels_in (moved_rows moved all)) (slots_in (moved_rows moved all)) id is →
+      IsStrictlySortedBy (slice_cmp nat_cmp) (map (λ change. change.id) changes) → ((c : Change) → Contains changes c ↔ (IsStayChange left moved c ⊎ ((c ≡ edited_change id was is) × (was ≢ is)))) →
+      AreChanges (labels_in rows) (slots_in rows) (labels_in (planned_rows (record { edit = edit; moved = moved; changes = changes; evaluated = n }) rows)) (slots_in (planned_rows (record { edit = edit; moved = moved; changes = changes; evaluated = n }) rows)) changes
+  plan_changes was is before after sorted same =
+      subst (λ (rs : List Row). AreChanges (labels_in rows) (slots_in rows) (labels_in rs) (slots_in rs) changes) (sym planned)
+      (are_changes rows (moved_rows moved all) left moved id (edit_is rows left all moved id come are joined settled.in_order up_all) was is before after changes sorted same)
+
+  pub plan_cost : IsCost (labels_in rows) (labels_in all) id n → IsCost (labels_in rows) (labels_in (planned_rows (record { edit = edit; moved = moved; changes = changes; evaluated = n }) rows)) id n
+  plan_cost cost = subst (λ (ls : List Label). IsCost (labels_in rows) ls id n) (sym (ap labels_in planned ∙ labels-moved all moved)) cost
+
+-- ---- states of the edited label
+
+pub state_there : (rows : List Row) (r : Row) (id : List ℕ) → Contains rows r → r.label.order.id ≡ id → IsStateOf (labels_in rows) (slots_in rows) id (Some (ranged r))
+state_there rows r id there is = subst (λ (i : List ℕ). IsStateOf (labels_in rows) (slots_in rows) i (Some (ranged r))) is (standing rows r there)
+
+pub state_gone : (rows left : List Row) (moved : List Moved) (id : List ℕ) → AreLeft rows left id → IsStateOf (labels_in (moved_rows moved left)) (slots_in (moved_rows moved left)) id None
+state_gone rows left moved id are =
+    is_absent (moved_rows moved left) id (λ r there e.
+    let s = map_contains (moved_row moved) left r there in
+    (are.stayed s.0 s.1).1 (ap (λ (t : Row). t.label.order.id) s.2 ∙ e))
+
+pub state_new : (rows : List Row) (id : List ℕ) → ¬ (HasId (labels_in rows) id) → IsStateOf (labels_in rows) (slots_in rows) id None
+state_new rows id new = is_absent rows id (λ r there e. ((left_all rows id new).stayed r there).1 e)
+
+-- the row that came stands there with its slot
+pub state_come : (left : List Row) (at : ℕ) (row : Row) (moved : List Moved) → ((own : Slot) → slot_for row.number own moved ≡ own) →
+    IsStateOf (labels_in (moved_rows moved (insert left at row))) (slots_in (moved_rows moved (insert left at row))) row.label.order.id (Some (ranged row))
+state_come left at row moved kept =
+    state_there (moved_rows moved (insert left at row)) row row.label.order.id
+    (subst (Contains (moved_rows moved (insert left at row))) (ap (λ (s : Slot). record row { slot = s }) (kept row.slot)) (moved_there left at row moved)) refl
+  where
+    moved_there : (left : List Row) (at : ℕ) (row : Row) (moved : List Moved) → Contains (moved_rows moved (insert left at row)) (moved_row moved row)
+    moved_there left at row moved = contains_map (moved_row moved) (insert left at row) row (contained (added_insert left at row))
+
+-- ---- the change of the edited label
+
+pub some_edited : (edited : Change) (id : List ℕ) (was is : Option Ranged) → edited ≡ edited_change id was is → was ≢ is → (c : Change) → (Some edited ≡ Some c) ↔ ((c ≡ edited_change id was is) × (was ≢ is))
+some_edited edited id was is same differ c = (λ e. (let f : edited ≡ c = cc in sym f ∙ same, differ), λ h. ap (λ (x : Change). Some x) (same ∙ sym h.0))
+
+pub between_edited : (old new : Row) (id : List ℕ) (edited : Option Change) → new.label.order.id ≡ id → IsChangeBetween old new edited →
+    (c : Change) → (edited ≡ Some c) ↔ ((c ≡ edited_change id (Some (ranged old)) (Some (ranged new))) × (Some (ranged old) ≢ Some (ranged new)))
+between_edited old new id None is h c = (
+  λ e. absurd (let f : None ≡ Some c = e in cc),
+  λ g. absurd (g.1 (λ i. Some (record { label = h.0 i; span = record { min = (h.0 i).min; until = h.1 i } }))),
+)
+between_edited old new id (Some edited) is h c =
+    some_edited edited id (Some (ranged old)) (Some (ranged new)) (h.1 ∙ change_same _ (edited_change id (Some (ranged old)) (Some (ranged new))) is refl refl)
+    (λ e. let f : ranged old ≡ ranged new = cc in h.0 (ap (λ (x : Ranged). x.label) f, ap (λ (x : Ranged). x.span.until) f)) c
+
+-- what changes there are, once it is known which is that of the edited label
+pub both_same : (left : List Row) (moved : List Moved) (changes : List Change) (edited : Option Change) (E : Change → Type 0) →
+    ((c : Change) → Contains changes c ↔ (IsStayChange left moved c ⊎ (edited ≡ Some c))) → ((c : Change) → (edited ≡ Some c) ↔ E c) → (c : Change) → Contains changes c ↔ (IsStayChange left moved c ⊎ E c)
+both_same left moved changes edited E are is c =
+    (λ h. elim ((are c).0 h) [ inl s ↦ inl s | inr e ↦ inr ((is c).0 e) ], λ h. elim h [ inl s ↦ (are c).1 (inl s) | inr e ↦ (are c).1 (inr ((is c).1 e)) ])
+
+-- ---- costs
+
+pub cost_out : (rows : List Row) (at : ℕ) (id : List ℕ) (n : ℕ) → at < length rows → ((d : Row) → (get_or rows at d).label.order.id ≡ id) → ¬ (HasId (labels_in (remove rows at)) id) → AreTouched (labels_in rows) at false n → IsCost (labels_in rows) (labels_in (remove rows at)) id n
+cost_out rows at id n lt here none touched = record {
+  gone = n;
+  come = 0;
+  touched_gone = inl (at, place_of_id rows at id lt here, touched);
+  touched_come = inr (no_id (labels_in (remove rows at)) id none, refl);
+  both = omega arith;
+}
+
+come_in : (rows : List Row) (at : ℕ) (row : Row) → at ≤ length rows → at < length (insert rows at row)
+come_in rows at row le = let n = length-insert rows at row le in omega arith
+
+pub cost_in : (rows : List Row) (at : ℕ) (row : Row) (n : ℕ) → at ≤ length rows → ¬ (HasId (labels_in rows) row.label.order.id) → AreTouched (labels_in (insert rows at row)) at true n → IsCost (labels_in rows) (labels_in (insert rows at row)) row.label.order.id n
+cost_in rows at row n le new touched = record {
+  gone = 0;
+  come = n;
+  touched_gone = inr (no_id (labels_in rows) row.label.order.id new, refl);
+  touched_come = inl (at, place_of_id (insert rows at row) at row.label.order.id (come_in rows at row le) (λ d. ap (λ (t : Row). t.label.order.id) (get_or-insert_at rows at row d le)), touched);
+  both = omega arith;
+}
+
+pub cost_both : (rows : List Row) (at : ℕ) (to : ℕ) (row : Row) (n m : ℕ) → at < length rows → ((d : Row) → (get_or rows at d).label.order.id ≡ row.label.order.id) → to ≤ length (remove rows at) →
+    AreTouched (labels_in rows) at false n → AreTouched (labels_in (insert (remove rows at) to row)) to true m → IsCost (labels_in rows) (labels_in (insert (remove rows at) to row)) row.label.order.id (n + m)
+cost_both rows at to row n m lt here le gone come = record {
+  gone = n;
+  come = m;
+  touched_gone = inl (at, place_of_id rows at row.label.order.id lt here, gone);
+  touched_come = inl (to, place_of_id (insert (remove rows at) to row) to row.label.order.id (come_in (remove rows at) to row le) (λ d. ap (λ (t : Row). t.label.order.id) (get_or-insert_at (remove rows at) to row d le)), come);
+  both = refl;
+}
+
+pub span_same : (r : Row) (s : Span) → s.min ≡ r.label.min → s.until ≡ r.slot.until → s ≡ (ranged r).span
+span_same r s e f = λ i. record { min = e i; until = f i }
+
+-- ---- the start
+
+pub start_settled : (rows : List Row) (moved : List Moved) → moved ≡ [] → IsSettled rows → AreSettled rows moved
+start_settled rows moved none settled = rw (none, moved_none rows) settled.slots
+
+-- ---- a label comes
+
+module _ (rows : List Row) (at : ℕ) (row : Row) (boxed : Box Row Global) (moved : List Moved) (changes : List Change) (n : ℕ) (settled : IsSettled rows) (new : ¬ (HasId (labels_in rows) row.label.order.id))
+    (few : length rows < 32768) (fresh : IsFresh row.number rows) (low : row.number < 32768) (place : IsPlaceFor (labels_in rows) row.label.order at) (slots : AreSettled (insert rows at row) moved)
+    (kept : (own : Slot) → slot_for row.number own moved ≡ own) (is_row : boxed.value ≡ row) where
+  at_most : at ≤ length rows
+  at_most = let many = length-labels rows in let le = place.within in omega arith
+
+  numbered_in : AreNumbered (insert rows at row)
+  numbered_in = numbered_with None rows row at tt at_most few fresh low settled.own_numbers (low_of_rows rows settled.low_numbers)
+
+  up_in : IsLabelList (labels_in (insert rows at row))
+  up_in = rw (map_insert (λ (r : Row). r.label) rows at row) (list_insert (labels_in rows) at row.label place new settled.in_order)
+
+  made_in : rows_with (Add boxed) (moved_rows moved (kept_rows (Add boxed) rows)) ≡ moved_rows moved (insert rows at row)
+  made_in = ap (λ (r : Row). with_row r (moved_rows moved rows)) is_row ∙ come_is rows at row moved place kept
+
+  pub in_state : IsPlanOf (record { edit = Add boxed; moved = moved; changes = changes; evaluated = n }) rows
+  in_state = plan_of_state rows rows (insert rows at row) moved row.label.order.id (Some row) (left_all rows row.label.order.id new) (joined_some rows at row) (Add boxed) changes n settled numbered_in up_in slots made_in (rw is_row new)
+
+  pub in_labels : IsEdited row.label.order.id (Some row.label) (labels_in rows) (labels_in (planned_rows (record { edit = Add boxed; moved = moved; changes = changes; evaluated = n }) rows))
+  in_labels = plan_labels rows rows (insert rows at row) moved row.label.order.id (Some row) (left_all rows row.label.order.id new) (joined_some rows at row) (Add boxed) changes n settled numbered_in up_in slots made_in
+
+  pub in_changes : (edited : Change) → edited ≡ edited_change row.label.order.id None (Some (ranged row)) → IsStrictlySortedBy (slice_cmp nat_cmp) (map (λ change. change.id) changes) →
+      ((c : Change) → Contains changes c ↔ (IsStayChange rows moved c ⊎ (Some edited ≡ Some c))) →
+      AreChanges (labels_in rows) (slots_in rows) (labels_in (planned_rows (record { edit = Add boxed; moved = moved; changes = changes; evaluated = n }) rows)) (slots_in (planned_rows (record { edit = Add boxed; moved = moved; changes = changes; evaluated = n }) rows)) changes
+  in_changes edited is sorted same =
+      plan_changes rows rows (insert rows at row) moved row.label.order.id (Some row) (left_all rows row.label.order.id new) (joined_some rows at row) (Add boxed) changes n settled numbered_in up_in slots made_in
+      None (Some (ranged row)) (state_new rows row.label.order.id new) (state_come rows at row moved kept) sorted
+      (both_same rows moved changes (Some edited) (λ c. (c ≡ edited_change row.label.order.id None (Some (ranged row))) × (None ≢ Some (ranged row))) same
+      (some_edited edited row.label.order.id None (Some (ranged row)) is (λ e. cc)))
+
+  pub in_cost : AreTouched (labels_in (insert rows at row)) at true n → IsCost (labels_in rows) (labels_in (planned_rows (record { edit = Add boxed; moved = moved; changes = changes; evaluated = n }) rows)) row.label.order.id n
+  in_cost touched =
+      plan_cost rows rows (insert rows at row) moved row.label.order.id (Some row) (left_all rows row.label.order.id new) (joined_some rows at row) (Add boxed) changes n settled numbered_in up_in slots made_in
+      (cost_in rows at row n at_most new touched)
+
+-- ---- a label goes
+
+module _ (rows : List Row) (at : ℕ) (id : List ℕ) (moved : List Moved) (changes : List Change) (n : ℕ) (settled : IsSettled rows) (lt : at < length rows) (here : (d : Row) → (get_or rows at d).label.order.id ≡ id)
+    (has : HasId (labels_in rows) id) (slots : AreSettled (remove rows at) moved) where
+  numbered_out : AreNumbered (remove rows at)
+  numbered_out = numbered_left (Some at) rows lt settled.few settled.own_numbers (low_of_rows rows settled.low_numbers)
+
+  pub up_out : IsLabelList (labels_in (remove rows at))
+  up_out = rw (map_remove (λ (r : Row). r.label) rows at) (list_remove (labels_in rows) at (let many = length-labels rows in omega arith) settled.in_order)
+
+  made_out : rows_with (Remove id) (moved_rows moved (kept_rows (Remove id) rows)) ≡ moved_rows moved (remove rows at)
+  made_out = ap (moved_rows moved) (without_remove_is rows at id settled.in_order lt here)
+
+  are_out : AreLeft rows (remove rows at) id
+  are_out = left_remove rows at id settled.in_order lt here
+
+  pub out_state : IsPlanOf (record { edit = Remove id; moved = moved; changes = changes; evaluated = n }) rows
+  out_state = plan_of_state rows (remove rows at) (remove rows at) moved id None are_out (joined_none (remove rows at) id) (Remove id) changes n settled numbered_out up_out slots made_out has
+
+  pub out_labels : IsEdited id None (labels_in rows) (labels_in (planned_rows (record { edit = Remove id; moved = moved; changes = changes; evaluated = n }) rows))
+  out_labels = plan_labels rows (remove rows at) (remove rows at) moved id None are_out (joined_none (remove rows at) id) (Remove id) changes n settled numbered_out up_out slots made_out
+
+  pub out_changes : (r : Row) → Contains rows r → r.label.order.id ≡ id → (edited : Change) → edited ≡ edited_change id (Some (ranged r)) None → IsStrictlySortedBy (slice_cmp nat_cmp) (map (λ change. change.id) changes) →
+      ((c : Change) → Contains changes c ↔ (IsStayChange (remove rows at) moved c ⊎ (Some edited ≡ Some c))) →
+      AreChanges (labels_in rows) (slots_in rows) (labels_in (planned_rows (record { edit = Remove id; moved = moved; changes = changes; evaluated = n }) rows)) (slots_in (planned_rows (record { edit = Remove id; moved = moved; changes = changes; evaluated = n }) rows)) changes
+  out_changes r there same_id edited is sorted same =
+      plan_changes rows (remove rows at) (remove rows at) moved id None are_out (joined_none (remove rows at) id) (Remove id) changes n settled numbered_out up_out slots made_out
+      (Some (ranged r)) None (state_there rows r id there same_id) (state_gone rows (remove rows at) moved id are_out) sorted
+      (both_same (remove rows at) moved changes (Some edited) (λ c. (c ≡ edited_change id (Some (ranged r)) None) × (Some (ranged r) ≢ None)) same
+      (some_edited edited id (Some (ranged r)) None is (λ e. cc)))
+
+  pub out_cost : AreTouched (labels_in rows) at false n → IsCost (labels_in rows) (labels_in (planned_rows (record { edit = Remove id; moved = moved; changes = changes; evaluated = n }) rows)) id n
+  out_cost touched =
+      plan_cost rows (remove rows at) (remove rows at) moved id None are_out (joined_none (remove rows at) id) (Remove id) changes n settled numbered_out up_out slots made_out
+      (cost_out rows at id n lt here (left_no_id rows at id settled.in_order lt here) touched)
+
+-- ---- a label comes in place of another
+
+module _ (rows : List Row) (at to : ℕ) (row : Row) (boxed : Box Row Global) (moved : List Moved) (changes : List Change) (n m : ℕ) (settled : IsSettled rows) (lt : at < length rows) (here : (d : Row) → (get_or rows at d).label.order.id ≡ row.label.order.id)
+    (has : HasId (labels_in rows) row.label.order.id) (few : length (remove rows at) < 32768) (fresh : IsFresh row.number (remove rows at)) (low : row.number < 32768) (place : IsPlaceFor (labels_in (remove rows at)) row.label.order to)
+    (slots : AreSettled (insert (remove rows at) to row) moved) (kept : (own : Slot) → slot_for row.number own moved ≡ own) (is_row : boxed.value ≡ row) where
+  to_most : to ≤ length (remove rows at)
+  to_most = let many = length-labels (remove rows at) in let le = place.within in omega arith
+
+  none_left : ¬ (HasId (labels_in (remove rows at)) row.label.order.id)
+  none_left = left_no_id rows at row.label.order.id settled.in_order lt here
+
+  up_left : IsLabelList (labels_in (remove rows at))
+  up_left = rw (map_remove (λ (r : Row). r.label) rows at) (list_remove (labels_in rows) at (let many = length-labels rows in omega arith) settled.in_order)
+
+  numbered_instead : AreNumbered (insert (remove rows at) to row)
+  numbered_instead = numbered_with (Some at) rows row to lt to_most few fresh low settled.own_numbers (low_of_rows rows settled.low_numbers)
+
+  up_instead : IsLabelList (labels_in (insert (remove rows at) to row))
+  up_instead = rw (map_insert (λ (r : Row). r.label) (remove rows at) to row) (list_insert (labels_in (remove rows at)) to row.label place none_left up_left)
+
+  are_instead : AreLeft rows (remove rows at) row.label.order.id
+  are_instead = left_remove rows at row.label.order.id settled.in_order lt here
+
+  made_instead : rows_with (Replace boxed) (moved_rows moved (kept_rows (Replace boxed) rows)) ≡ moved_rows moved (insert (remove rows at) to row)
+  made_instead =
+      ap (λ (r : Row). with_row r (moved_rows moved (without_id r.label.order.id rows))) is_row
+      ∙ ap (λ (rs : List Row). with_row row (moved_rows moved rs)) (without_remove_is rows at row.label.order.id settled.in_order lt here)
+      ∙ come_is (remove rows at) to row moved place kept
+
+  pub instead_state : IsPlanOf (record { edit = Replace boxed; moved = moved; changes = changes; evaluated = n + m }) rows
+  instead_state = plan_of_state rows (remove rows at) (insert (remove rows at) to row) moved row.label.order.id (Some row) are_instead (joined_some (remove rows at) to row) (Replace boxed) changes (n + m) settled numbered_instead up_instead slots made_instead (rw is_row has)
+
+  pub instead_labels : IsEdited row.label.order.id (Some row.label) (labels_in rows) (labels_in (planned_rows (record { edit = Replace boxed; moved = moved; changes = changes; evaluated = n + m }) rows))
+  instead_labels = plan_labels rows (remove rows at) (insert (remove rows at) to row) moved row.label.order.id (Some row) are_instead (joined_some (remove rows at) to row) (Replace boxed) changes (n + m) settled numbered_instead up_instead slots made_instead
+
+  pub instead_changes : (r : Row) → Contains rows r → r.label.order.id ≡ row.label.order.id → (edited : Option Change) → IsChangeBetween r row edited → IsStrictlySortedBy (slice_cmp nat_cmp) (map (λ change. change.id) changes) →
+      ((c : Change) → Contains changes c ↔ (IsStayChange (remove rows at) moved c ⊎ (edited ≡ Some c))) →
+      AreChanges (labels_in rows) (slots_in rows) (labels_in (planned_rows (record { edit = Replace boxed; moved = moved; changes = changes; evaluated = n + m }) rows)) (slots_in (planned_rows (record { edit = Replace boxed; moved = moved; changes = changes; evaluated = n + m }) rows)) changes
+  instead_changes r there same_id edited between sorted same =
+      plan_changes rows (remove rows at) (insert (remove rows at) to row) moved row.label.order.id (Some row) are_instead (joined_some (remove rows at) to row) (Replace boxed) changes (n + m) settled numbered_instead up_instead slots made_instead
+      (Some (ranged r)) (Some (ranged row)) (state_there rows r row.label.order.id there same_id) (state_come (remove rows at) to row moved kept) sorted
+      (both_same (remove rows at) moved changes edited (λ c. (c ≡ edited_change row.label.order.id (Some (ranged r)) (Some (ranged row))) × (Some (ranged r) ≢ Some (ranged row))) same
+      (between_edited r row row.label.order.id edited refl between))
+
+  pub instead_cost : AreTouched (labels_in rows) at false n → AreTouched (labels_in (insert (remove rows at) to row)) to true m →
+      IsCost (labels_in rows) (labels_in (planned_rows (record { edit = Replace boxed; moved = moved; changes = changes; evaluated = n + m }) rows)) row.label.order.id (n + m)
+  instead_cost gone come =
+      plan_cost rows (remove rows at) (insert (remove rows at) to row) moved row.label.order.id (Some row) are_instead (joined_some (remove rows at) to row) (Replace boxed) changes (n + m) settled numbered_instead up_instead slots made_instead
+      (cost_both rows at to row n m lt here to_most gone come)
+
+-- ---- the label that goes
+
+pub up_removed : (rows : List Row) (at : ℕ) → IsSettled rows → at < length rows → IsLabelList (labels_in (remove rows at))
+up_removed rows at settled lt = rw (map_remove (λ (r : Row). r.label) rows at) (list_remove (labels_in rows) at (let many = length-labels rows in omega arith) settled.in_order)
+
+pub number_gone : (rows : List Row) (at : ℕ) (r : Row) → IsSettled rows → at < length rows → r ≡ get_or rows at r → IsFresh r.number (remove rows at)
+number_gone rows at r settled lt read there =
+    let many = length-map rows (λ (t : Row). t.number) in
+    removed_gone (numbers_in rows) at (omega arith) settled.own_numbers (rw (number_read rows at r lt read, ← map_remove (λ (t : Row). t.number) rows at) there)
+
+pub number_low : (rows : List Row) (at : ℕ) (r : Row) → IsSettled rows → at < length rows → r ≡ get_or rows at r → r.number < 32768
+number_low rows at r settled lt read = low_number rows at r (low_of_rows rows settled.low_numbers) lt read
+
+pub between_own : (old new : Row) (edited : Option Change) (labels : List Label) → IsChangeBetween old new edited → ¬ (HasId labels new.label.order.id) → IfSome edited (λ c. ¬ (HasId labels c.id))
+between_own old new None labels h none = tt
+between_own old new (Some c) labels h none = rw h.1 none

@@ -1,0 +1,36 @@
+use Rattle.std.proofs.Common.{◌<◌, ◌≤◌, ◌⊎◌, inl, inr}
+use Rattle.ml_repair.proofs.Gathering.{gathered_none, gathered_more, gathered_enough, bound_more, all_within}
+use Rattle.ml_repair.proofs.gather.gather.Goals as goal
+use Rattle.ml_repair.proofs.gather.gather.Goals.{then-loop-band-test+else-band-lt28, else-loop-band-test}
+
+pub loop-band-init : goal.loop-band-init
+loop-band-init c = (
+  c.band-band.result,
+  rw c.min.ensures at c.band-band.ensures.band,
+  rw (c.max-bound.ensures, c.new-places.ensures) (gathered_none c.args.roster.now c.args.moves.now c.args.low.now c.args.at c.args.comes c.args.i c.band-band.result),
+)
+
+pub least-bound-requires-clause-in_roster : goal.least-bound-requires-clause-in_roster
+least-bound-requires-clause-in_roster c =
+    let so_far = c.loop-band.invariant.2 in
+    rw c.as_slice.ensures (all_within c.args.roster.now c.args.at c.args.comes c.args.i c.sift.new.out c.requires
+    (λ p h. elim (c.in_ok-sift.ensures.sound p h) [ inl old ↦ so_far.stand p old | inr new ↦ new ]))
+
+pub least-bound-requires-clause-bound : goal.least-bound-requires-clause-bound
+least-bound-requires-clause-bound c =
+    rw c.as_slice.ensures (bound_more c.args.roster.now c.args.moves.now c.args.low.now c.loop-band.places c.sift.new.out c.loop-band.bound c.in_ok-sift.ensures.kept c.loop-band.invariant.2.bound_is)
+
+pub loop-band-preserved : goal.loop-band-preserved
+loop-band-preserved c =
+    let i = c.loop-band.invariant in
+    (i.0, i.1, gathered_more c.args.roster.now c.args.moves.now c.args.low.now c.args.at c.args.comes c.args.i i.0 c.loop-band.band c.loop-band.bound c.least-bound.result c.loop-band.places c.sift.new.out i.2 c.in_ok-sift.ensures (rw c.as_slice.ensures at c.least-bound.ensures))
+
+pub returns-clause-enough : goal.returns-clause-enough
+returns-clause-enough c =
+    let i = c.loop-band.invariant in
+    let stop : (c.band.result < c.loop-band.band) ⊎ (28 ≤ c.loop-band.band) =
+    elim c.loop-band-test.branch [
+      | then-loop-band-test+else-band-lt28 w ↦ inr w.if-band-lt28.false
+      | else-loop-band-test w ↦ inl w.loop-band-test.false
+    ] in
+    gathered_enough c.args.roster.now c.args.moves.now c.args.low.now c.args.at c.args.comes c.args.i i.0 c.loop-band.band c.band.result c.loop-band.bound c.loop-band.places c.ascending.result.items i.2 i.1 c.band.ensures.band stop c.ascending.ensures.same

@@ -1,0 +1,139 @@
+use Rattle.std.proofs.Common.{◌≡◌, ℕ, ◌+◌, ◌<◌, ◌≢◌, arith, get_or, refl, sym, subst, ap, ◌∙◌, length, true, false, inl, inr, replicate}
+use Rattle.std.specs.Prelude.{IsTrue}
+use Rattle.std.proofs.lemmas.List.{get_or_read, get_or-replicate}
+use Rattle.std.proofs.lemmas.List.{length-map}
+use Rattle.ml_store.specs.Rows.{numbers_in, number_at, labels_in}
+use Rattle.ml_store.specs.declared.row.Row.{Row}
+use Rattle.ml_store.proofs.Different.{same_place}
+use Rattle.ml_repair.specs.Repair.{present_slots}
+use Rattle.ml_repair.proofs.Present.{length-labels, length-present}
+use Rattle.ml_repair.proofs.Repairing.{Repairing}
+use Rattle.ml_repair.proofs.RepairSteps.{repairing_start, repairing_ends, repairing_kept, repairing_moved, repairing_still, repaired_own, repaired_size, first_count}
+use Rattle.ml_repair.proofs.repair.repair.Goals as goal
+use Rattle.ml_repair.proofs.repair.repair.Goals.{then-comes, else-comes, then-index+in_ok-renew, else-index, then-branch+in_ok-wake-2, else-branch}
+
+pub loop-i-init : goal.loop-i-init
+loop-i-init g c =
+    let rows = c.args.roster.now in
+    let labels = labels_in rows in
+    let old = present_slots rows c.args.moves.now in
+    let many = length-labels rows in
+    let at_in : c.args.at < length labels = omega arith in
+    let off : c.in_ok-waits.waits.items ≡ replicate (length rows) false = rw c.len-many.ensures.count at c.in_ok-waits.ensures.items_if_clones_equal (λ y e. e) in
+    let idle : (k : ℕ) → k < length rows → get_or c.in_ok-waits.waits.items k false ≡ false = λ k k_in. rw off (get_or-replicate (length rows) k false false k_in) in
+    let start = repairing_start c.rivals_or_free.ensures c.smaller_ends.ensures c.carried.ensures (number_at rows) labels old c.args.at c.args.comes at_in c.requires.was
+    (λ k. IsTrue (get_or c.wake.new.waits.items k false)) c.requires.here
+    (λ k k_in lt.
+    let w = c.in_ok-wake.ensures.woken k (omega arith) in
+    (λ t. elim (w.0 t) [ inl a ↦ absurd (let e : false ≡ true = sym (idle k (omega arith)) ∙ a in cc) | inr b ↦ b ], λ b. w.1 (inr b))) in
+    elim c.if-comes.branch [
+      | then-comes w ↦ (
+        c.len-many.ensures.count,
+        record {
+          repairing = rw w.evaluated-is (subst (Repairing (number_at rows) labels old c.args.at c.args.comes (c.args.at + 1) old (λ k. IsTrue (get_or c.wake.new.waits.items k false))) (ap first_count w.if-comes.true) start);
+          one_wait = c.in_ok-wake.ensures.one_each;
+          spent = rw (w.evaluated-is, w.if-comes.true) refl;
+          few = rw w.evaluated-is (omega arith);
+          kept = λ own. refl;
+        },
+      )
+      | else-comes w ↦ (
+        c.len-many.ensures.count,
+        record {
+          repairing = rw w.evaluated-is (subst (Repairing (number_at rows) labels old c.args.at c.args.comes (c.args.at + 1) old (λ k. IsTrue (get_or c.wake.new.waits.items k false))) (ap first_count w.if-comes.false) start);
+          one_wait = c.in_ok-wake.ensures.one_each;
+          spent = rw (w.evaluated-is, w.if-comes.false) refl;
+          few = rw w.evaluated-is (omega arith);
+          kept = λ own. refl;
+        },
+      )
+    ]
+
+pub renew-requires-clause-ends : goal.renew-requires-clause-ends
+renew-requires-clause-ends g c =
+    let rows = c.args.roster.now in
+    let many = length-labels rows in
+    repairing_ends c.rivals_or_free.ensures c.smaller_ends.ensures c.carried.ensures (number_at rows) (labels_in rows) (present_slots rows c.args.moves.now) c.args.at c.args.comes (omega arith) c.requires.was
+    c.loop-i.i (present_slots rows c.loop-i.moves) (λ k. IsTrue (get_or c.loop-i.waits.items k false)) c.loop-i.evaluated c.loop-i.invariant.1.repairing (omega arith)
+
+pub loop-i-preserved : goal.loop-i-preserved
+loop-i-preserved g c =
+    let rows = c.args.roster.now in
+    let labels = labels_in rows in
+    let old = present_slots rows c.args.moves.now in
+    let slots = present_slots rows c.loop-i.moves in
+    let many = length-labels rows in
+    let at_in : c.args.at < length labels = omega arith in
+    let so_far = c.loop-i.invariant.1.repairing in
+    let one_wait = c.loop-i.invariant.1.one_wait in
+    let few = c.loop-i.invariant.1.few in
+    let before = c.loop-i.invariant.1.spent in
+    let i_in : c.loop-i.i < length labels = omega arith in
+    let read : c.index.result.now ≡ get_or c.loop-i.waits.items c.loop-i.i false = get_or_read c.loop-i.waits.items c.loop-i.i c.index.result.now (omega arith) c.index.ensures false in
+    elim c.if-index.branch [
+      | then-index+in_ok-renew w ↦
+          let waited : get_or c.loop-i.waits.items c.loop-i.i false ≡ true = sym read ∙ w.if-index.true in
+          let next = present_slots rows w.renew.new.moves in
+          let len = length-present rows w.renew.new.moves in
+          let spent = w.in_ok-renew.ensures.spent in
+          let numbers = length-map rows (λ (r : Row). r.number) in
+          let apart : number_at rows c.args.at ≢ number_at rows c.loop-i.i = (λ e. let f = same_place (numbers_in rows) c.args.at c.loop-i.i c.len-many.ensures.numbered.differ (omega arith) (omega arith) e in let beyond = so_far.from in omega arith) in
+          elim w.if-branch.branch [
+            | then-branch+in_ok-wake-2 w' ↦ (
+              c.loop-i.invariant.0,
+              record {
+                repairing = rw (w.moves-is, w.waits-is, w'.waits-is, w.evaluated-is)
+                    (repairing_moved c.rivals_or_free.ensures c.smaller_ends.ensures c.carried.ensures (number_at rows) labels old c.args.at c.args.comes at_in c.requires.was c.loop-i.i slots
+                    (λ k. IsTrue (get_or c.loop-i.waits.items k false)) c.loop-i.evaluated so_far next i_in (omega arith) w.in_ok-renew.ensures.others w.in_ok-renew.ensures.own waited
+                    (λ k. IsTrue (get_or w'.wake-then-branch.new.waits.items k false)) (rw w'.if-branch.true at w.in_ok-renew.ensures.moved)
+                    (λ k k_in lt. w'.in_ok-wake-2.ensures.woken k (omega arith)));
+                one_wait = rw (w.waits-is, w'.waits-is) w'.in_ok-wake-2.ensures.one_each;
+                spent = rw (w.steps-is, w.evaluated-is) (omega arith);
+                few = rw w.evaluated-is (omega arith);
+                kept = rw w.moves-is (λ own. w.in_ok-renew.ensures.same (number_at rows c.args.at) own apart ∙ c.loop-i.invariant.1.kept own);
+              },
+            )
+            | else-branch w' ↦ (
+              c.loop-i.invariant.0,
+              record {
+                repairing = rw (w.moves-is, w.waits-is, w'.waits-is, w.evaluated-is)
+                    (repairing_still c.rivals_or_free.ensures c.smaller_ends.ensures c.carried.ensures (number_at rows) labels old c.args.at c.args.comes at_in c.requires.was c.loop-i.i slots
+                    (λ k. IsTrue (get_or c.loop-i.waits.items k false)) c.loop-i.evaluated so_far next i_in (omega arith) w.in_ok-renew.ensures.others w.in_ok-renew.ensures.own waited
+                    (rw w'.if-branch.false at w.in_ok-renew.ensures.moved));
+                one_wait = rw (w.waits-is, w'.waits-is) one_wait;
+                spent = rw (w.steps-is, w.evaluated-is) (omega arith);
+                few = rw w.evaluated-is (omega arith);
+                kept = rw w.moves-is (λ own. w.in_ok-renew.ensures.same (number_at rows c.args.at) own apart ∙ c.loop-i.invariant.1.kept own);
+              },
+            )
+          ]
+      | else-index w ↦
+          let idle : get_or c.loop-i.waits.items c.loop-i.i false ≡ false = sym read ∙ w.if-index.false in (
+            c.loop-i.invariant.0,
+            record {
+              repairing = rw (w.moves-is, w.waits-is, w.evaluated-is)
+                  (repairing_kept c.rivals_or_free.ensures c.smaller_ends.ensures c.carried.ensures (number_at rows) labels old c.args.at c.args.comes at_in c.requires.was c.loop-i.i slots
+                  (λ k. IsTrue (get_or c.loop-i.waits.items k false)) c.loop-i.evaluated so_far i_in (λ t. let e : false ≡ true = sym idle ∙ t in cc));
+              one_wait = rw w.waits-is one_wait;
+              spent = rw (w.steps-is, w.evaluated-is) before;
+              few = rw w.evaluated-is (omega arith);
+              kept = rw w.moves-is c.loop-i.invariant.1.kept;
+            },
+          )
+    ]
+
+pub returns-clause-own : goal.returns-clause-own
+returns-clause-own g c =
+    let rows = c.args.roster.now in
+    let many = length-labels rows in
+    let e : c.loop-i.i ≡ length (labels_in rows) = (let m = c.loop-i.invariant.0 in omega arith) in
+    repaired_own c.rivals_or_free.ensures c.smaller_ends.ensures c.carried.ensures (number_at rows) (labels_in rows) (present_slots rows c.args.moves.now) c.args.at c.args.comes (omega arith) c.requires.was
+    (present_slots rows c.loop-i.moves) (λ k. IsTrue (get_or c.loop-i.waits.items k false)) c.loop-i.evaluated (rw e at c.loop-i.invariant.1.repairing)
+
+pub returns-clause-touched : goal.returns-clause-touched
+returns-clause-touched g c =
+    let rows = c.args.roster.now in
+    let many = length-labels rows in
+    let e : c.loop-i.i ≡ length (labels_in rows) = (let m = c.loop-i.invariant.0 in omega arith) in
+    repaired_size c.rivals_or_free.ensures c.smaller_ends.ensures c.carried.ensures (number_at rows) (labels_in rows) (present_slots rows c.args.moves.now) c.args.at c.args.comes (omega arith) c.requires.was
+    (present_slots rows c.loop-i.moves) (λ k. IsTrue (get_or c.loop-i.waits.items k false)) c.loop-i.evaluated (rw e at c.loop-i.invariant.1.repairing)

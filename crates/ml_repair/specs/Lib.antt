@@ -1,0 +1,14 @@
+pub mod Size
+pub mod Touched
+pub mod Cost
+pub mod Changes
+pub mod Settled
+pub mod Edit
+pub mod Plan
+pub mod Shown
+pub mod Moves
+pub mod Roster
+pub mod Repair
+pub mod Placed
+pub mod Stays
+pub mod Carry

@@ -1,0 +1,115 @@
+-- Plans of an edit, and what they make of the live labels.
+use Rattle.std.specs.Prelude.{ℕ, ◌+◌, ◌≤◌, ◌==◌, not, List, [], ◌∷◌, map, filter, if◌then◌else◌}
+use Rattle.std.specs.Str.{bytes_eq}
+use Rattle.std.specs.Ordering.{is_lt}
+use Rattle.ml_cone.specs.Order.{order_cmp}
+use Rattle.ml_cone.specs.declared.slot.Slot.{Slot}
+use Rattle.ml_grid.specs.Count.{entry_count}
+use Rattle.ml_watch.specs.declared.change.Change.{Change}
+use Rattle.ml_store.specs.Pairs.{pair_count}
+use Rattle.ml_store.specs.Rows.{labels_in, HasId, Stored}
+use Rattle.ml_store.specs.declared.row.Row.{Row}
+use Rattle.ml_repair.specs.Settled.{IsSettled}
+use Rattle.ml_repair.specs.declared.edit.LabelEdit.{LabelEdit}
+use Rattle.ml_repair.specs.declared.edit.LabelEdit.TheVariants.{Add, Remove, Replace}
+use Rattle.ml_repair.specs.declared.edit.Moved.{Moved}
+use Rattle.ml_repair.specs.declared.room.Room.{Room}
+
+-- what contracts see of a plan: its edit, the new slots of labels that stay, by number, what it changes, and how many labels were evaluated for it
+pub record Planned : Type 0 where
+  pub edit : LabelEdit
+  pub moved : List Moved
+  pub changes : List Change
+  pub evaluated : ℕ
+
+-- the edit can be made: its label is new, or there is one with its id
+abbrev pub CanBeMade : LabelEdit → List Row → Type 0
+CanBeMade (Add row) rows = ¬ (HasId (labels_in rows) row.value.label.order.id)
+CanBeMade (Remove id) rows = HasId (labels_in rows) id
+CanBeMade (Replace row) rows = HasId (labels_in rows) row.value.label.order.id
+
+-- the rows but that with the id
+abbrev pub without_id : List ℕ → List Row → List Row
+without_id id rows = filter (λ r. not (bytes_eq r.label.order.id id)) rows
+
+-- the rows that stay
+abbrev pub kept_rows : LabelEdit → List Row → List Row
+kept_rows (Add row) rows = rows
+kept_rows (Remove id) rows = without_id id rows
+kept_rows (Replace row) rows = without_id row.value.label.order.id rows
+
+-- the slot for a number: the last new one that there is for it, or its own
+abbrev pub slot_for : ℕ → Slot → List Moved → Slot
+slot_for number own [] = own
+slot_for number own (m ∷ moved) = slot_for number (if m.number == number then m.slot else own) moved
+
+-- the row with its new slot
+abbrev pub moved_row : List Moved → Row → Row
+moved_row moved r = record r { slot = slot_for r.number r.slot moved }
+
+-- the rows with their new slots
+abbrev pub moved_rows : List Moved → List Row → List Row
+moved_rows moved rows = map (moved_row moved) rows
+
+-- the rows, and one more in its place in priority order
+abbrev pub with_row : Row → List Row → List Row
+with_row row [] = row ∷ []
+with_row row (r ∷ rows) = if is_lt (order_cmp r.label.order row.label.order) then r ∷ with_row row rows else row ∷ (r ∷ rows)
+
+-- the rows, and that which comes, if one does
+abbrev pub rows_with : LabelEdit → List Row → List Row
+rows_with (Add row) rows = with_row row.value rows
+rows_with (Remove id) rows = rows
+rows_with (Replace row) rows = with_row row.value rows
+
+-- the rows after the plan: those that stay with their new slots, and that which comes
+unfoldable pub planned_rows : Planned → List Row → List Row
+planned_rows plan rows = rows_with plan.edit (moved_rows plan.moved (kept_rows plan.edit rows))
+
+-- the plan is of these rows: its edit can be made, and its slots are those of the labels after it
+pub record IsPlanOf (plan : Planned) (rows : List Row) : Type 0 where
+  pub possible : CanBeMade plan.edit rows
+  pub settled : IsSettled (planned_rows plan rows)
+
+-- how many pairs come with new slots
+abbrev pub moved_pairs : List Moved → ℕ
+moved_pairs [] = 0
+moved_pairs (m ∷ moved) = pair_count m.slot.blocker + moved_pairs moved
+
+-- how many more labels there are after an edit
+abbrev pub labels_needed : LabelEdit → ℕ
+labels_needed (Add row) = 1
+labels_needed (Remove id) = 0
+labels_needed (Replace row) = 0
+
+-- how many entries of the grid come with an edit
+abbrev pub cells_needed : LabelEdit → ℕ
+cells_needed (Add row) = entry_count row.value.label
+cells_needed (Remove id) = 0
+cells_needed (Replace row) = entry_count row.value.label
+
+-- how many pairs come with the label of an edit
+abbrev pub pairs_needed : LabelEdit → ℕ
+pairs_needed (Add row) = pair_count row.value.slot.blocker
+pairs_needed (Remove id) = 0
+pairs_needed (Replace row) = pair_count row.value.slot.blocker
+
+-- the room that a plan may need at once; what goes gives its own room besides
+abbrev pub room_of : Planned → Room
+room_of plan = record {
+  labels = labels_needed plan.edit;
+  cells = cells_needed plan.edit;
+  blocks = moved_pairs plan.moved + pairs_needed plan.edit;
+}
+
+-- there is so much room
+pub record HasRoom (room : Room) (held : Stored) : Type 0 where
+  pub labels : room.labels ≤ held.labels
+  pub cells : room.cells ≤ held.cells
+  pub blocks : room.blocks ≤ held.blocks
+
+-- the room did not shrink
+pub record KeepsRoom (old new : Stored) : Type 0 where
+  pub labels : old.labels ≤ new.labels
+  pub cells : old.cells ≤ new.cells
+  pub blocks : old.blocks ≤ new.blocks

@@ -1,0 +1,78 @@
+-- Slots while an edit is planned. The edited label stands in the list, at the place `at`, whether it comes or goes.
+use Rattle.std.specs.Prelude.{ℕ, ◌≡◌, ◌≢◌, ◌<◌, ◌⊎◌, ◌↔◌, Bool, true, false, IsTrue, List, length, slice_index, slice_index_or, Contains, All}
+use Rattle.ml_ratio.specs.Fraction.{value_of}
+use Rattle.ml_ratio.specs.Band.{MeetsBand}
+use Rattle.ml_ratio.specs.declared.ratio.Ratio.{Ratio}
+use Rattle.ml_cone.specs.Choice.{IsLimit}
+use Rattle.ml_cone.specs.Rivals.{AreRivals}
+use Rattle.ml_cone.specs.Slots.{Rival, IsOwnSlot, AreSlots, row, ends, no_slot}
+use Rattle.ml_cone.specs.declared.label.Label.{Label}
+use Rattle.ml_cone.specs.declared.slot.Slot.{Slot}
+use Rattle.ml_store.specs.Rows.{number_at, labels_in, slots_in}
+use Rattle.ml_store.specs.declared.row.Row.{Row}
+use Rattle.ml_repair.specs.declared.edit.Moved.{Moved}
+use Rattle.ml_repair.specs.Plan.{moved_rows, slot_for}
+use Rattle.ml_repair.specs.Roster.{IsFoundAt}
+use Rattle.ml_repair.specs.Touched.{IsRivalBefore}
+
+-- the slots of the rows, with the new ones
+abbrev pub present_slots : List Row → List Moved → List Slot
+present_slots rows moved = slots_in (moved_rows moved rows)
+
+-- j is before i, and it is the edited label only where that is there: before the edit, or after it
+abbrev pub Stands : Bool → Bool → ℕ → ℕ → ℕ → Type 0
+Stands comes after at i j = (j < i) × (j ≡ at → comes ≡ after)
+
+-- each label that is there has the slot that those before it leave
+pub record AreOwn (number : ℕ → ℕ) (labels : List Label) (slots : List Slot) (at : ℕ) (comes after : Bool) : Type 0 where
+  pub one_slot : length slots ≡ length labels
+  pub own : (d : Label) (i : ℕ) → i < length labels → (i ≡ at → comes ≡ after) →
+      IsOwnSlot (row number labels slots d) (Stands comes after at i) (slice_index_or labels i d) (slice_index_or slots i no_slot)
+
+-- the row at a place as a rival
+abbrev pub rival_in : List Row → List Moved → Label → ℕ → Rival
+rival_in rows moved low j = row (number_at rows) (labels_in rows) (present_slots rows moved) low j
+
+-- the bound is the label's maximum, or the limit that the label at one of the places sets it
+abbrev pub IsBoundBy : List Row → List Moved → Label → List ℕ → Ratio → Type 0
+IsBoundBy rows moved low places bound =
+    (bound ≡ low.max) ⊎ ((p : ℕ) × Contains places p × ((d : Label) → IsLimit low (slice_index_or (labels_in rows) p d) (ends (present_slots rows moved) p) (value_of bound)))
+
+-- places before that of the label are enough for its slot: each that a search finds in a band from its minimum up to some bound is among them
+pub record AreEnough (rows : List Row) (moved : List Moved) (low : Label) (at : ℕ) (comes : Bool) (i : ℕ) (places : List ℕ) : Type 0 where
+  pub stand : (p : ℕ) → Contains places p → Stands comes true at i p
+  pub bound : Ratio
+  pub bound_is : IsBoundBy rows moved low places bound
+  pub whole : (p k : ℕ) → Stands comes true at i p → IsFoundAt rows low k p → MeetsBand k (value_of low.min) (value_of bound) → Contains places p
+
+-- places came in: only such as stand before that of the label, and among them each that a search finds in band k
+pub record AreSifted (rows : List Row) (low : Label) (at : ℕ) (comes : Bool) (i k : ℕ) (before after : List ℕ) : Type 0 where
+  pub kept : (p : ℕ) → Contains before p → Contains after p
+  pub sound : (p : ℕ) → Contains after p → Contains before p ⊎ Stands comes true at i p
+  pub whole : (p : ℕ) → Stands comes true at i p → IsFoundAt rows low k p → Contains after p
+
+-- places of the list, among them those of all rivals of the label
+pub record AreSuspects (rows : List Row) (a : Label) (places : List ℕ) : Type 0 where
+  pub within : All (λ p. p < length rows) places
+  pub whole : (p : ℕ) → p < length rows → ((d : Label) → AreRivals (slice_index_or (labels_in rows) p d) a) → Contains places p
+
+-- those of the first t places whose labels are later rivals of that at i wait besides
+abbrev pub IsWokenBy : List Label → ℕ → List ℕ → ℕ → List Bool → List Bool → Type 0
+IsWokenBy labels i places t before after =
+    (k : ℕ) → k < length labels →
+    IsTrue (slice_index_or after k false) ↔ (IsTrue (slice_index_or before k false) ⊎ (((c : ℕ) × (c < t) × (slice_index places c ≡ k)) × IsRivalBefore labels i k))
+
+-- the row at a place has another slot, and no other row has
+pub record IsMovedAt (rows : List Row) (i : ℕ) (slot : Slot) (before after : List Moved) : Type 0 where
+  pub here : slice_index_or (present_slots rows after) i no_slot ≡ slot
+  pub others : (k : ℕ) → k ≢ i → slice_index_or (present_slots rows after) k no_slot ≡ slice_index_or (present_slots rows before) k no_slot
+  pub same : (n : ℕ) (own : Slot) → n ≢ number_at rows i → slot_for n own after ≡ slot_for n own before
+
+-- the present slots are the longest choice with its blockers
+abbrev pub AreSettled : List Row → List Moved → Type 0
+AreSettled rows moved = AreSlots (number_at rows) (labels_in rows) (present_slots rows moved)
+
+-- the label at a place has the slot that all labels before it leave
+abbrev pub IsSettledAt : List Row → List Moved → ℕ → Type 0
+IsSettledAt rows moved at =
+    (d : Label) → IsOwnSlot (row (number_at rows) (labels_in rows) (present_slots rows moved) d) (Stands true true at at) (slice_index_or (labels_in rows) at d) (slice_index_or (present_slots rows moved) at no_slot)

@@ -1,0 +1,43 @@
+-- The labels that an edit is planned over: the live ones but one that is passed over, and one that is to come.
+use Rattle.std.specs.Prelude.{ℕ, ◌≡◌, ◌+◌, ◌<◌, ◌≤◌, List, length, All, insert, remove, slice_index_or, Option, Some, None, Contains, ◌⊎◌, ◌↔◌}
+use denote.Ref.{Bor}
+use Rattle.ml_store.specs.Rows.{numbers_in, labels_in, HaveOwnNumbers}
+use Rattle.ml_store.specs.Search.{IsFoundIn}
+use Rattle.ml_store.specs.Table.{IsRowAt}
+use Rattle.ml_cone.specs.declared.label.Label.{Label}
+use Rattle.ml_store.specs.declared.row.Row.{Row}
+
+-- the rows but that which is passed over
+abbrev pub left_rows : Option ℕ → List Row → List Row
+left_rows None rows = rows
+left_rows (Some at) rows = remove rows at
+
+-- the rows, and one that is to come, at its place
+abbrev pub joined_rows : Option (Bor Row) → ℕ → List Row → List Row
+joined_rows None at rows = rows
+joined_rows (Some row) at rows = insert rows at row.now
+
+-- there are not too many rows, and each has a low number of its own
+pub record AreNumbered (rows : List Row) : Type 0 where
+  pub few : length rows ≤ 32768
+  pub differ : HaveOwnNumbers rows
+  pub low : All (λ n. n < 32768) (numbers_in rows)
+
+-- a search for the label in band k finds that at the place
+abbrev pub IsFoundAt : List Row → Label → ℕ → ℕ → Type 0
+IsFoundAt rows a k p = (p < length rows) × ((d : Label) → IsFoundIn a (slice_index_or (labels_in rows) p d) k)
+
+-- places came in: only some of the list, and among them each that a search for the label in band k finds
+pub record AreFound (rows : List Row) (a : Label) (k : ℕ) (before after : List ℕ) : Type 0 where
+  pub kept : (p : ℕ) → Contains before p → Contains after p
+  pub sound : (p : ℕ) → Contains after p → Contains before p ⊎ (p < length rows)
+  pub whole : (p : ℕ) → IsFoundAt rows a k p → Contains after p
+
+-- the places of the numbers came in, and nothing else changed
+abbrev pub PlacesCame : List Row → List ℕ → List ℕ → List ℕ → Type 0
+PlacesCame rows numbers before after = (p : ℕ) → Contains after p ↔ (Contains before p ⊎ ((n : ℕ) × Contains numbers n × IsRowAt rows n p))
+
+-- the place of the list without the one that goes is that of the list with it
+abbrev pub IsPlaceWithout : Option ℕ → ℕ → ℕ → Type 0
+IsPlaceWithout None at p = p ≡ at
+IsPlaceWithout (Some g) at p = ((at < g) × (p ≡ at)) ⊎ ((g ≤ p) × (at ≡ p + 1))

@@ -1,0 +1,22 @@
+//! Edits of labels.
+use ml_cone::Slot;
+use ml_ratio::Text;
+use ml_store::Row;
+
+/// An edit of the live labels. A label that comes has its number and its slot already.
+#[derive(Debug, Drop)]
+pub enum LabelEdit {
+    /// This label comes; none has its id.
+    Add(Box<Row>),
+    /// The label with this id goes.
+    Remove(Text),
+    /// This label comes in place of that with its id.
+    Replace(Box<Row>),
+}
+
+/// A new slot of a label that stays, by its number.
+#[derive(Clone, Copy, Debug, PartialEq, Eq)]
+pub struct Moved {
+    pub number: u32,
+    pub slot: Slot,
+}

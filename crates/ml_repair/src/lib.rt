@@ -1,0 +1,33 @@
+//! The labels of a map with their active ranges, kept the longest choice edit by edit.
+//!
+//! - [`engine`]: the live labels ([`Engine`]);
+//! - [`plan`]: what an edit will make of them ([`Plan`]); [`edit`]: the edit that a plan is for
+//!   ([`LabelEdit`]);
+//! - [`room`]: how much may come in without memory ([`Room`]).
+#![tactic(auto)]
+
+mod build;
+mod carry;
+mod changes;
+mod chosen;
+pub mod edit;
+pub mod engine;
+mod gather;
+mod moves;
+mod pass;
+mod place;
+pub mod plan;
+mod planning;
+mod read;
+mod repair;
+pub mod room;
+mod roster;
+mod same;
+mod settle;
+mod shown;
+mod wake;
+
+pub use edit::{LabelEdit, Moved};
+pub use engine::Engine;
+pub use plan::Plan;
+pub use room::Room;

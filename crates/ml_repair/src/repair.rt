@@ -1,0 +1,111 @@
+//! New slots after one label comes or goes.
+ghost use Rattle.std.specs.Prelude.{ℕ, ◌≡◌, ◌≢◌, ◌+◌, ◌<◌, ◌≤◌, true, false, List, length, IfOk, MatchBool, slice_index_or, if◌then◌else◌};
+ghost use Rattle.ml_ratio.specs.Fraction.{value_of, IsSame};
+ghost use Rattle.ml_cone.specs.Choice.{IsEnd};
+ghost use Rattle.ml_cone.specs.Slots.{IsOwnSlot, row, ends, no_slot};
+ghost use Rattle.ml_cone.specs.declared.label.Label.{Label};
+ghost use Rattle.ml_cone.specs.declared.slot.Slot.{Slot};
+ghost use Rattle.ml_store.specs.Rows.{number_at, labels_in};
+ghost use Rattle.ml_repair.specs.Plan.{slot_for};
+ghost use Rattle.ml_repair.specs.Repair.{Stands, AreOwn, IsMovedAt, present_slots};
+ghost use Rattle.ml_repair.specs.Size.{IsSize};
+ghost use Rattle.ml_repair.specs.Touched.{IsTouched};
+
+use crate::chosen::present_slot;
+use crate::moves::Moves;
+use crate::roster::Roster;
+use crate::settle::settle;
+use crate::wake::wake;
+use ml_cone::Slot;
+use ml_conflict::laws::{carried, rivals_or_free, smaller_ends};
+use ml_ratio::{Ratio, Steps};
+use std::alloc::{AllocError, Global};
+use std::sync::ledger::Ledger;
+
+/// Whether two ends differ.
+pub fn differs(a: Ratio, b: Ratio) -> bool
+    ensures { MatchBool result (¬ (IsSame (value_of a) (value_of b))) (IsSame (value_of a) (value_of b)) }
+{
+    a.num() * b.den() != b.num() * a.den()
+}
+
+// The label at a place gets another slot.
+fn put_slot(roster: &Roster<'_>, moves: &mut Moves, i: usize, slot: Slot) -> Result<(), AllocError>
+    requires { i < length roster.now }
+    ensures { IfOk result (λ _. IsMovedAt roster.now i slot moves.old moves.new) }
+{
+    let _many = roster.len();
+    let row = roster.row(i);
+    moves.put(row.number, slot)
+}
+
+// The label at `i` gets the slot that those before it leave; whether its end is another one than before.
+// It spends one step.
+fn renew<L: Ledger>(
+    alloc: Global,
+    roster: &Roster<'_>,
+    moves: &mut Moves,
+    at: usize,
+    comes: bool,
+    i: usize,
+    steps: &mut Steps<L>,
+) -> Result<bool, AllocError>
+    requires is_place { i < length roster.now }
+    requires ends { (d : Label) (j : ℕ) → Stands comes true at i j → IsEnd (slice_index_or (labels_in roster.now) j d) (ends (present_slots roster.now moves.old) j) }
+    ensures own { IfOk result (λ _. (d : Label) →
+        IsOwnSlot (row (number_at roster.now) (labels_in roster.now) (present_slots roster.now moves.old) d) (Stands comes true at i)
+        (slice_index_or (labels_in roster.now) i d) (slice_index_or (present_slots roster.now moves.new) i no_slot)) }
+    ensures others { IfOk result (λ _. (k : ℕ) → k ≢ i → slice_index_or (present_slots roster.now moves.new) k no_slot ≡ slice_index_or (present_slots roster.now moves.old) k no_slot) }
+    ensures same { IfOk result (λ _. (n : ℕ) (own : Slot) → n ≢ number_at roster.now i → slot_for n own moves.new ≡ slot_for n own moves.old) }
+    ensures moved { IfOk result (λ moved. MatchBool moved
+        (¬ (IsSame (ends (present_slots roster.now moves.old) i) (ends (present_slots roster.now moves.new) i)))
+        (IsSame (ends (present_slots roster.now moves.old) i) (ends (present_slots roster.now moves.new) i))) }
+    ensures spent { IfOk result (λ _. steps.new ≡ steps.old + 1) }
+{
+    let old = present_slot(roster, moves, i);
+    let slot = settle(alloc, roster, moves, at, comes, i, steps)?;
+    put_slot(roster, moves, i, slot)?;
+    Ok(differs(old.until, slot.until))
+}
+
+/// The new slots after the label at `at` comes or goes, and how many labels that touches: of the others
+/// just these are evaluated, each once. A label that comes has its slot already.
+///
+/// # Errors
+/// Want of memory.
+pub fn repair<L: Ledger>(
+    alloc: Global,
+    roster: &Roster<'_>,
+    moves: &mut Moves,
+    at: usize,
+    comes: bool,
+    steps: &mut Steps<L>,
+) -> Result<u32, AllocError>
+    requires is_place { at < length roster.now }
+    requires was { AreOwn (number_at roster.now) (labels_in roster.now) (present_slots roster.now moves.old) at comes false }
+    requires here { comes ≡ true → (d : Label) →
+        IsOwnSlot (row (number_at roster.now) (labels_in roster.now) (present_slots roster.now moves.old) d) (Stands comes true at at)
+        (slice_index_or (labels_in roster.now) at d) (slice_index_or (present_slots roster.now moves.old) at no_slot) }
+    ensures own { IfOk result (λ _. AreOwn (number_at roster.now) (labels_in roster.now) (present_slots roster.now moves.new) at comes true) }
+    ensures kept { IfOk result (λ _. (own : Slot) → slot_for (number_at roster.now at) own moves.new ≡ slot_for (number_at roster.now at) own moves.old) }
+    ensures touched { IfOk result (IsSize (IsTouched (labels_in roster.now) at comes (ends (present_slots roster.now moves.old)) (ends (present_slots roster.now moves.new)))) }
+    ensures few { IfOk result (λ n. n ≤ length roster.now) }
+    ensures spent { IfOk result (λ n. steps.new + (if comes then 1 else 0) ≡ steps.old + n) }
+{
+    carried();
+    smaller_ends();
+    rivals_or_free();
+    let many = roster.len();
+    let mut waits = vec![in alloc; false; many]?;
+    wake(alloc, roster, at, &mut waits)?;
+    let mut evaluated = if comes { 1 } else { 0 };
+    for i in at + 1..many {
+        if waits[i] {
+            if renew(alloc, roster, moves, at, comes, i, steps)? {
+                wake(alloc, roster, i, &mut waits)?;
+            }
+            evaluated += 1;
+        }
+    }
+    Ok(evaluated)
+}

@@ -1,0 +1,283 @@
+//! The labels that an edit is planned over.
+ghost use Rattle.std.specs.Prelude.{ℕ, ◌≡◌, ◌+◌, ◌<◌, ◌≤◌, ◌⊎◌, ◌↔◌, List, length, insert, take, Contains, Option, Some, None, IsSome, IfSome, IfOk, MatchOption, HoldsAt, OnOk};
+ghost use Rattle.ml_store.specs.Rows.{IsFresh};
+ghost use Rattle.ml_store.specs.Search.{Gathers};
+ghost use Rattle.ml_store.specs.Table.{IsRowAt};
+ghost use Rattle.ml_repair.specs.Roster.{left_rows, joined_rows, AreNumbered, AreFound, PlacesCame, IsPlaceWithout};
+
+use ml_cone::Label;
+use ml_ratio::Seq;
+use ml_store::{Row, Store};
+use std::alloc::{AllocError, Global};
+use std::marker::Model;
+
+/// The live labels but one that is passed over, and one that is to come, in priority order.
+#[derive(Drop)]
+pub struct Roster<'a> {
+    store: &'a Store,
+    gone: Option<usize>,
+    come: Option<&'a Row>,
+    at: usize,
+}
+
+impl<'a> Model for Roster<'a> {
+    ghost use Rattle.std.specs.Prelude.{List, ◌<◌, ◌≤◌, length, IfSome};
+    ghost use Rattle.ml_store.specs.declared.row.Row.{Row};
+    ghost use Rattle.ml_repair.specs.Roster.{left_rows, joined_rows, AreNumbered};
+
+    ghost Value = { List Row };
+
+    ghost view = { λ r. joined_rows r.come r.at (left_rows r.gone r.store.now.rows) };
+
+    ghost invariant = { λ r. AreNumbered (joined_rows r.come r.at (left_rows r.gone r.store.now.rows)) ×
+        IfSome r.gone (λ at. at < length r.store.now.rows) × IfSome r.come (λ row. r.at ≤ length (left_rows r.gone r.store.now.rows)) };
+}
+
+// The row at a place of those that are left.
+fn left_row(store: &Store, gone: Option<usize>, at: usize) -> &Row
+    requires within { at < length (left_rows gone store.now.rows) }
+    requires gone { IfSome gone (λ g. g < length store.now.rows) }
+    ensures { HoldsAt (λ r. r ≡ result.now) (left_rows gone store.now.rows) at }
+{
+    let _many = store.len();
+    match gone {
+        Some(g) => {
+            if at < g {
+                store.row(at)
+            } else {
+                store.row(at + 1)
+            }
+        }
+        None => store.row(at),
+    }
+}
+
+// The place of a number among the rows that are left.
+fn left_place(store: &Store, gone: Option<usize>, number: u32) -> Option<usize>
+    requires gone { IfSome gone (λ g. g < length store.now.rows) }
+    ensures { MatchOption result (IsFresh number (left_rows gone store.now.rows)) (IsRowAt (left_rows gone store.now.rows) number) }
+{
+    let _many = store.len();
+    match store.place_of(number) {
+        Some(at) => place_without(gone, at),
+        None => None,
+    }
+}
+
+// The place after one before it may have gone.
+fn place_without(gone: Option<usize>, at: usize) -> Option<usize>
+    ensures { MatchOption result (gone ≡ Some at) (IsPlaceWithout gone at) }
+{
+    match gone {
+        Some(g) => {
+            if at < g {
+                Some(at)
+            } else if at > g {
+                Some(at - 1)
+            } else {
+                None
+            }
+        }
+        None => Some(at),
+    }
+}
+
+// The place with one more at `at` in the list.
+fn place_with(at: usize, place: Option<usize>) -> Option<usize>
+    requires { IfSome place (λ p. p < 32768) }
+    ensures { MatchOption result (place ≡ None) (λ q. (p : ℕ) × (place ≡ Some p) × IsPlaceWithout (Some at) q p) }
+{
+    match place {
+        Some(p) => { if p < at { Some(p) } else { Some(p + 1) } }
+        None => None,
+    }
+}
+
+// The place of a number among the rows that are left and the one that is to come at `at`.
+fn joined_place(
+    store: &Store,
+    gone: Option<usize>,
+    come: Option<&Row>,
+    at: usize,
+    number: u32,
+) -> Option<usize>
+    requires gone { IfSome gone (λ g. g < length store.now.rows) }
+    requires at { IfSome come (λ row. at ≤ length (left_rows gone store.now.rows)) }
+    requires numbered { AreNumbered (joined_rows come at (left_rows gone store.now.rows)) }
+    ensures { MatchOption result (IsFresh number (joined_rows come.entry at (left_rows gone store.now.rows))) (IsRowAt (joined_rows come.entry at (left_rows gone store.now.rows)) number) }
+{
+    let left = left_place(store, gone, number);
+    match come {
+        Some(row) => {
+            if row.number == number {
+                Some(at)
+            } else {
+                place_with(at, left)
+            }
+        }
+        None => left,
+    }
+}
+
+// The row at a place of those that are left and the one that is to come at `at`.
+fn joined_row<'a>(
+    store: &'a Store,
+    gone: Option<usize>,
+    come: Option<&'a Row>,
+    at: usize,
+    place: usize,
+) -> &'a Row
+    requires gone { IfSome gone (λ g. g < length store.now.rows) }
+    requires at { IfSome come (λ row. at ≤ length (left_rows gone store.now.rows)) }
+    requires within { place < length (joined_rows come at (left_rows gone store.now.rows)) }
+    ensures { HoldsAt (λ r. r ≡ result.now) (joined_rows come.entry at (left_rows gone store.now.rows)) place }
+{
+    match come {
+        Some(row) => {
+            if place == at {
+                row
+            } else if place < at {
+                left_row(store, gone, place)
+            } else {
+                left_row(store, gone, place - 1)
+            }
+        }
+        None => left_row(store, gone, place),
+    }
+}
+
+// Appends the place of a number, if it has one.
+fn push_place(roster: &Roster<'_>, number: u32, out: &mut Seq<u32>) -> Result<(), AllocError>
+    ensures { IfOk result (λ _. Gathers (IsRowAt roster.now number) out.old out.new) }
+{
+    let _many = roster.len();
+    match roster.place_of(number) {
+        Some(at) => {
+            out.push(at as u32)?;
+            Ok(())
+        }
+        None => Ok(()),
+    }
+}
+
+// Appends the places of the numbers.
+fn push_places(roster: &Roster<'_>, numbers: &[u32], out: &mut Seq<u32>) -> Result<(), AllocError>
+    ensures { IfOk result (λ _. PlacesCame roster.now numbers.now out.old out.new) }
+{
+    for number in numbers {
+        push_place(roster, *number, out)?;
+    }
+    Ok(())
+}
+
+// Appends the place of the row that is to come, if one is.
+fn push_come(come: Option<&Row>, at: usize, out: &mut Seq<u32>) -> Result<(), AllocError>
+    requires { IfSome come (λ row. at ≤ 32768) }
+    ensures { IfOk result (λ _. Gathers (λ p. IsSome come.entry × (p ≡ at)) out.old out.new) }
+{
+    match come {
+        Some(_) => {
+            out.push(at as u32)?;
+            Ok(())
+        }
+        None => Ok(()),
+    }
+}
+
+impl<'a> Roster<'a> {
+    /// The live labels.
+    pub fn of_all(store: &'a Store) -> Roster<'a>
+        ensures { result ≡ store.now.rows }
+    {
+        let _many = store.len();
+        Roster {
+            store,
+            gone: None,
+            come: None,
+            at: 0,
+        }
+    }
+
+    /// The live labels but that at `gone`, if one is given.
+    pub fn left(store: &'a Store, gone: Option<usize>) -> Roster<'a>
+        requires { IfSome gone (λ g. g < length store.now.rows) }
+        ensures { result ≡ left_rows gone store.now.rows }
+    {
+        let _many = store.len();
+        Roster {
+            store,
+            gone,
+            come: None,
+            at: 0,
+        }
+    }
+
+    /// The live labels but that at `gone`, if one is given, and another one that comes in at `at`.
+    pub fn with(store: &'a Store, gone: Option<usize>, come: &'a Row, at: usize) -> Roster<'a>
+        requires gone { IfSome gone (λ g. g < length store.now.rows) }
+        requires at { at ≤ length (left_rows gone store.now.rows) }
+        requires few { length (left_rows gone store.now.rows) < 32768 }
+        requires fresh { IsFresh come.now.number (left_rows gone store.now.rows) }
+        requires low { come.now.number < 32768 }
+        ensures { result ≡ insert (left_rows gone store.now.rows) at come.now }
+    {
+        let _many = store.len();
+        Roster {
+            store,
+            gone,
+            come: Some(come),
+            at,
+        }
+    }
+
+    /// How many labels there are.
+    pub fn len(&self) -> usize
+        ensures count { result ≡ length self.now }
+        ensures numbered { AreNumbered self.now }
+    {
+        let mut count = self.store.len();
+        if self.gone.is_some() {
+            count -= 1;
+        }
+        if self.come.is_some() {
+            count += 1;
+        }
+        count
+    }
+
+    /// The row at a place.
+    pub fn row(&self, place: usize) -> &Row
+        requires { place < length self.now }
+        ensures { HoldsAt (λ r. r ≡ result.now) self.now place }
+    {
+        joined_row(self.store, self.gone, self.come, self.at, place)
+    }
+
+    /// The place of the label with this number; none where no label has it.
+    pub fn place_of(&self, number: u32) -> Option<usize>
+        ensures { MatchOption result (IsFresh number self.now) (IsRowAt self.now number) }
+    {
+        joined_place(self.store, self.gone, self.come, self.at, number)
+    }
+
+    /// Appends places, among them those of all labels that are kept in a cell of the label's hull in the
+    /// band, which is at most 27.
+    ///
+    /// # Errors
+    /// Want of memory.
+    pub fn near(
+        &self,
+        alloc: Global,
+        label: &Label,
+        band: u8,
+        out: &mut Seq<u32>,
+    ) -> Result<(), AllocError>
+        requires { band ≤ 27 }
+        ensures { IfOk result (λ _. AreFound self.now label.now band out.old out.new) }
+    {
+        let mut numbers = Seq::new(alloc);
+        self.store.near(label, band, &mut numbers)?;
+        push_places(self, numbers.as_slice(), out)?;
+        push_come(self.come, self.at, out)
+    }
+}

@@ -1,0 +1,58 @@
+//! The slot of one label.
+ghost use Rattle.std.specs.Prelude.{ℕ, ◌≡◌, ◌+◌, ◌<◌, true, List, length, IfOk, slice_index_or};
+ghost use Rattle.ml_cone.specs.Choice.{IsEnd};
+ghost use Rattle.ml_cone.specs.Slots.{IsOwnSlot, row, ends};
+ghost use Rattle.ml_cone.specs.declared.label.Label.{Label};
+ghost use Rattle.ml_store.specs.Rows.{number_at, labels_in};
+ghost use Rattle.ml_repair.specs.Repair.{Stands, present_slots};
+
+use crate::chosen::Chosen;
+use crate::gather::gather;
+use crate::moves::Moves;
+use crate::roster::Roster;
+use ml_cone::Slot;
+use ml_cone::laws::{bound_shares, rivals_share};
+use ml_conflict::evaluate;
+use ml_conflict::laws::{blocking, carried, joined, rivals_or_free, smaller_ends};
+use ml_ratio::Steps;
+use std::alloc::{AllocError, Global};
+use std::sync::ledger::Ledger;
+
+/// The slot that the labels before `i` leave the label there, with their present ends. It spends one
+/// step.
+///
+/// # Errors
+/// Want of memory.
+pub fn settle<L: Ledger>(
+    alloc: Global,
+    roster: &Roster<'_>,
+    moves: &Moves,
+    at: usize,
+    comes: bool,
+    i: usize,
+    steps: &mut Steps<L>,
+) -> Result<Slot, AllocError>
+    requires is_place { i < length roster.now }
+    requires ends { (d : Label) (j : ℕ) → Stands comes true at i j → IsEnd (slice_index_or (labels_in roster.now) j d) (ends (present_slots roster.now moves.now) j) }
+    ensures own { IfOk result (λ slot. (d : Label) →
+        IsOwnSlot (row (number_at roster.now) (labels_in roster.now) (present_slots roster.now moves.now) d) (Stands comes true at i) (slice_index_or (labels_in roster.now) i d) slot) }
+    ensures spent { IfOk result (λ _. steps.new ≡ steps.old + 1) }
+{
+    carried();
+    joined();
+    smaller_ends();
+    rivals_or_free();
+    blocking();
+    rivals_share();
+    bound_shares();
+    let row = roster.row(i);
+    let low = &row.label;
+    let places = gather(alloc, roster, moves, low, at, comes, i)?;
+    let chosen = Chosen {
+        low,
+        roster,
+        moves,
+        places: &places,
+    };
+    Ok(evaluate(low, &chosen, steps))
+}

@@ -1,0 +1,9 @@
+pub mod Different
+pub mod Orders
+pub mod Lists
+pub mod ByName
+pub mod Naming
+pub mod Tables
+pub mod Fresh
+pub mod Index
+pub mod Finding

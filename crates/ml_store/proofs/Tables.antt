@@ -1,0 +1,100 @@
+-- The table as rows come, go and get other slots.
+use Rattle.std.proofs.Common.{◌≡◌, ℕ, zero, suc, ◌<◌, List, [], ◌∷◌, length, get_or, set, Contains, refl, sym, ap, ◌∙◌, arith}
+use Rattle.std.specs.Prelude.{insert, remove, Box, box_value, Option, Some, None, MatchOption}
+use Rattle.ml_store.specs.Numbers.{IsAt}
+use Rattle.std.specs.declared.alloc.Global.{Global}
+use Rattle.std.proofs.lemmas.List.{get_or-map, length-map, map-set}
+use Rattle.ml_spans.specs.Order.{IsAdded}
+use Rattle.ml_cone.specs.declared.slot.Slot.{Slot}
+use Rattle.ml_store.specs.Boxes.{unboxed}
+use Rattle.ml_store.specs.Rows.{numbers_in, labels_in, HasId, IsFresh, IsNumberOf}
+use Rattle.ml_store.specs.Names.{Name, name_of, names_in, AreByName, HaveId}
+use Rattle.ml_store.specs.Table.{IsTable, IsRowAt, with_slot, slot_at}
+use Rattle.ml_store.specs.declared.row.Row.{Row}
+use Rattle.ml_store.proofs.Lists.{map_insert, map_remove, contains_map, map_contains, added_insert}
+
+pub table_in : (rows : List Row) (numbers ids ids' : List ℕ) (at : ℕ) (r : Row) → IsTable rows numbers ids →
+    ((names : List Name) → IsAdded (name_of r) (names_in rows) names → AreByName names ids') → IsTable (insert rows at r) (insert numbers at r.number) ids'
+table_in rows numbers ids ids' at r t by = record {
+  numbers_are = ap (λ ns. insert ns at r.number) t.numbers_are ∙ sym (map_insert (λ (s : Row). s.number) rows at r);
+  by_name = rw (map_insert name_of rows at r) (by (insert (names_in rows) at (name_of r)) (added_insert (names_in rows) at (name_of r)));
+}
+
+pub table_out : (rows : List Row) (numbers ids ids' : List ℕ) (at : ℕ) → IsTable rows numbers ids → AreByName (remove (names_in rows) at) ids' → IsTable (remove rows at) (remove numbers at) ids'
+table_out rows numbers ids ids' at t by = record {
+  numbers_are = ap (λ ns. remove ns at) t.numbers_are ∙ sym (map_remove (λ (s : Row). s.number) rows at);
+  by_name = rw (map_remove name_of rows at) by;
+}
+
+pub with_slot_is : (rows : List Row) (i : ℕ) (r : Row) (slot : Slot) → i < length rows → r ≡ get_or rows i r → set rows i (record r { slot = slot }) ≡ with_slot rows i slot
+with_slot_is [] i r slot lt e = absurd (omega arith)
+with_slot_is (s ∷ rows) zero r slot lt e = ap (λ (t : Row). record t { slot = slot } ∷ rows) e
+with_slot_is (s ∷ rows) (suc i) r slot lt e = ap (λ zs. s ∷ zs) (with_slot_is rows i r slot (omega arith) e)
+
+pub slot_read : (rows : List Row) (i : ℕ) (r : Row) → i < length rows → r ≡ get_or rows i r → slot_at rows i ≡ r.slot
+slot_read [] i r lt e = absurd (omega arith)
+slot_read (s ∷ rows) zero r lt e = ap (λ (t : Row). t.slot) (sym e)
+slot_read (s ∷ rows) (suc i) r lt e = slot_read rows i r (omega arith) e
+
+-- another slot changes no name
+pub names-with_slot : (rows : List Row) (i : ℕ) (slot : Slot) → names_in (with_slot rows i slot) ≡ names_in rows
+names-with_slot [] i slot = refl
+names-with_slot (r ∷ rows) zero slot = refl
+names-with_slot (r ∷ rows) (suc i) slot = ap (λ ns. name_of r ∷ ns) (names-with_slot rows i slot)
+
+pub numbers-with_slot : (rows : List Row) (i : ℕ) (slot : Slot) → numbers_in (with_slot rows i slot) ≡ numbers_in rows
+numbers-with_slot [] i slot = refl
+numbers-with_slot (r ∷ rows) zero slot = refl
+numbers-with_slot (r ∷ rows) (suc i) slot = ap (λ ns. r.number ∷ ns) (numbers-with_slot rows i slot)
+
+pub length-with_slot : (rows : List Row) (i : ℕ) (slot : Slot) → length (with_slot rows i slot) ≡ length rows
+length-with_slot [] i slot = refl
+length-with_slot (r ∷ rows) zero slot = refl
+length-with_slot (r ∷ rows) (suc i) slot = ap suc (length-with_slot rows i slot)
+
+pub table_moved : (rows : List Row) (numbers ids : List ℕ) (at : ℕ) (slot : Slot) → IsTable rows numbers ids → IsTable (with_slot rows at slot) numbers ids
+table_moved rows numbers ids at slot t = record {
+  numbers_are = t.numbers_are ∙ sym (numbers-with_slot rows at slot);
+  by_name = rw (names-with_slot rows at slot) t.by_name;
+}
+
+-- the box at a place gets a row with another slot
+pub boxes_moved : (boxes : List (Box Row Global)) (at : ℕ) (b : Box Row Global) (r : Row) (slot : Slot) → at < length boxes → b ≡ get_or boxes at b → r ≡ b.value →
+    unboxed (set boxes at (record b { value = record r { slot = slot } })) ≡ with_slot (unboxed boxes) at slot
+boxes_moved boxes at b r slot lt read is =
+    let n = length-map boxes box_value in
+    let e : r ≡ get_or (unboxed boxes) at r = is ∙ ap box_value read ∙ sym (get_or-map box_value boxes at b r lt) in
+    map-set box_value boxes at (record b { value = record r { slot = slot } }) ∙ with_slot_is (unboxed boxes) at r slot (omega arith) e
+
+-- ---- ids of labels and of names
+
+pub label_from_name : (rows : List Row) (id : List ℕ) → HaveId (names_in rows) id → HasId (labels_in rows) id
+label_from_name rows id have =
+    let s = map_contains name_of rows have.0 have.1 in
+    let r : Row = s.0 in
+    (r.label, contains_map (λ (t : Row). t.label) rows r s.1, ap (λ (x : Name). x.id) s.2 ∙ have.2)
+
+pub name_from_label : (rows : List Row) (id : List ℕ) → HasId (labels_in rows) id → HaveId (names_in rows) id
+name_from_label rows id have =
+    let s = map_contains (λ (t : Row). t.label) rows have.0 have.1 in
+    let r : Row = s.0 in
+    (name_of r, contains_map name_of rows r s.1, ap (λ l. l.order.id) s.2 ∙ have.2)
+
+pub number_from_name : (rows : List Row) (id : List ℕ) (n : ℕ) → Contains (names_in rows) (record { number = n; id = id }) → IsNumberOf rows id n
+number_from_name rows id n there =
+    let s = map_contains name_of rows (record { number = n; id = id }) there in
+    (s.0, s.1, ap (λ (x : Name). x.id) s.2, ap (λ (x : Name). x.number) s.2)
+
+-- what is found among the numbers is found among the rows
+pub place_found : (rows : List Row) (numbers : List ℕ) (n : ℕ) (found : Option ℕ) → numbers ≡ numbers_in rows → MatchOption found (¬ (Contains numbers n)) (IsAt numbers n) → MatchOption found (IsFresh n rows) (IsRowAt rows n)
+place_found rows numbers n None e h = λ there. h (rw e there)
+place_found rows numbers n (Some at) e h =
+    let many = length-map rows (λ (r : Row). r.number) in
+    let lt : at < length numbers = h.0 in
+    let long : length numbers ≡ length (numbers_in rows) = ap length e in
+    (omega arith, ap (λ ns. get_or ns at 0) (sym e) ∙ h.1)
+
+pub number_found : (rows : List Row) (id : List ℕ) (found : Option ℕ) →
+    MatchOption found (¬ (HaveId (names_in rows) id)) (λ n. Contains (names_in rows) (record { number = n; id = id })) → MatchOption found (¬ (HasId (labels_in rows) id)) (IsNumberOf rows id)
+number_found rows id None h = λ have. h (name_from_label rows id have)
+number_found rows id (Some n) h = number_from_name rows id n h

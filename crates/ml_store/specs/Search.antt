@@ -1,0 +1,30 @@
+-- Labels that are found by the grid.
+use Rattle.std.specs.Prelude.{ℕ, ◌≡◌, ◌⊎◌, ◌↔◌, ℤ, List, Contains}
+use Rattle.ml_cone.specs.Cells.{IsAmongCells}
+use Rattle.ml_cone.specs.Cell.{IsInCell}
+use Rattle.ml_cone.specs.Hull.{hull_of}
+use Rattle.ml_cone.specs.declared.label.Label.{Label}
+use Rattle.ml_cone.specs.declared.view.View.{View}
+use Rattle.ml_grid.specs.Near.{IsNear}
+use Rattle.ml_store.specs.Rows.{AreDifferent}
+use Rattle.ml_store.specs.declared.row.Row.{Row}
+
+-- a search for the one label in band k finds the other: that is kept there in a cell of the first one's hull
+pub record IsFoundIn (one other : Label) (k : ℕ) : Type 0 where
+  pub x : ℤ
+  pub y : ℤ
+  pub among : IsAmongCells (hull_of one k) x y
+  pub kept : IsInCell other k x y
+
+-- the number of a row with the property
+abbrev pub IsNumberWith : (Row → Type 0) → List Row → ℕ → Type 0
+IsNumberWith P rows n = (r : Row) × Contains rows r × (r.number ≡ n) × P r
+
+-- the numbers with the property came in, and nothing else changed
+abbrev pub Gathers : (ℕ → Type 0) → List ℕ → List ℕ → Type 0
+Gathers P before after = (n : ℕ) → Contains after n ↔ (Contains before n ⊎ P n)
+
+-- the numbers are those of the labels near the view, each once
+pub record AreNearNumbers (rows : List Row) (view : View) (numbers : List ℕ) : Type 0 where
+  pub differ : AreDifferent numbers
+  pub near : (n : ℕ) → Contains numbers n ↔ IsNumberWith (λ r. IsNear r.label r.slot.until view) rows n

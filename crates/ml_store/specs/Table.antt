@@ -1,0 +1,31 @@
+-- The table of live labels.
+use Rattle.std.specs.Prelude.{ℕ, zero, suc, ◌≡◌, ◌<◌, List, [], ◌∷◌, length, slice_index_or}
+use Rattle.ml_cone.specs.Slots.{no_slot}
+use Rattle.ml_cone.specs.declared.slot.Slot.{Slot}
+use Rattle.ml_store.specs.Rows.{numbers_in, slots_in, number_at}
+use Rattle.ml_store.specs.Names.{names_in, AreByName}
+use Rattle.ml_store.specs.declared.row.Row.{Row}
+
+-- what contracts see of a table: the rows in order, and how many more may come in
+pub record Listed : Type 0 where
+  pub rows : List Row
+  pub room : ℕ
+
+-- the row at a place has the number
+abbrev pub IsRowAt : List Row → ℕ → ℕ → Type 0
+IsRowAt rows number at = (at < length rows) × (number_at rows at ≡ number)
+
+-- the slot of the row at a place
+abbrev pub slot_at : List Row → ℕ → Slot
+slot_at rows i = slice_index_or (slots_in rows) i no_slot
+
+-- the rows, of which that at a place has another slot
+abbrev pub with_slot : List Row → ℕ → Slot → List Row
+with_slot [] i slot = []
+with_slot (r ∷ rows) zero slot = record r { slot = slot } ∷ rows
+with_slot (r ∷ rows) (suc i) slot = r ∷ with_slot rows i slot
+
+-- the numbers in use are those of the rows, in their order and in byte order of ids
+pub record IsTable (rows : List Row) (numbers ids : List ℕ) : Type 0 where
+  pub numbers_are : numbers ≡ numbers_in rows
+  pub by_name : AreByName (names_in rows) ids

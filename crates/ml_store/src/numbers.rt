@@ -1,0 +1,182 @@
+//! The numbers by which labels are known.
+ghost use Rattle.std.specs.Prelude.{ℕ, ◌≡◌, ◌≢◌, ◌+◌, ◌<◌, ◌≤◌, ◌↔◌, [], List, length, All, AllPairs, Contains, IsTrue, IfOk, MatchOption, insert, remove, take, slice_index, ◌-◌};
+ghost use Rattle.ml_store.specs.Rows.{AreDifferent};
+ghost use Rattle.ml_store.specs.Numbers.{ArePlacedBut, AreOrdered, IsAt};
+
+use std::alloc::{AllocError, Global};
+use std::marker::Model;
+
+/// How many numbers there are: 0 to 32,767.
+pub const NUMBERS: usize = 32768;
+
+/// Different numbers below 32,768 in some order, each found at once.
+#[derive(Drop)]
+pub struct Numbers {
+    order: Vec<u32>,
+    places: Vec<u32>,
+    used: usize,
+}
+
+impl Model for Numbers {
+    ghost use Rattle.std.specs.Prelude.{List, ℕ, take};
+    ghost use Rattle.ml_store.specs.Numbers.{AreOrdered};
+
+    ghost Value = { List ℕ };
+
+    ghost view = { λ n. take n.used n.order.items };
+
+    ghost invariant = { λ n. AreOrdered n.order.items n.places.items n.used };
+}
+
+// All numbers, ascending.
+fn all_numbers(alloc: Global) -> Result<Vec<u32>, AllocError>
+    ensures len { IfOk result (λ all. length all.items ≡ 32768) }
+    ensures numbers { IfOk result (λ all. (k : ℕ) → k < 32768 → slice_index all.items k ≡ k) }
+{
+    let mut all = Vec::with_capacity(alloc, NUMBERS)?;
+    for number in 0..32768u32 {
+        all.push(number)?;
+    }
+    Ok(all)
+}
+
+// Writes the places of the numbers from `from` up to `to`.
+fn write_places(order: &[u32], places: &mut Vec<u32>, from: usize, to: usize)
+    requires all_numbers { length order.now ≡ 32768 }
+    requires all_places { length places.old.items ≡ 32768 }
+    requires low { All (λ n. n < 32768) order.now }
+    requires differ { AreDifferent order.now }
+    requires in_order { from ≤ to }
+    requires within { to ≤ 32768 }
+    requires but { ArePlacedBut order.now places.old.items from to }
+    ensures all_places { length places.new.items ≡ 32768 }
+    ensures placed { (k : ℕ) → k < 32768 → slice_index places.new.items (slice_index order.now k) ≡ k }
+{
+    for k in from..to {
+        places[order[k] as usize] = k as u32;
+    }
+}
+
+// The number at `from` moves to `to`.
+fn shift(order: &mut Vec<u32>, from: usize, to: usize)
+    requires from_place { from < length order.old.items }
+    requires to_place { to < length order.old.items }
+    ensures { order.new.items ≡ insert (remove order.old.items from) to (slice_index order.old.items from) }
+{
+    let number = order.remove(from);
+    match order.insert(to, number) {
+        Ok(()) => {}
+        Err(_) => unreachable!(),
+    }
+}
+
+// The place of the number, if it is one of the first `used`.
+fn find(order: &[u32], places: &[u32], used: usize, number: u32) -> Option<usize>
+    requires { AreOrdered order.now places.now used }
+    ensures { MatchOption result (¬ (Contains (take used order.now) number)) (IsAt (take used order.now) number) }
+{
+    if number < 32768 {
+        let at = places[number as usize] as usize;
+        if at < used { Some(at) } else { None }
+    } else {
+        None
+    }
+}
+
+// A free number comes into use at `at`.
+fn put_in(order: &mut Vec<u32>, places: &mut Vec<u32>, used: usize, at: usize, number: u32)
+    requires ordered { AreOrdered order.old.items places.old.items used }
+    requires is_place { at ≤ used }
+    requires free { ¬ (Contains (take used order.old.items) number) }
+    requires low { number < 32768 }
+    ensures ordered { AreOrdered order.new.items places.new.items (used + 1) }
+    ensures numbers { take (used + 1) order.new.items ≡ insert (take used order.old.items) at number }
+    ensures few { used < 32768 }
+{
+    let from = places[number as usize] as usize;
+    shift(order, from, at);
+    write_places(order, places, at, from + 1);
+}
+
+// The number at `at` is free again.
+fn take_out(order: &mut Vec<u32>, places: &mut Vec<u32>, used: usize, at: usize)
+    requires ordered { AreOrdered order.old.items places.old.items used }
+    requires is_place { at < used }
+    ensures ordered { AreOrdered order.new.items places.new.items (used - 1) }
+    ensures numbers { take (used - 1) order.new.items ≡ remove (take used order.old.items) at }
+{
+    shift(order, at, used - 1);
+    write_places(order, places, at, used);
+}
+
+impl Numbers {
+    /// No number is in use.
+    ///
+    /// # Errors
+    /// Want of memory.
+    pub fn new(alloc: Global) -> Result<Numbers, AllocError>
+        ensures { IfOk result (λ numbers. numbers ≡ []) }
+    {
+        let order = all_numbers(alloc)?;
+        let places = all_numbers(alloc)?;
+        Ok(Numbers {
+            order,
+            places,
+            used: 0,
+        })
+    }
+
+    /// How many numbers are in use: at most 32,768, different ones and each below that.
+    pub fn len(&self) -> usize
+        ensures count { result ≡ length self.now }
+        ensures few { length self.now ≤ 32768 }
+        ensures low { All (λ n. n < 32768) self.now }
+        ensures differ { AreDifferent self.now }
+    {
+        self.used
+    }
+
+    /// The number in use at a place.
+    pub fn at(&self, k: usize) -> u32
+        requires { k < length self.now }
+        ensures { result ≡ slice_index self.now k }
+    {
+        self.order[k]
+    }
+
+    /// The place of a number; none where it is not in use.
+    pub fn place_of(&self, number: u32) -> Option<usize>
+        ensures { MatchOption result (¬ (Contains self.now number)) (IsAt self.now number) }
+    {
+        find(&self.order, &self.places, self.used, number)
+    }
+
+    /// A number that is not in use.
+    pub fn free(&self) -> u32
+        requires { length self.now < 32768 }
+        ensures free { ¬ (Contains self.now result) }
+        ensures low { result < 32768 }
+    {
+        self.order[self.used]
+    }
+
+    /// A number that is not in use comes into use at `at`.
+    pub fn insert(&mut self, at: usize, number: u32)
+        requires is_place { at ≤ length self.old }
+        requires free { ¬ (Contains self.old number) }
+        requires low { number < 32768 }
+        ensures { self.new ≡ insert self.old at number }
+    {
+        put_in(&mut self.order, &mut self.places, self.used, at, number);
+        self.used += 1;
+    }
+
+    /// The number at `at` is not in use any more.
+    pub fn remove(&mut self, at: usize)
+        requires is_place { at < length self.old }
+        ensures { self.new ≡ remove self.old at }
+    {
+        take_out(&mut self.order, &mut self.places, self.used, at);
+        self.used -= 1;
+    }
+}

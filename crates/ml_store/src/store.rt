@@ -1,0 +1,347 @@
+//! The live labels with the grid and the index of blockers, which always agree.
+ghost use Rattle.std.specs.Prelude.{ℕ, ◌≡◌, ◌+◌, ◌<◌, ◌≤◌, [], List, length, insert, remove, All, Contains, OnOk, IfOk, MatchOption, HoldsAt, ◌⊎◌, ◌↔◌};
+ghost use Rattle.ml_ratio.specs.Fraction.{value_of};
+ghost use Rattle.ml_cone.specs.Choice.{IsEnd, ActiveUntil};
+ghost use Rattle.ml_cone.specs.Shown.{IsInView};
+ghost use Rattle.ml_grid.specs.Count.{entry_count};
+ghost use Rattle.ml_store.specs.Pairs.{pair_count};
+ghost use Rattle.ml_store.specs.Rows.{numbers_in, labels_in, IsFresh, HasId, HaveOwnNumbers, IsNumberOf};
+ghost use Rattle.ml_store.specs.Search.{IsFoundIn, IsNumberWith, Gathers, AreNearNumbers};
+ghost use Rattle.ml_grid.specs.Entry.{IsFree, Adds, Drops, AreEntriesOf};
+ghost use Rattle.ml_store.specs.Store.{IsStored, IsIndex, IsEntryIn, IsPairIn, Pair};
+ghost use Rattle.ml_store.specs.Table.{IsRowAt, with_slot, slot_at};
+ghost use Rattle.ml_store.specs.declared.row.Row.{Row};
+
+use crate::entries::move_entries;
+use crate::pairs::{Pairs, change_pair, put_pair, take_pair};
+use crate::row::Row;
+use crate::table::Table;
+use ml_cone::{Label, Slot, Span, View};
+use ml_grid::Grid;
+use ml_grid::laws::{seen_are_near, shown_seen};
+use ml_ratio::{Seq, Steps, Text};
+use ml_spans::SpanTree;
+use std::alloc::{AllocError, Global};
+use std::marker::Model;
+use std::sync::ledger::Ledger;
+
+/// The live labels, and room for more.
+///
+/// Contracts see the rows in order, and how many labels, entries of the grid and pairs of the index may
+/// come in without memory. That the grid holds exactly the rows' entries, and the index exactly their
+/// pairs, is kept here and seen nowhere above.
+#[derive(Drop)]
+pub struct Store {
+    table: Table,
+    grid: Grid,
+    pairs: Pairs,
+}
+
+impl Model for Store {
+    ghost use Rattle.ml_store.specs.Rows.{Stored};
+    ghost use Rattle.ml_store.specs.Store.{IsStored};
+
+    ghost Value = { Stored };
+
+    ghost view = { λ s. record { rows = s.table.rows; labels = s.table.room; cells = s.grid.spare; blocks = s.pairs.spare } };
+
+    ghost invariant = { λ s. IsStored s.table.rows s.grid.entries s.pairs.entries };
+}
+
+// The row at `at` gets another slot, and so do its entries and its pair.
+fn write_slot(table: &mut Table, grid: &mut Grid, pairs: &mut Pairs, at: usize, slot: Slot)
+    requires stored { IsStored table.old.rows grid.old.entries pairs.old.entries }
+    requires is_place { at < length table.old.rows }
+    requires room { pair_count slot.blocker ≤ pairs.old.spare + pair_count (slot_at table.old.rows at).blocker }
+    ensures stored { IsStored table.new.rows grid.new.entries pairs.new.entries }
+    ensures rows { table.new.rows ≡ with_slot table.old.rows at slot }
+    ensures labels { table.new.room ≡ table.old.room }
+    ensures cells { grid.new.spare ≡ grid.old.spare }
+    ensures blocks { pairs.new.spare + pair_count slot.blocker ≡ pairs.old.spare + pair_count (slot_at table.old.rows at).blocker }
+{
+    let row = table.row(at);
+    move_entries(grid, row.number, &row.label, row.slot.until, slot.until);
+    change_pair(pairs, row.number, row.slot.blocker, slot.blocker);
+    table.set_slot(at, slot);
+}
+
+// The active range of a row.
+fn span_of(row: &Row) -> Span
+    ensures { result ≡ record { min = row.now.label.min; until = row.now.slot.until } }
+{
+    Span {
+        min: row.label.min(),
+        until: row.slot.until,
+    }
+}
+
+// A row's entries and its pair come in.
+fn put_parts(grid: &mut Grid, pairs: &mut Pairs, row: &Row)
+    requires free { IsFree row.now.number grid.old.entries }
+    requires new { (p : Pair) → IsPairIn row.now p → ¬ (Contains pairs.old.entries p) }
+    requires cells { entry_count row.now.label ≤ grid.old.spare }
+    requires blocks { pair_count row.now.slot.blocker ≤ pairs.old.spare }
+    ensures entries { Adds (IsEntryIn row.now) grid.old.entries grid.new.entries }
+    ensures pairs { (p : Pair) → Contains pairs.new.entries p ↔ (Contains pairs.old.entries p ⊎ IsPairIn row.now p) }
+    ensures cells { grid.new.spare + entry_count row.now.label ≡ grid.old.spare }
+    ensures blocks { pairs.new.spare + pair_count row.now.slot.blocker ≡ pairs.old.spare }
+{
+    grid.add(row.number, &row.label, &span_of(row));
+    put_pair(pairs, row.number, row.slot.blocker);
+}
+
+// A row's entries and its pair go.
+fn take_parts(grid: &mut Grid, pairs: &mut Pairs, row: &Row)
+    requires its { AreEntriesOf row.now.number row.now.label row.now.slot.until grid.old.entries }
+    requires there { (p : Pair) → IsPairIn row.now p → Contains pairs.old.entries p }
+    ensures entries { Drops (IsEntryIn row.now) grid.old.entries grid.new.entries }
+    ensures pairs { (p : Pair) → Contains pairs.new.entries p ↔ (Contains pairs.old.entries p × (¬ (IsPairIn row.now p))) }
+    ensures cells { grid.new.spare ≡ grid.old.spare + entry_count row.now.label }
+    ensures blocks { pairs.new.spare ≡ pairs.old.spare + pair_count row.now.slot.blocker }
+{
+    grid.drop_label(row.number, &row.label, &span_of(row));
+    take_pair(pairs, row.number, row.slot.blocker);
+}
+
+// A row comes in at `at`, with its entries and its pair.
+fn put_row(table: &mut Table, grid: &mut Grid, pairs: &mut Pairs, at: usize, row: Box<Row>)
+    requires stored { IsStored table.old.rows grid.old.entries pairs.old.entries }
+    requires is_place { at ≤ length table.old.rows }
+    requires fresh { IsFresh row.value.number table.old.rows }
+    requires low { row.value.number < 32768 }
+    requires new_id { ¬ (HasId (labels_in table.old.rows) row.value.label.order.id) }
+    requires labels { 0 < table.old.room }
+    requires cells { entry_count row.value.label ≤ grid.old.spare }
+    requires blocks { pair_count row.value.slot.blocker ≤ pairs.old.spare }
+    ensures stored { IsStored table.new.rows grid.new.entries pairs.new.entries }
+    ensures rows { table.new.rows ≡ insert table.old.rows at row.value }
+    ensures labels { table.new.room + 1 ≡ table.old.room }
+    ensures cells { grid.new.spare + entry_count row.value.label ≡ grid.old.spare }
+    ensures blocks { pairs.new.spare + pair_count row.value.slot.blocker ≡ pairs.old.spare }
+{
+    put_parts(grid, pairs, &row);
+    table.insert(at, row);
+}
+
+// The row at `at` goes, with its entries and its pair.
+fn take_row(table: &mut Table, grid: &mut Grid, pairs: &mut Pairs, at: usize) -> Box<Row>
+    requires stored { IsStored table.old.rows grid.old.entries pairs.old.entries }
+    requires is_place { at < length table.old.rows }
+    ensures stored { IsStored table.new.rows grid.new.entries pairs.new.entries }
+    ensures rows { table.new.rows ≡ remove table.old.rows at }
+    ensures row { HoldsAt (λ r. r ≡ result.value) table.old.rows at }
+    ensures labels { table.new.room ≡ table.old.room + 1 }
+    ensures cells { grid.new.spare ≡ grid.old.spare + entry_count result.value.label }
+    ensures blocks { pairs.new.spare ≡ pairs.old.spare + pair_count result.value.slot.blocker }
+{
+    let row = table.remove(at);
+    take_parts(grid, pairs, &row);
+    row
+}
+
+// Appends the numbers of the labels that are kept in a cell of the label's hull in the band.
+fn find_near(
+    rows: &Table,
+    grid: &Grid,
+    label: &Label,
+    band: u8,
+    out: &mut Seq<u32>,
+) -> Result<(), AllocError>
+    requires band { band ≤ 27 }
+    requires kept { IsIndex IsEntryIn rows.now.rows grid.now.entries }
+    ensures ok { OnOk result (Gathers (IsNumberWith (λ r. IsFoundIn label.now r.label band) rows.now.rows) out.old out.new) }
+{
+    grid.near(label, band, out)
+}
+
+// The numbers of the labels near the view, each once.
+fn find_seen<L: Ledger>(
+    alloc: Global,
+    table: &Table,
+    grid: &Grid,
+    view: &View,
+    looks: &mut Steps<L>,
+) -> Result<Seq<u32>, AllocError>
+    requires differ { HaveOwnNumbers table.now.rows }
+    requires kept { IsIndex IsEntryIn table.now.rows grid.now.entries }
+    requires ends { All (λ r. IsEnd r.label (value_of r.slot.until)) table.now.rows }
+    ensures near { IfOk result (AreNearNumbers table.now.rows view.now) }
+    ensures shown { IfOk result (λ numbers. (r : Row) → Contains table.now.rows r →
+        ActiveUntil r.label (value_of r.slot.until) (value_of view.now.scale) → IsInView r.label view.now → Contains numbers r.number) }
+    ensures spent { IfOk result (λ numbers. looks.new ≡ looks.old + length numbers) }
+{
+    seen_are_near();
+    shown_seen();
+    let mut numbers = Seq::new(alloc);
+    grid.in_window(view, &mut numbers, looks)?;
+    Ok(numbers)
+}
+
+impl Store {
+    /// No labels, and no room.
+    ///
+    /// # Errors
+    /// Want of memory.
+    pub fn new(alloc: Global) -> Result<Store, AllocError>
+        ensures { IfOk result (λ s. s ≡ record { rows = []; labels = 0; cells = 0; blocks = 0 }) }
+    {
+        let table = Table::new(alloc)?;
+        Ok(Store {
+            table,
+            grid: Grid::new(alloc),
+            pairs: SpanTree::new(alloc),
+        })
+    }
+
+    /// How many labels there are: at most 32,768, with different numbers below that.
+    pub fn len(&self) -> usize
+        ensures count { result ≡ length self.now.rows }
+        ensures few { length self.now.rows ≤ 32768 }
+        ensures low { All (λ n. n < 32768) (numbers_in self.now.rows) }
+        ensures differ { HaveOwnNumbers self.now.rows }
+    {
+        self.table.len()
+    }
+
+    /// The row at a place.
+    pub fn row(&self, at: usize) -> &Row
+        requires { at < length self.now.rows }
+        ensures { HoldsAt (λ r. r ≡ result.now) self.now.rows at }
+    {
+        self.table.row(at)
+    }
+
+    /// The place of the label with this number; none where no label has it.
+    pub fn place_of(&self, number: u32) -> Option<usize>
+        ensures { MatchOption result (IsFresh number self.now.rows) (IsRowAt self.now.rows number) }
+    {
+        self.table.place_of(number)
+    }
+
+    /// The number of the label with this id; none where no label has it.
+    pub fn number_of(&self, id: &Text) -> Option<u32>
+        ensures { MatchOption result (¬ (HasId (labels_in self.now.rows) id.now)) (IsNumberOf self.now.rows id.now) }
+    {
+        self.table.number_of(id)
+    }
+
+    /// A number that no label has.
+    pub fn free(&self) -> u32
+        requires { length self.now.rows < 32768 }
+        ensures free { IsFresh result self.now.rows }
+        ensures low { result < 32768 }
+    {
+        self.table.free()
+    }
+
+    /// A label with a new id comes in at `at`, with its number and its slot. It takes no memory and cannot
+    /// fail.
+    pub fn put(&mut self, at: usize, row: Box<Row>)
+        requires is_place { at ≤ length self.old.rows }
+        requires fresh { IsFresh row.value.number self.old.rows }
+        requires low { row.value.number < 32768 }
+        requires new_id { ¬ (HasId (labels_in self.old.rows) row.value.label.order.id) }
+        requires labels { 0 < self.old.labels }
+        requires cells { entry_count row.value.label ≤ self.old.cells }
+        requires blocks { pair_count row.value.slot.blocker ≤ self.old.blocks }
+        ensures rows { self.new.rows ≡ insert self.old.rows at row.value }
+        ensures labels { self.new.labels + 1 ≡ self.old.labels }
+        ensures cells { self.new.cells + entry_count row.value.label ≡ self.old.cells }
+        ensures blocks { self.new.blocks + pair_count row.value.slot.blocker ≡ self.old.blocks }
+    {
+        put_row(&mut self.table, &mut self.grid, &mut self.pairs, at, row);
+    }
+
+    /// The label at `at` goes, and gives back its room. It takes no memory and cannot fail.
+    pub fn take(&mut self, at: usize) -> Box<Row>
+        requires is_place { at < length self.old.rows }
+        ensures rows { self.new.rows ≡ remove self.old.rows at }
+        ensures row { HoldsAt (λ r. r ≡ result.value) self.old.rows at }
+        ensures labels { self.new.labels ≡ self.old.labels + 1 }
+        ensures cells { self.new.cells ≡ self.old.cells + entry_count result.value.label }
+        ensures blocks { self.new.blocks ≡ self.old.blocks + pair_count result.value.slot.blocker }
+    {
+        let row = take_row(&mut self.table, &mut self.grid, &mut self.pairs, at);
+        row
+    }
+
+    /// The label at `at` gets another slot. It takes no memory and cannot fail.
+    pub fn set_slot(&mut self, at: usize, slot: Slot)
+        requires is_place { at < length self.old.rows }
+        requires room { pair_count slot.blocker ≤ self.old.blocks + pair_count (slot_at self.old.rows at).blocker }
+        ensures rows { self.new.rows ≡ with_slot self.old.rows at slot }
+        ensures labels { self.new.labels ≡ self.old.labels }
+        ensures cells { self.new.cells ≡ self.old.cells }
+        ensures blocks { self.new.blocks + pair_count slot.blocker ≡ self.old.blocks + pair_count (slot_at self.old.rows at).blocker }
+    {
+        write_slot(&mut self.table, &mut self.grid, &mut self.pairs, at, slot);
+    }
+
+    /// Makes room for so many labels, entries and pairs.
+    ///
+    /// # Errors
+    /// Want of memory, which leaves the labels; the room may have grown.
+    pub fn reserve(&mut self, labels: usize, cells: usize, blocks: usize) -> Result<(), AllocError>
+        ensures ok { OnOk result ((labels ≤ self.new.labels) × (cells ≤ self.new.cells) × (blocks ≤ self.new.blocks)) }
+        ensures rows { self.new.rows ≡ self.old.rows }
+        ensures room { (self.old.labels ≤ self.new.labels) × (self.old.cells ≤ self.new.cells) × (self.old.blocks ≤ self.new.blocks) }
+    {
+        self.table.reserve(labels)?;
+        self.grid.reserve(cells)?;
+        self.pairs.reserve(blocks)?;
+        Ok(())
+    }
+
+    /// How many labels may come in without memory.
+    pub fn spare_labels(&self) -> usize
+        ensures { result ≡ self.now.labels }
+    {
+        self.table.room()
+    }
+
+    /// How many entries of the grid may come in without memory.
+    pub fn spare_cells(&self) -> usize
+        ensures { result ≡ self.now.cells }
+    {
+        self.grid.spare()
+    }
+
+    /// How many pairs of blocker and blocked may come in without memory.
+    pub fn spare_blocks(&self) -> usize
+        ensures { result ≡ self.now.blocks }
+    {
+        self.pairs.spare()
+    }
+
+    /// Appends the numbers of the labels that are kept in a cell of the label's hull in the band, which is
+    /// at most 27. The label itself need not be there.
+    ///
+    /// # Errors
+    /// Want of memory.
+    pub fn near(&self, label: &Label, band: u8, out: &mut Seq<u32>) -> Result<(), AllocError>
+        requires { band ≤ 27 }
+        ensures ok { OnOk result (Gathers (IsNumberWith (λ r. IsFoundIn label.now r.label band) self.now.rows) out.old out.new) }
+    {
+        find_near(&self.table, &self.grid, label, band, out)
+    }
+
+    /// The numbers of the labels near the view, each once: among them all that it shows. It spends a step
+    /// for each.
+    ///
+    /// # Errors
+    /// Want of memory.
+    pub fn seen<L: Ledger>(
+        &self,
+        alloc: Global,
+        view: &View,
+        looks: &mut Steps<L>,
+    ) -> Result<Seq<u32>, AllocError>
+        requires { All (λ r. IsEnd r.label (value_of r.slot.until)) self.now.rows }
+        ensures near { IfOk result (AreNearNumbers self.now.rows view.now) }
+        ensures shown { IfOk result (λ numbers. (r : Row) → Contains self.now.rows r →
+            ActiveUntil r.label (value_of r.slot.until) (value_of view.now.scale) → IsInView r.label view.now → Contains numbers r.number) }
+        ensures spent { IfOk result (λ numbers. looks.new ≡ looks.old + length numbers) }
+    {
+        find_seen(alloc, &self.table, &self.grid, view, looks)
+    }
+}
