@@ -1,8 +1,37 @@
 //! A map that is edited.
 //!
+//! - [`editor`]: the map itself ([`Editor`]); [`standing`]: how a feature of it stands ([`Standing`]);
+//! - [`edit`]: the edits of a map ([`Edit`]);
+//! - [`features`]: the features of a map, found by id ([`Features`]);
+//! - `prepare`: how an edit is made ready, over `check`, what refuses it, and `making`, its making;
+//! - `changes`: what a new style changes of the labels, over `compare`, whether two are the same;
+//! - `commit`: how it is carried out, over `carry`, its parts;
+//! - [`ready`]: an edit that is ready to be carried out ([`Ready`]); [`draft`]: what is drawn up for it
+//!   ([`Draft`]); [`work`]: what it makes of the labels ([`Work`]);
 //! - [`fault`]: why a map is not loaded, and why an edit is refused ([`LoadRefused`], [`EditFault`]).
 #![tactic(auto)]
 
+mod carry;
+mod changes;
+mod check;
+mod commit;
+mod compare;
+pub mod draft;
+pub mod edit;
+pub mod editor;
 pub mod fault;
+pub mod features;
+mod making;
+mod prepare;
+pub mod ready;
+pub mod standing;
+pub mod work;
 
+pub use draft::Draft;
+pub use edit::Edit;
+pub use editor::Editor;
 pub use fault::{EditFault, LoadRefused};
+pub use features::Features;
+pub use ready::Ready;
+pub use standing::Standing;
+pub use work::Work;

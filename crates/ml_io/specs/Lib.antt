@@ -1,7 +1,13 @@
 pub mod Causes
 pub mod Files
+pub mod LinkList
+pub mod MemDoor
 pub mod MemFiles
 pub mod MemSink
+pub mod MemSource
 pub mod NamedFiles
 pub mod RealFiles
+pub mod RealInput
 pub mod RealOutput
+pub mod Takes
+pub mod TcpDoor

@@ -8,3 +8,4 @@ mod OneLabel
 mod OnePlacing
 mod OrderLemmas
 mod SoFar
+mod Spaces

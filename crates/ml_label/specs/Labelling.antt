@@ -80,6 +80,10 @@ IsReason style feature NoClass = HasNoClass style feature
 IsReason style feature NoName = HasNoName style feature
 IsReason style feature TooWide = IsTooWideLabel style feature
 
+-- a feature has no label
+abbrev pub IsUnlabelled : Style → Feature → Type 0
+IsUnlabelled style feature = (reason : Reason) × IsReason style feature reason
+
 -- the label of a feature, or why it has none
 abbrev pub IsLabelling : Style → Feature → Result Label Reason → Type 0
 IsLabelling style feature (Ok label) = IsFeatureLabel style feature label

@@ -2,6 +2,7 @@
 //! has none; and the labels of a map.
 //!
 //! - [`label`]: the label of a feature, and [`reason`]: why there is none;
+//! - [`unlabelled`]: why a feature without a label has none, told without memory;
 //! - [`labels`]: the labels of a map, in their [`order`];
 //! - [`name`]: a feature's name and rank;
 //! - [`straight`]: one box of straight text;
@@ -18,8 +19,10 @@ mod placed;
 mod placing;
 pub mod reason;
 mod straight;
+pub mod unlabelled;
 
 pub use label::label_of;
 pub use labels::labels_of;
 pub use order::in_priority_order;
 pub use reason::Reason;
+pub use unlabelled::reason_of;

@@ -1,6 +1,9 @@
 //! The name and the rank of a feature, which are properties that the style names.
-ghost use Rattle.std.specs.Prelude.{◌≡◌, ◌<◌, IfOk, IfSome, IsUtf8, length};
+ghost use Rattle.std.specs.Prelude.{◌≡◌, ◌==◌, ◌<◌, None, IfOk, IfSome, IsSome, IsUtf8, MatchBool, length};
+ghost use Rattle.std.specs.List.{list_all};
 ghost use Rattle.std.specs.Option.{option_copied};
+ghost use Rattle.std.specs.Str.{chars};
+ghost use Rattle.ml_text.specs.Label.{label_text as spec_label_text, shown as spec_shown};
 ghost use Rattle.ml_label.specs.Name.{property as spec_property, name_in as spec_name_in, is_blank as spec_is_blank, name_of as spec_name_of, rank_in as spec_rank_in, rank_of as spec_rank_of};
 
 use ml_json::whole_part;
@@ -53,6 +56,41 @@ pub fn name_of(alloc: Global, style: &Style, feature: &Feature) -> Result<Option
         return Ok(None);
     }
     Ok(Some(text))
+}
+
+// Whether the character is shown as a space.
+fn is_shown_as_space(ch: char) -> bool
+    ensures { result ≡ (spec_shown ch == 32) }
+{
+    matches!(
+        ch,
+        ' ' | '\0'..='\u{1f}' | '\u{7f}'..='\u{9f}' | '\u{fffe}' | '\u{ffff}'
+    )
+}
+
+// Whether each character of the name is shown as a space.
+fn has_only_spaces(name: &str) -> bool
+    ensures { result ≡ list_all (λ ch. spec_shown ch == 32) (chars name.now) }
+{
+    name.chars().all(|ch| is_shown_as_space(ch))
+}
+
+// Whether the text of a label with this name would be empty or of spaces alone.
+fn is_shown_blank(name: &str) -> bool
+    ensures { result ≡ spec_is_blank (spec_label_text name.now) }
+{
+    has_only_spaces(name)
+}
+
+/// Whether a feature has a name for its label. It takes no memory.
+pub fn has_name(style: &Style, feature: &Feature) -> bool
+    ensures { MatchBool result (IsSome (spec_name_of style.now feature.now)) (spec_name_of style.now feature.now ≡ None) }
+{
+    let key = style.name_key();
+    match name_in(property(feature.props.as_slice(), key.as_str())) {
+        Some(name) => !is_shown_blank(name.as_str()),
+        None => false,
+    }
 }
 
 // The whole part of a number, 0 to 2^53, and 0 for anything else.

@@ -1,0 +1,10 @@
+pub mod Entries
+pub mod Same
+pub mod After
+pub mod States
+pub mod Unchanged
+pub mod Readiness
+pub mod OneFault
+pub mod Refusals
+pub mod Changing
+pub mod Works

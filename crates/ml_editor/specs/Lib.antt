@@ -1,0 +1,7 @@
+pub use Rattle.ml_ratio.specs.Refusal
+pub mod State
+pub mod Faults
+pub mod Features
+pub mod Editing
+pub mod Standing
+pub mod Changing
