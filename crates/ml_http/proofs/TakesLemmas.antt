@@ -1,0 +1,33 @@
+-- Bytes that are taken, and put, one piece after another.
+use Rattle.std.proofs.Common.{ℕ, List, [], ◌++◌, Option, Some, None, refl, ap, ◌∙◌, sym, append_assoc, append-nil}
+use Rattle.ml_io.specs.Causes.{Appends}
+use Rattle.ml_io.specs.Takes.{Takes}
+use Rattle.ml_http.specs.Held.{Gains}
+
+pub takes_nothing : (left : Option (List ℕ)) → Takes left left []
+takes_nothing None = refl
+takes_nothing (Some all) = (all, refl, refl)
+
+pub takes_twice : (a b c : Option (List ℕ)) (p q : List ℕ) → Takes a b p → Takes b c q → Takes a c (p ++ q)
+takes_twice None b c p q first second = rw first at second
+takes_twice (Some all) b c p q first second =
+    let then = rw first.1 at second in
+    (then.0, then.1, first.2 ∙ ap (λ xs. p ++ xs) then.2 ∙ sym (append_assoc p q then.0))
+
+pub gains_nothing : (left : Option (List ℕ)) (held : List ℕ) → Gains left left held held
+gains_nothing left held = record { taken = []; takes = takes_nothing left; behind = sym (append-nil held) }
+
+pub gains_twice : (a b c : Option (List ℕ)) (h i j : List ℕ) → Gains a b h i → Gains b c i j → Gains a c h j
+gains_twice a b c h i j first second = record {
+  taken = first.taken ++ second.taken;
+  takes = takes_twice a b c first.taken second.taken first.takes second.takes;
+  behind = second.behind ∙ ap (λ xs. xs ++ second.taken) first.behind ∙ append_assoc h first.taken second.taken;
+}
+
+pub appends_nothing : (written : Option (List ℕ)) → Appends written written []
+appends_nothing None = refl
+appends_nothing (Some xs) = ap Some (sym (append-nil xs))
+
+pub appends_twice : (a b c : Option (List ℕ)) (p q : List ℕ) → Appends a b p → Appends b c q → Appends a c (p ++ q)
+appends_twice None b c p q first second = rw first at second
+appends_twice (Some xs) b c p q first second = (rw first at second) ∙ ap Some (append_assoc xs p q)

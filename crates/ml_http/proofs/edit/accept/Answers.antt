@@ -1,0 +1,36 @@
+use Rattle.std.proofs.Common.{◌≡◌, ℕ, ◌+◌, refl, sym, ap, subst, ◌∙◌}
+use Rattle.ml_label.specs.Labels.{AreLabelsOf}
+use Rattle.ml_store.specs.Rows.{labels_in}
+use Rattle.ml_editor.specs.Editing.{rows_after}
+use Rattle.ml_answer.specs.Edit.{edit_text}
+use Rattle.ml_http.specs.Replies.{json_reply}
+use Rattle.ml_http.proofs.edit.accept.Goals as goal
+
+pub returns-clause-ok : goal.returns-clause-ok
+returns-clause-ok g c =
+    let state = c.args.editor.now.state in
+    let rows = c.args.editor.now.engine.rows in
+    let ready = c.args.ready in
+    let of_state = c.requires.of_state in
+    record {
+      answer = record { reply = c.in_ok-reply.reply.items; changes = ready.changes; cost = ready.evaluated };
+      carried = record {
+        state = c.commit.ensures.step;
+        before = rows;
+        after = rows_after ready.work rows;
+        rows_before = record { labels = c.rev-before.ensures.holds.labels; settled = c.rev-before.ensures.holds.settled };
+        rows_after = record { labels = subst (λ s. AreLabelsOf s.style s.features (labels_in (rows_after ready.work rows))) (sym c.commit.ensures.step) of_state.labels; settled = of_state.settled };
+        changes = of_state.changes;
+        cost = of_state.cost;
+        reply =
+            c.in_ok-reply.ensures
+            ∙ ap (λ t. json_reply 200 c.args.closes t)
+            (c.as_slice.ensures
+            ∙ c.in_ok-text.ensures
+            ∙ ap (λ changes. edit_text c.rev.result changes) c.changes.ensures
+            ∙ ap (λ r. edit_text r ready.changes) (c.rev.ensures ∙ of_state.rev ∙ sym (ap (λ s. s.rev) c.commit.ensures.step)));
+      };
+      hears = c.commit.ensures.told;
+      costs = refl;
+      is = refl;
+    }

@@ -1,0 +1,10 @@
+use Rattle.std.proofs.Common.{◌≡◌, List, map, take}
+use Rattle.ml_store.specs.declared.row.Row.{Row}
+use Rattle.ml_answer.specs.View.{no_label, with_labels}
+use Rattle.ml_http.specs.Step.{shown_of}
+use Rattle.ml_http.proofs.ViewLemmas.{HaveNumbers}
+use Rattle.ml_http.proofs.view.json_view.Given as goal
+
+abbrev pub invariant-loop-number : goal.invariant-loop-number
+invariant-loop-number l =
+    (shown : List Row) × HaveNumbers l.editor.engine.rows (take l.number-index l.number-items) shown × (l.json ≡ with_labels (no_label l.view.scale) (map shown_of shown))

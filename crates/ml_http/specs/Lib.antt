@@ -1,0 +1,13 @@
+pub mod Alike
+pub mod Connection
+pub mod Heads
+pub mod Held
+pub mod Link
+pub mod Reading
+pub mod Replies
+pub mod Reply
+pub mod Request
+pub mod Routes
+pub mod Run
+pub mod Step
+pub mod Stream

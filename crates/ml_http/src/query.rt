@@ -1,0 +1,139 @@
+//! The names and values of a query.
+ghost use Rattle.std.specs.Prelude.{◌≡◌, IfOk, length, map, codes};
+ghost use Rattle.std.specs.Option.{option_map};
+ghost use Rattle.std.specs.Str.{all_ascii_digits};
+ghost use Rattle.ml_http.specs.Routes.{query_pairs, pair_bytes, named, first, word_of, IsViewAsked, is_revision, revision, revision_in, id_in};
+
+use ml_cone::View;
+use ml_view::read_view;
+use std::alloc::{AllocError, Global};
+
+/// The decoded names and values of a query, in order.
+///
+/// # Errors
+/// Want of memory.
+pub(crate) fn pairs_of(alloc: Global, query: &[u8]) -> Result<Vec<(String, String)>, AllocError>
+    ensures { IfOk result (λ all. map pair_bytes all.items ≡ query_pairs query.now) }
+{
+    let mut all = Vec::new(alloc);
+    for pair in form_urlencoded::parse(alloc, query) {
+        let (name, value) = pair?;
+        let name = name.into_owned(alloc)?;
+        let value = value.into_owned(alloc)?;
+        all.push((name, value))?;
+    }
+    Ok(all)
+}
+
+// How often a name stands.
+fn count_of(pairs: &[(String, String)], name: &str) -> usize
+    ensures { result ≡ length (named name.now (map pair_bytes pairs.now)) }
+{
+    let mut count = 0;
+    for pair in pairs {
+        if pair.0.as_str() == name {
+            count += 1;
+        }
+    }
+    count
+}
+
+// The first value of a name.
+fn first_of<'a>(pairs: &'a [(String, String)], name: &str) -> Option<&'a str>
+    ensures { option_map (λ value. value.now) result ≡ first (named name.now (map pair_bytes pairs.now)) }
+{
+    for pair in pairs {
+        if pair.0.as_str() == name {
+            return Some(pair.1.as_str());
+        }
+    }
+    None
+}
+
+// The value of a name that stands once, and an empty text for every other.
+fn word<'a>(pairs: &'a [(String, String)], name: &str) -> &'a str
+    ensures { result.now ≡ word_of name.now (map pair_bytes pairs.now) }
+{
+    if count_of(pairs, name) != 1 {
+        return "";
+    }
+    match first_of(pairs, name) {
+        Some(value) => value,
+        None => "",
+    }
+}
+
+/// The view that a query asks for.
+///
+/// # Errors
+/// The place, counted from 0, of the first of `cx`, `cy`, `w`, `h` and `s` that is missing, stands
+/// twice or has a wrong value.
+pub(crate) fn view_asked(pairs: &[(String, String)]) -> Result<View, usize>
+    ensures { IsViewAsked (map pair_bytes pairs.now) result }
+{
+    read_view(
+        word(pairs, "cx"),
+        word(pairs, "cy"),
+        word(pairs, "w"),
+        word(pairs, "h"),
+        word(pairs, "s"),
+    )
+}
+
+// Whether every byte is an ASCII digit.
+fn are_digits(bytes: &[u8]) -> bool
+    ensures { result ≡ all_ascii_digits bytes.now }
+{
+    for byte in bytes {
+        if !byte.is_ascii_digit() {
+            return false;
+        }
+    }
+    true
+}
+
+// Whether the text is one to sixteen digits.
+fn is_revision(text: &str) -> bool
+    ensures { result ≡ is_revision text.now }
+{
+    !text.is_empty() && text.len() <= 16 && are_digits(text.as_bytes())
+}
+
+// The revision that one to sixteen digits write; none for any other text.
+fn read_revision(text: &str) -> Option<u64>
+    ensures { result ≡ revision text.now }
+{
+    if is_revision(text) {
+        text.parse::<u64>().ok()
+    } else {
+        None
+    }
+}
+
+/// The revision that a query gives, if it gives one. The answer is none where the query gives it twice
+/// or more, or gives what is no number of one to sixteen digits.
+pub(crate) fn revision_asked(pairs: &[(String, String)]) -> Option<Option<u64>>
+    ensures { result ≡ revision_in (named (codes "rev") (map pair_bytes pairs.now)) }
+{
+    match count_of(pairs, "rev") {
+        0 => Some(None),
+        1 => match first_of(pairs, "rev") {
+            Some(text) => match read_revision(text) {
+                Some(rev) => Some(Some(rev)),
+                None => None,
+            },
+            None => None,
+        },
+        _ => None,
+    }
+}
+
+/// The id that a query gives; none where it is missing or stands twice or more. An empty id is one.
+pub(crate) fn id_asked(pairs: &[(String, String)]) -> Option<&str>
+    ensures { option_map (λ id. id.now) result ≡ id_in (map pair_bytes pairs.now) }
+{
+    if count_of(pairs, "id") != 1 {
+        return None;
+    }
+    first_of(pairs, "id")
+}

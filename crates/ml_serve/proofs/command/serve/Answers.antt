@@ -1,0 +1,31 @@
+use Rattle.std.proofs.Common.{rules}
+use Rattle.ml_serve.specs.declared.serve_end.ServeEnd.TheVariants.{Done, WriteFault}
+use Rattle.ml_serve.proofs.SessionLemmas.{served_none}
+use Rattle.ml_serve.proofs.CommandLemmas.{end_done, end_cut, end_first, end_fault, end_fault_later, served_from, headline_of}
+use Rattle.ml_serve.proofs.command.serve.Goals as goal
+
+pub returns-in-Err-clause-served : goal.returns-in-Err-clause-served
+returns-in-Err-clause-served g c =
+    headline_of _ _ _ _ _ _ _ _ _ _ _ c.args.count 0 _ _ c.say_fault.result (rw (c.listen.ensures.same.1, c.listen.ensures.same.2) (served_none _ _ _ _)) (end_fault _ _ _ _ c.say_fault.result c.say_fault.ensures.said)
+
+pub returns-in-Err-put_all-clause-served : goal.returns-in-Err-put_all-clause-served
+returns-in-Err-put_all-clause-served g c =
+    headline_of _ _ _ _ _ _ _ _ _ _ _ c.args.count 0 _ _ WriteFault (rw (c.listen.ensures.same.1, c.listen.ensures.same.2) (served_none _ _ _ _)) (end_first _ _ _ _ c.in-Err-put_all.ensures.err)
+
+pub returns-in-Ok-put_served-clause-served : goal.returns-in-Ok-put_served-clause-served
+returns-in-Ok-put_served-clause-served g c =
+    headline_of _ _ _ _ _ _ _ _ _ _ _ c.args.count c.in-Ok-serve_links.number _ _ Done
+    (served_from _ _ _ _ _ _ _ _ _ _ c.listen.ensures.same.1 c.listen.ensures.same.2 c.in-Ok-serve_links.ensures.ok.1)
+    (end_done _ _ _ _ _ _ c.in-Ok-serve_links.ensures.ok.2 c.in-Ok-put_all.ensures.ok c.in-Ok-put_served.ensures.ok)
+
+pub returns-in-Err-put_served-clause-served : goal.returns-in-Err-put_served-clause-served
+returns-in-Err-put_served-clause-served g c =
+    headline_of _ _ _ _ _ _ _ _ _ _ _ c.args.count c.in-Ok-serve_links.number _ _ WriteFault
+    (served_from _ _ _ _ _ _ _ _ _ _ c.listen.ensures.same.1 c.listen.ensures.same.2 c.in-Ok-serve_links.ensures.ok.1)
+    (end_cut _ _ _ _ _ _ c.in-Ok-serve_links.ensures.ok.2 c.in-Ok-put_all.ensures.ok c.in-Err-put_served.ensures.err)
+
+pub returns-in-Err-serve_links-clause-served : goal.returns-in-Err-serve_links-clause-served
+returns-in-Err-serve_links-clause-served g c =
+    headline_of _ _ _ _ _ _ _ _ _ _ _ c.args.count c.in-Err-serve_links.ensures.err.0 _ _ c.say_fault-in-Err-serve_links.result
+    (served_from _ _ _ _ _ _ _ _ _ _ c.listen.ensures.same.1 c.listen.ensures.same.2 c.in-Err-serve_links.ensures.err.2)
+    (end_fault_later _ _ _ _ _ _ c.say_fault-in-Err-serve_links.result c.in-Ok-put_all.ensures.ok c.say_fault-in-Err-serve_links.ensures.said)

@@ -1,0 +1,4 @@
+pub mod Headline
+pub mod Printed
+pub mod Session
+pub mod Visit

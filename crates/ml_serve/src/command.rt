@@ -1,0 +1,72 @@
+//! Listens, serves, and says so.
+ghost use Rattle.std.specs.Prelude.{◌≡◌, ◌≤◌, List, Some, None, false, length};
+ghost use Rattle.ml_io.specs.Causes.{Rose};
+ghost use Rattle.ml_http.specs.Link.{lent};
+ghost use Rattle.ml_http.specs.Step.{LinkAnswer};
+ghost use Rattle.ml_serve.specs.Headline.{Headline};
+ghost use Rattle.ml_serve.specs.Printed.{IsEndOfServing, IsFaultSaid, HasServeCause};
+ghost use Rattle.ml_serve.specs.Session.{Visit};
+ghost use Rattle.ml_serve.specs.Visit.{IsVisit};
+
+use crate::line::put_served;
+use crate::links::serve_links;
+use crate::serve_end::ServeEnd;
+use ml_editor::Editor;
+use ml_io::{Door, Sink, put_all};
+use ml_ratio::Steps;
+use ml_watch::{Crowd, Watcher};
+use std::alloc::Global;
+use std::sync::ledger::Ledger;
+
+/// Listens at a port, writes `ready`, serves at most `count` connections one after another, and writes
+/// how many these were. Where the door fails it writes `door fault`; the connections before stay served.
+/// Printing takes no memory.
+pub fn serve<K: Sink, D: Door, W: Watcher, L: Ledger>(
+    alloc: Global,
+    editor: &mut Editor,
+    out: &mut K,
+    door: &mut D,
+    crowd: &mut Crowd<W>,
+    steps: &mut Steps<L>,
+    port: u16,
+    count: u64,
+) -> ServeEnd
+    requires fresh { D.at_port door.old ≡ None }
+    requires out { D.is_out door.old ≡ false }
+    ensures served { (visits : List (Visit D.In D.Out LinkAnswer))
+        × Headline (IsVisit W.hearing D.In.left D.In.faults D.Out.written D.Out.faults) (λ s. s.crowd) W.hearing
+        (lent editor.old crowd.old steps.old) (lent editor.new crowd.new steps.new)
+        (D.coming door.old) (D.coming door.new) (D.served door.old) (D.served door.new) visits
+        × IsEndOfServing count (length visits) (D.coming door.new) (K.written out.old) (K.written out.new) result }
+    ensures out { D.is_out door.new ≡ false }
+    ensures port { D.at_port door.new ≡ Some port }
+    ensures cause { HasServeCause (D.faults door.old) (D.faults door.new) (K.faults out.old) (K.faults out.new) result }
+{
+    match door.listen(port) {
+        Ok(()) => {}
+        Err(_) => return say_fault(out),
+    }
+    match put_all(out, b"ready\n") {
+        Ok(()) => {}
+        Err(_) => return ServeEnd::WriteFault,
+    }
+    match serve_links(alloc, editor, door, crowd, steps, count) {
+        Ok(number) => match put_served(out, number) {
+            Ok(()) => ServeEnd::Done,
+            Err(_) => ServeEnd::WriteFault,
+        },
+        Err(_) => say_fault(out),
+    }
+}
+
+// Writes that the door failed.
+fn say_fault<K: Sink>(out: &mut K) -> ServeEnd
+    ensures said { IsFaultSaid (K.written out.old) (K.written out.new) result }
+    ensures later { K.faults out.old ≤ K.faults out.new }
+    ensures cause { result ≡ ServeEnd.WriteFault → Rose (K.faults out.old) (K.faults out.new) }
+{
+    match put_all(out, b"door fault\n") {
+        Ok(()) => ServeEnd::DoorFault,
+        Err(_) => ServeEnd::WriteFault,
+    }
+}
