@@ -7,3 +7,5 @@ pub mod ShownMore
 pub mod FormLemmas
 pub mod ZoomLemmas
 pub mod GapLemmas
+pub mod Stopping
+pub mod ServesWell

@@ -3,8 +3,12 @@ pub mod Codes
 pub mod Forms
 pub mod GapLines
 pub mod Inputs
+pub mod Live
 pub mod MapInputs
 pub mod Outcome
+pub mod ServesWell
+pub mod Serving
+pub mod Run
 pub mod Ready
 pub mod VerdictText
 pub mod ViewLine

@@ -1,7 +1,10 @@
 //! The program `maplabel`: which names a zoomable map shows.
 //!
 //! - [`run`]: the top call ([`run`](run::run)); [`status`]: how it ends;
-//! - [`command`]: what the words ask for; [`answer`]: what they come to;
+//! - [`live`]: the words that ask for connections to be served; [`loading`]: the map that they are
+//!   served over; [`serving`]: one connection, or those of a door;
+//! - [`batch`]: the commands that print one text; [`command`]: what their words ask for; [`answer`]:
+//!   what they come to; [`printing`]: what is printed;
 //! - [`table`], [`map`], [`check`]: what is asked of a table and of a map, and the verdict on slots;
 //! - [`choice`]: the longest choice of any labels; [`gap_lines`]: their longest free gaps; [`zoom`]:
 //!   their zoom timeline;
@@ -12,15 +15,20 @@
 #![tactic(auto)]
 
 pub mod answer;
+pub mod batch;
 pub mod check;
 pub mod choice;
 pub mod command;
 pub mod gap_lines;
 pub mod inputs;
 pub mod laws;
+pub mod live;
+pub mod loading;
 pub mod map;
 pub mod map_inputs;
+pub mod printing;
 pub mod run;
+pub mod serving;
 pub mod status;
 pub mod stop;
 pub mod table;
@@ -31,7 +39,10 @@ pub mod zoom_text;
 
 use crate::run::run;
 use crate::status::Status;
-use ml_io::{RealFiles, RealOutput};
+use ml_io::{RealErrors, RealFiles, RealInput, RealOutput, TcpDoor};
+use ml_watch::{Crowd, LineWatcher};
+use std::alloc::AllocError;
+use std::io::Stderr;
 use std::process::ExitCode;
 use std::{env, io};
 
@@ -42,6 +53,20 @@ fn words_of(rt: &HostRuntime) -> io::Result<Vec<String>> {
         words.push(word)?;
     }
     Ok(words)
+}
+
+// Who is told the changes of edits: standard error, a line for each, where connections are served.
+fn crowd_of(
+    rt: &HostRuntime,
+    words: &[String],
+) -> Result<Crowd<LineWatcher<RealErrors<Stderr>>>, AllocError> {
+    let mut watchers = Vec::new(rt.alloc());
+    if let Some(first) = words.first() {
+        if first.as_str() == "serve" || first.as_str() == "pipe" {
+            watchers.push(LineWatcher::new(RealErrors::new(rt.stderr())))?;
+        }
+    }
+    Ok(Crowd::new(watchers))
 }
 
 fn main(rt: HostRuntime) -> ExitCode {
@@ -55,14 +80,29 @@ fn main(rt: HostRuntime) -> ExitCode {
             Vec::new(rt.alloc())
         }
     };
+    let Ok(mut crowd) = crowd_of(&rt, &words) else {
+        return ExitCode::from(Status::Memory.code());
+    };
     let mut files = RealFiles::new(&rt);
+    let mut input = RealInput::new(rt.stdin());
     let mut out = RealOutput::new(rt.stdout());
-    let status = run(rt.alloc(), &words, &mut files, &mut out);
+    let mut door = TcpDoor::new(&rt);
+    let status = run(
+        rt.alloc(),
+        &words,
+        &mut files,
+        &mut input,
+        &mut out,
+        &mut door,
+        &mut crowd,
+    );
     ExitCode::from(status.code())
 }
 
 #[cfg(test)]
 mod map_tests;
+#[cfg(test)]
+mod serve_tests;
 #[cfg(test)]
 mod tests;
 #[cfg(test)]

@@ -1,45 +1,130 @@
 //! The top call.
-ghost use Rattle.std.specs.Prelude.{◌≡◌, ◌≤◌, map, string_bytes};
+ghost use Rattle.std.specs.Prelude.{◌≡◌, ◌≤◌, None, false, map, string_bytes};
 ghost use Rattle.ml_io.specs.Files.{seen};
-ghost use Rattle.maplabel.specs.Outcome.{IsOutcome, IsEnd, IsPrinted};
+ghost use Rattle.ml_serve.specs.Visit.{IsVisit};
+ghost use Rattle.maplabel.specs.Run.{IsTaskDone, IsLiveEnd, IsRun, lending};
 
-use crate::answer::answer;
+use crate::batch::run_batch;
+use crate::live::{Live, LiveTask, read_live};
+use crate::loading::load_editor;
+use crate::printing::print_stop;
+use crate::serving::{pipe, serve_at};
 use crate::status::Status;
-use crate::stop::Stop;
-use ml_io::{Failed, Files, Sink, put_all};
+use ml_editor::Editor;
+use ml_io::{Door, Files, Sink, Source};
+use ml_watch::{Crowd, Watcher};
 use std::alloc::Global;
 
-// What is printed for words that have none of the forms.
-const USAGE: &str = "usage: maplabel show, slots, check, view, pipe, serve or gen\n";
-
-/// Does what the words after the program's name ask for: loads the files, and prints what is due.
+/// Does what the words after the program's name ask for: loads the files, and prints what is due, or
+/// serves connections over a map.
 ///
 /// The status says how the run ended; its line, if any, is printed too. Where it is `WriteFault`,
-/// only a part of what was due was printed.
-pub fn run<F: Files, K: Sink>(alloc: Global, words: &[String], files: &mut F, out: &mut K) -> Status
-    ensures end { IsEnd (IsOutcome (seen F.told F.faults F.failed_name files.old files.new) (map string_bytes words.now))
-        (K.written out.old) (K.written out.new) (K.faults out.old) (K.faults out.new) result }
+/// only a part of what was due was printed. The input is read by `pipe` alone, the door opened by
+/// `serve` alone, and the watchers are told the changes of all edits that these two accept.
+pub fn run<F: Files, S: Source, K: Sink, D: Door, W: Watcher>(
+    alloc: Global,
+    words: &[String],
+    files: &mut F,
+    input: &mut S,
+    out: &mut K,
+    door: &mut D,
+    crowd: &mut Crowd<W>,
+) -> Status
+    requires fresh { D.at_port door.old ≡ None }
+    requires out { D.is_out door.old ≡ false }
+    ensures end { IsRun
+        (record {
+          hearing = W.hearing;
+          left = S.left;
+          reads = S.faults;
+          coming = D.coming;
+          done = D.served;
+          doors = D.faults;
+          port = D.at_port;
+          one = IsVisit W.hearing D.In.left D.In.faults D.Out.written D.Out.faults;
+        })
+        (seen F.told F.faults F.failed_name files.old files.new) (map string_bytes words.now)
+        (lending input.old door.old crowd.old) (lending input.new door.new crowd.new)
+        (record { written = K.written out.old; written_after = K.written out.new; writes = K.faults out.old; writes_after = K.faults out.new }) result }
     ensures same { F.told files.new ≡ F.told files.old }
-    ensures later { (F.faults files.old ≤ F.faults files.new) × (K.faults out.old ≤ K.faults out.new) }
+    ensures later { (F.faults files.old ≤ F.faults files.new) × (K.faults out.old ≤ K.faults out.new)
+        × (S.faults input.old ≤ S.faults input.new) × (D.faults door.old ≤ D.faults door.new) }
+    ensures out { D.is_out door.new ≡ false }
 {
-    match answer(alloc, words, files) {
-        Ok((status, text)) => print(out, text.as_slice(), status),
-        Err(Stop::Usage) => print(out, USAGE.as_bytes(), Status::Usage),
-        Err(Stop::StyleRefused(line)) => print(out, line.as_slice(), Status::StyleRefused),
-        Err(Stop::InputRefused(line)) => print(out, line.as_slice(), Status::InputRefused),
-        Err(Stop::FileFault) => print(out, b"file fault\n", Status::FileFault),
-        Err(Stop::TooLong) => print(out, b"file too long\n", Status::TooLong),
-        Err(Stop::Memory) => print(out, b"", Status::Memory),
+    match read_live(words) {
+        Some(live) => run_live(alloc, &live, files, input, out, door, crowd),
+        None => run_batch(alloc, words, files, out),
     }
 }
 
-// Prints a text, and gives the status; `WriteFault` where not all was printed.
-fn print<K: Sink>(out: &mut K, text: &[u8], status: Status) -> Status
-    ensures printed { IsPrinted text.now status (K.written out.old) (K.written out.new) (K.faults out.old) (K.faults out.new) result }
-    ensures later { K.faults out.old ≤ K.faults out.new }
+// Loads a map, and serves what is to be served over it.
+fn run_live<F: Files, S: Source, K: Sink, D: Door, W: Watcher>(
+    alloc: Global,
+    live: &Live<'_>,
+    files: &mut F,
+    input: &mut S,
+    out: &mut K,
+    door: &mut D,
+    crowd: &mut Crowd<W>,
+) -> Status
+    requires fresh { D.at_port door.old ≡ None }
+    requires out { D.is_out door.old ≡ false }
+    ensures end { IsLiveEnd
+        (record {
+          hearing = W.hearing;
+          left = S.left;
+          reads = S.faults;
+          coming = D.coming;
+          done = D.served;
+          doors = D.faults;
+          port = D.at_port;
+          one = IsVisit W.hearing D.In.left D.In.faults D.Out.written D.Out.faults;
+        })
+        (seen F.told F.faults F.failed_name files.old files.new) live.now.style.now live.now.map.now live.now.task
+        (lending input.old door.old crowd.old) (lending input.new door.new crowd.new)
+        (record { written = K.written out.old; written_after = K.written out.new; writes = K.faults out.old; writes_after = K.faults out.new }) result }
+    ensures same { F.told files.new ≡ F.told files.old }
+    ensures later { (F.faults files.old ≤ F.faults files.new) × (K.faults out.old ≤ K.faults out.new)
+        × (S.faults input.old ≤ S.faults input.new) × (D.faults door.old ≤ D.faults door.new) }
+    ensures out { D.is_out door.new ≡ false }
 {
-    match put_all(out, text) {
-        Ok(()) => status,
-        Err(Failed) => Status::WriteFault,
+    match load_editor(alloc, files, live.style, live.map) {
+        Ok(editor) => do_task(alloc, live.task, editor, input, out, door, crowd),
+        Err(stop) => print_stop(out, &stop),
+    }
+}
+
+// Serves what is to be served over a map.
+fn do_task<S: Source, K: Sink, D: Door, W: Watcher>(
+    alloc: Global,
+    task: LiveTask,
+    editor: Editor,
+    input: &mut S,
+    out: &mut K,
+    door: &mut D,
+    crowd: &mut Crowd<W>,
+) -> Status
+    requires fresh { D.at_port door.old ≡ None }
+    requires out { D.is_out door.old ≡ false }
+    ensures done { IsTaskDone
+        (record {
+          hearing = W.hearing;
+          left = S.left;
+          reads = S.faults;
+          coming = D.coming;
+          done = D.served;
+          doors = D.faults;
+          port = D.at_port;
+          one = IsVisit W.hearing D.In.left D.In.faults D.Out.written D.Out.faults;
+        })
+        task editor.state
+        (lending input.old door.old crowd.old) (lending input.new door.new crowd.new)
+        (record { written = K.written out.old; written_after = K.written out.new; writes = K.faults out.old; writes_after = K.faults out.new }) result }
+    ensures later { (K.faults out.old ≤ K.faults out.new) × (S.faults input.old ≤ S.faults input.new) × (D.faults door.old ≤ D.faults door.new) }
+    ensures out { D.is_out door.new ≡ false }
+{
+    match task {
+        LiveTask::Pipe => pipe(alloc, editor, input, out, crowd),
+        LiveTask::Serve(port, count) => serve_at(alloc, editor, out, door, crowd, port, count),
     }
 }

@@ -15,8 +15,12 @@ pub enum Status {
     InputRefused,
     /// A file is missing, or its reading failed.
     FileFault,
+    /// The input failed.
+    ReadFault,
     /// Not all could be printed.
     WriteFault,
+    /// The door failed.
+    DoorFault,
     /// Want of memory.
     Memory,
     /// A file is longer than 67,108,864 bytes.
@@ -38,7 +42,9 @@ impl Status {
             Status::StyleRefused => 3,
             Status::InputRefused => 4,
             Status::FileFault => 5,
+            Status::ReadFault => 6,
             Status::WriteFault => 7,
+            Status::DoorFault => 8,
             Status::Memory => 9,
             Status::TooLong => 10,
         }

@@ -2,9 +2,10 @@
 //! bytes of the files, the words, the exit code and what is printed.
 use crate::run::run;
 use crate::status::Status;
-use ml_io::{CalmFiles, CalmSink, MemFiles, MemSink};
+use ml_io::{CalmFiles, CalmSink, Files, MemDoor, MemFiles, MemSink, MemSource, Sink};
 use ml_ratio::Text;
-use std::alloc::Global;
+use ml_watch::{Crowd, MemWatcher};
+use std::alloc::{AllocError, Global};
 use std::test::Fail;
 
 /// The words of a line, cut at its spaces.
@@ -29,6 +30,19 @@ pub(crate) fn files_of(
     Ok(files)
 }
 
+/// A run without input, connections and watchers.
+pub(crate) fn run_alone<F: Files, K: Sink>(
+    alloc: Global,
+    words: &[String],
+    files: &mut F,
+    out: &mut K,
+) -> Result<Status, AllocError> {
+    let mut input = MemSource::new(Vec::new(alloc), 1, Vec::new(alloc));
+    let mut door = MemDoor::new(alloc, Vec::new(alloc), Vec::new(alloc))?;
+    let mut crowd: Crowd<MemWatcher> = Crowd::new(Vec::new(alloc));
+    Ok(run(alloc, words, files, &mut input, out, &mut door, &mut crowd))
+}
+
 /// What a run over these files prints, and its status.
 pub(crate) fn run_over(
     alloc: Global,
@@ -38,7 +52,7 @@ pub(crate) fn run_over(
     let words = words_of(alloc, line)?;
     let mut files = MemFiles::new(files_of(alloc, texts)?, Vec::new(alloc));
     let mut out = MemSink::new(alloc, 65536, Vec::new(alloc))?;
-    let status = run(alloc, &words, &mut files, &mut out);
+    let status = run_alone(alloc, &words, &mut files, &mut out)?;
     Ok((status, out))
 }
 
@@ -190,7 +204,7 @@ fn status_over(alloc: Global, line: &str, count: usize, fails: Vec<u64>) -> Resu
     files.push((Text::of(alloc, "t")?, vec![in alloc; b'\n'; count]?))?;
     let mut files = MemFiles::new(files, fails);
     let mut out = MemSink::new(alloc, 100, Vec::new(alloc))?;
-    Ok(run(alloc, &words_of(alloc, line)?, &mut files, &mut out))
+    Ok(run_alone(alloc, &words_of(alloc, line)?, &mut files, &mut out)?)
 }
 
 #[test]
@@ -211,7 +225,7 @@ fn sinks_that_fail(rt: HostRuntime) -> Result<(), Fail> {
     for line in ["show t 0 0 1024 768 1/1", "slots t", "slots u", "none"] {
         let mut files = MemFiles::new(files_of(alloc, &[("t", TWO)])?, Vec::new(alloc));
         let mut out = MemSink::new(alloc, 1000, vec![in alloc; 0]?)?;
-        let status = run(alloc, &words_of(alloc, line)?, &mut files, &mut out);
+        let status = run_alone(alloc, &words_of(alloc, line)?, &mut files, &mut out)?;
         assert_eq!(rt; status, Status::WriteFault, "{line}");
         assert_eq!(rt; out.bytes(), b"".as_slice(), "{line}");
     }
@@ -223,7 +237,7 @@ fn calm_things_do_not_fail(rt: HostRuntime) -> Result<(), Fail> {
     let alloc = rt.alloc();
     let mut files = CalmFiles::new(files_of(alloc, &[("t", TWO)])?);
     let mut out = CalmSink::new();
-    let status = run(alloc, &words_of(alloc, "slots t")?, &mut files, &mut out);
+    let status = run_alone(alloc, &words_of(alloc, "slots t")?, &mut files, &mut out)?;
     assert_eq!(rt; (status, out.count()), (Status::Done, 20));
     Ok(())
 }
@@ -237,7 +251,9 @@ fn statuses_have_these_codes(rt: HostRuntime) {
         (Status::StyleRefused, 3),
         (Status::InputRefused, 4),
         (Status::FileFault, 5),
+        (Status::ReadFault, 6),
         (Status::WriteFault, 7),
+        (Status::DoorFault, 8),
         (Status::Memory, 9),
         (Status::TooLong, 10),
     ] {

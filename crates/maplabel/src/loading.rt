@@ -1,0 +1,38 @@
+//! A map that is loaded to be served.
+ghost use Rattle.std.specs.Prelude.{◌≡◌, ◌≤◌, IfOk, IfErr};
+ghost use Rattle.ml_io.specs.Files.{seen};
+ghost use Rattle.maplabel.specs.Inputs.{Keeps};
+ghost use Rattle.maplabel.specs.Outcome.{IsMapAnswerStop};
+ghost use Rattle.maplabel.specs.Serving.{IsFirstState};
+
+use crate::map_inputs::{load_map, load_style};
+use crate::stop::Stop;
+use ml_editor::{Editor, LoadRefused};
+use ml_io::Files;
+use std::alloc::Global;
+
+/// The map of this name under the style of that name, at its first revision.
+///
+/// # Errors
+/// As [`load_style`] and then [`load_map`]; want of memory.
+pub fn load_editor<F: Files>(
+    alloc: Global,
+    files: &mut F,
+    style: &str,
+    map: &str,
+) -> Result<Editor, Stop>
+    ensures ok { IfOk result (λ editor. IsFirstState (F.told files.old) style.now map.now editor.state) }
+    ensures stop { IfErr result (IsMapAnswerStop (seen F.told F.faults F.failed_name files.old files.new) style.now map.now) }
+    ensures same { F.told files.new ≡ F.told files.old }
+    ensures kept { Keeps (seen F.told F.faults F.failed_name files.old files.new) result }
+    ensures later { F.faults files.old ≤ F.faults files.new }
+{
+    let classes = load_style(alloc, files, style)?;
+    let features = load_map(alloc, files, map)?;
+    match Editor::load(alloc, classes, features) {
+        Ok(editor) => Ok(editor),
+        // the map was read, so it has no more features than there may be
+        Err(LoadRefused::Full) => unreachable!(),
+        Err(LoadRefused::Memory) => Err(Stop::Memory),
+    }
+}

@@ -1,0 +1,136 @@
+//! Connections that are served over a map.
+ghost use Rattle.std.specs.Prelude.{◌≡◌, ◌<◌, ◌≤◌, None, Some, false};
+ghost use Rattle.ml_serve.specs.Visit.{IsVisit};
+ghost use Rattle.maplabel.specs.Serving.{IsPiped, IsServed, status_of_link, status_of_serving};
+
+use crate::status::Status;
+use ml_editor::Editor;
+use ml_http::{ConnEnd, serve_link};
+use ml_io::{Door, Sink, Source};
+use ml_ratio::Steps;
+use ml_serve::{ServeEnd, serve};
+use ml_watch::{Crowd, Watcher};
+use std::alloc::Global;
+use std::marker::Brand;
+use std::sync::ledger::{Blank, Ledger};
+
+/// Serves one connection over the map, from the input to the output.
+pub fn pipe<S: Source, K: Sink, W: Watcher>(
+    alloc: Global,
+    editor: Editor,
+    input: &mut S,
+    out: &mut K,
+    crowd: &mut Crowd<W>,
+) -> Status
+    ensures served { IsPiped W.hearing editor.state crowd.old crowd.new (S.left input.old) (S.left input.new) (K.written out.old) (K.written out.new)
+        (S.faults input.old) (S.faults input.new) (K.faults out.old) (K.faults out.new) result }
+    ensures later { (K.faults out.old ≤ K.faults out.new) × (S.faults input.old ≤ S.faults input.new) }
+{
+    pipe_counted::<Brand, S, K, W>(alloc, editor, input, out, crowd, Blank::new(1))
+}
+
+// The same, with a counter of its own.
+fn pipe_counted<L: Ledger, S: Source, K: Sink, W: Watcher>(
+    alloc: Global,
+    editor: Editor,
+    input: &mut S,
+    out: &mut K,
+    crowd: &mut Crowd<W>,
+    blank: Blank,
+) -> Status
+    requires name { blank.name ≡ L.name }
+    requires parts { blank.parts ≡ L.parts }
+    requires some { 0 < blank.parts }
+    ensures served { IsPiped W.hearing editor.state crowd.old crowd.new (S.left input.old) (S.left input.new) (K.written out.old) (K.written out.new)
+        (S.faults input.old) (S.faults input.new) (K.faults out.old) (K.faults out.new) result }
+    ensures later { (K.faults out.old ≤ K.faults out.new) × (S.faults input.old ≤ S.faults input.new) }
+{
+    let mut editor = editor;
+    let mut steps: Steps<L> = Steps::new(blank);
+    let end = serve_link(alloc, &mut editor, input, out, crowd, &mut steps);
+    status_of_link(end)
+}
+
+/// Serves at most so many connections over the map at a port, one after another, and says so.
+pub fn serve_at<K: Sink, D: Door, W: Watcher>(
+    alloc: Global,
+    editor: Editor,
+    out: &mut K,
+    door: &mut D,
+    crowd: &mut Crowd<W>,
+    port: u16,
+    count: u64,
+) -> Status
+    requires fresh { D.at_port door.old ≡ None }
+    requires out { D.is_out door.old ≡ false }
+    ensures served { IsServed (IsVisit W.hearing D.In.left D.In.faults D.Out.written D.Out.faults) W.hearing editor.state crowd.old crowd.new
+        (D.coming door.old) (D.coming door.new) (D.served door.old) (D.served door.new) count (K.written out.old) (K.written out.new)
+        (D.faults door.old) (D.faults door.new) (K.faults out.old) (K.faults out.new) result }
+    ensures out { D.is_out door.new ≡ false }
+    ensures port { D.at_port door.new ≡ Some port }
+    ensures later { (K.faults out.old ≤ K.faults out.new) × (D.faults door.old ≤ D.faults door.new) }
+{
+    serve_counted::<Brand, K, D, W>(alloc, editor, out, door, crowd, port, count, Blank::new(1))
+}
+
+// The same, with a counter of its own.
+fn serve_counted<L: Ledger, K: Sink, D: Door, W: Watcher>(
+    alloc: Global,
+    editor: Editor,
+    out: &mut K,
+    door: &mut D,
+    crowd: &mut Crowd<W>,
+    port: u16,
+    count: u64,
+    blank: Blank,
+) -> Status
+    requires fresh { D.at_port door.old ≡ None }
+    requires out { D.is_out door.old ≡ false }
+    requires name { blank.name ≡ L.name }
+    requires parts { blank.parts ≡ L.parts }
+    requires some { 0 < blank.parts }
+    ensures served { IsServed (IsVisit W.hearing D.In.left D.In.faults D.Out.written D.Out.faults) W.hearing editor.state crowd.old crowd.new
+        (D.coming door.old) (D.coming door.new) (D.served door.old) (D.served door.new) count (K.written out.old) (K.written out.new)
+        (D.faults door.old) (D.faults door.new) (K.faults out.old) (K.faults out.new) result }
+    ensures out { D.is_out door.new ≡ false }
+    ensures port { D.at_port door.new ≡ Some port }
+    ensures later { (K.faults out.old ≤ K.faults out.new) × (D.faults door.old ≤ D.faults door.new) }
+{
+    let mut editor = editor;
+    let mut steps: Steps<L> = Steps::new(blank);
+    let end = serve(
+        alloc,
+        &mut editor,
+        out,
+        door,
+        crowd,
+        &mut steps,
+        port,
+        count,
+    );
+    status_of_serving(end)
+}
+
+// The status of a run by how its one connection ended.
+fn status_of_link(end: ConnEnd) -> Status
+    ensures { result ≡ status_of_link end }
+{
+    match end {
+        ConnEnd::Shut => Status::Done,
+        ConnEnd::Starved => Status::Memory,
+        ConnEnd::Closed => Status::Done,
+        ConnEnd::ReadFault => Status::ReadFault,
+        ConnEnd::WriteFault => Status::WriteFault,
+    }
+}
+
+// The status of a run by how serving ended.
+fn status_of_serving(end: ServeEnd) -> Status
+    ensures { result ≡ status_of_serving end }
+{
+    match end {
+        ServeEnd::Done => Status::Done,
+        ServeEnd::WriteFault => Status::WriteFault,
+        ServeEnd::DoorFault => Status::DoorFault,
+    }
+}

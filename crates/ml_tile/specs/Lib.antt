@@ -1,0 +1,5 @@
+pub mod Place
+pub mod Tile
+pub mod Area
+pub mod Cache
+pub mod Ends
