@@ -1,0 +1,13 @@
+//! Tests of what comes in from outside and goes out, and of connections, through the public calls, on
+//! values worked out by hand.
+//!
+//! They stand in a crate of their own, so that no library is proved a second time with its tests. A case
+//! is a line of a text, `input => answer`, as the formats write it.
+//!
+//! - `io`: sources and doors; `http`: connections, request by request.
+#![tactic(auto)]
+
+#[cfg(test)]
+mod http;
+#[cfg(test)]
+mod io;

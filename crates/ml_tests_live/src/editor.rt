@@ -1,0 +1,355 @@
+//! Edits of a map, one after another, and what is asked of it between them.
+ghost use Rattle.std.specs.Prelude.{◌≡◌, ◌<◌, All, IfOk, IfSome};
+ghost use Rattle.ml_store.specs.Rows.{IsLive, IsNumberOf};
+ghost use Rattle.ml_editor.specs.Editing.{IsReady, HasRoomFor};
+
+use crate::cases::{case, fraction};
+use ml_answer::{edit_json, fault_json, reason_json, rev_json, slot_json};
+use ml_cone::View;
+use ml_editor::{EditFault, Editor, Ready, Standing};
+use ml_geojson::read_collection;
+use ml_ratio::lines::parts_of;
+use ml_ratio::{Seq, Steps, Text};
+use ml_style::read_style;
+use ml_watch::{Crowd, MemWatcher};
+use std::alloc::Global;
+use std::marker::Brand;
+use std::sync::ledger::{Blank, Ledger};
+use std::test::Fail;
+
+/// A style of towns, each letter ten pixels wide, but for its margin.
+const TOWNS: &str = r#"version = 2
+rank = "pop"
+
+[fonts.sans]
+units = 1000
+default = 500
+
+[[class]]
+geometry = "point"
+key = "place"
+value = "city"
+font = "sans"
+size = 20
+priority = 1
+min = "0"
+max = "1000"
+margin = "#;
+
+/// `WORD REV ARGUMENT => ANSWER`. Where no revision is asked for `REV` is `-`. The answer of an edit is
+/// how many labels were evaluated for it and its text, that of a refusal `-` and its text. A feature is
+/// written as its id, its longitude in ten millionths of a degree, its rank and its name, or as itself.
+const EDITS: &str = r#"new - - => {"features":0,"labels":0,"rev":0}
+add - A 0 3 ab => 1 {"changes":[{"after":["0/1","1000/1"],"before":null,"id":"A"}],"rev":1}
+add - B 400 2 ab => 1 {"changes":[{"after":["0/1","20/1"],"before":null,"id":"B"}],"rev":2}
+add - C 800 1 ab => 1 {"changes":[{"after":["0/1","40/1"],"before":null,"id":"C"}],"rev":3}
+why - C => {"blocker":"A","id":"C","max":"1000/1","min":"0/1","until":"40/1"}
+del - A => 2 {"changes":[{"after":null,"before":["0/1","1000/1"],"id":"A"},{"after":["0/1","1000/1"],"before":["0/1","20/1"],"id":"B"},{"after":["0/1","20/1"],"before":["0/1","40/1"],"id":"C"}],"rev":4}
+why - C => {"blocker":"B","id":"C","max":"1000/1","min":"0/1","until":"20/1"}
+why - A => none
+order - - => B C
+new - - => {"features":0,"labels":0,"rev":0}
+add - A -400 3 ab => 1 {"changes":[{"after":["0/1","1000/1"],"before":null,"id":"A"}],"rev":1}
+add - B 400 2 ab => 1 {"changes":[{"after":["0/1","40/1"],"before":null,"id":"B"}],"rev":2}
+add - C 0 1 ab => 1 {"changes":[{"after":["0/1","20/1"],"before":null,"id":"C"}],"rev":3}
+why - C => {"blocker":"A","id":"C","max":"1000/1","min":"0/1","until":"20/1"}
+del - A => 2 {"changes":[{"after":null,"before":["0/1","1000/1"],"id":"A"},{"after":["0/1","1000/1"],"before":["0/1","40/1"],"id":"B"}],"rev":4}
+why - C => {"blocker":"B","id":"C","max":"1000/1","min":"0/1","until":"20/1"}
+add - A -400 3 ab => 3 {"changes":[{"after":["0/1","1000/1"],"before":null,"id":"A"},{"after":["0/1","40/1"],"before":["0/1","1000/1"],"id":"B"}],"rev":5}
+why - C => {"blocker":"A","id":"C","max":"1000/1","min":"0/1","until":"20/1"}
+order - - => A B C
+map - - => B C A
+new - - => {"features":0,"labels":0,"rev":0}
+add - A 0 3 ab => 1 {"changes":[{"after":["0/1","1000/1"],"before":null,"id":"A"}],"rev":1}
+add - A 0 3 ab => - {"error":"Duplicate","id":"A"}
+put - Z 0 3 ab => - {"error":"Unknown","id":"Z"}
+del - Z => - {"error":"Unknown","id":"Z"}
+add 0 x => - {"error":"RevMoved","rev":1}
+add 1 x => - {"at":0,"error":"NotJson"}
+put 1 x => - {"at":0,"error":"NotJson"}
+show - 1 => A
+put 1 A 0 3 abc => 1 {"changes":[{"after":["0/1","1000/1"],"before":["0/1","1000/1"],"id":"A"}],"rev":2}
+put 1 x => - {"error":"RevMoved","rev":2}
+del 1 Z => - {"error":"RevMoved","rev":2}
+style 1 x => - {"error":"RevMoved","rev":2}
+put - A 0 3 abc => 1 {"changes":[],"rev":3}
+put - A 0 3 - => 0 {"changes":[{"after":null,"before":["0/1","1000/1"],"id":"A"}],"rev":4}
+why - A => {"id":"A","reason":"NoName"}
+show - 1 => none
+del - A => 0 {"changes":[],"rev":5}
+why - A => none
+rev - - => {"features":0,"labels":0,"rev":5}
+new - - => {"features":0,"labels":0,"rev":0}
+try - A 0 3 ab => {"features":0,"labels":0,"rev":0}
+why - A => none
+add - A 0 3 ab => 1 {"changes":[{"after":["0/1","1000/1"],"before":null,"id":"A"}],"rev":1}
+map - - => A
+new - - => {"features":0,"labels":0,"rev":0}
+add - A 0 3 ab => 1 {"changes":[{"after":["0/1","1000/1"],"before":null,"id":"A"}],"rev":1}
+add - B 15000 2 ab => 1 {"changes":[{"after":["0/1","750/1"],"before":null,"id":"B"}],"rev":2}
+add - C 30000 1 ab => 1 {"changes":[{"after":["0/1","1000/1"],"before":null,"id":"C"}],"rev":3}
+del - A => 2 {"changes":[{"after":null,"before":["0/1","1000/1"],"id":"A"},{"after":["0/1","1000/1"],"before":["0/1","750/1"],"id":"B"},{"after":["0/1","750/1"],"before":["0/1","1000/1"],"id":"C"}],"rev":4}
+new - - => {"features":0,"labels":0,"rev":0}
+add - A 0 3 ab => 1 {"changes":[{"after":["0/1","1000/1"],"before":null,"id":"A"}],"rev":1}
+add - B 400 2 ab => 1 {"changes":[{"after":["0/1","20/1"],"before":null,"id":"B"}],"rev":2}
+add - C 800 1 ab => 1 {"changes":[{"after":["0/1","40/1"],"before":null,"id":"C"}],"rev":3}
+style - 5 => 0 {"changes":[{"after":["0/1","1000/1"],"before":["0/1","1000/1"],"id":"A"},{"after":["0/1","40/3"],"before":["0/1","20/1"],"id":"B"},{"after":["0/1","80/3"],"before":["0/1","40/1"],"id":"C"}],"rev":4}
+style 4 5 => 0 {"changes":[],"rev":5}
+style - version => - {"error":"Version"}
+style 0 version => - {"error":"RevMoved","rev":5}
+rev - - => {"features":3,"labels":3,"rev":5}"#;
+
+/// A style with this margin, or the text itself.
+fn style_of(alloc: Global, words: &str) -> Result<String, Fail> {
+    match words {
+        "version" => Ok(String::from_str(alloc, "version = 3")?),
+        "x" => Ok(String::from_str(alloc, "x")?),
+        margin => Ok(format!(in alloc; "{TOWNS}{margin}\n")?),
+    }
+}
+
+/// The feature that words write, or the words themselves.
+fn body_of(alloc: Global, words: &str) -> Result<String, Fail> {
+    let fields = parts_of(alloc, words, ' ')?;
+    match fields.as_slice() {
+        [id, x, pop, name] => {
+            let name = if *name == "-" { "" } else { *name };
+            Ok(format!(in alloc;
+                r#"{{"type":"Feature","id":"{id}","geometry":{{"type":"Point","coordinates":[{x}e-7,0]}},"properties":{{"name":"{name}","place":"city","pop":{pop}}}}}"#
+            )?)
+        }
+        _ => Ok(String::from_str(alloc, words)?),
+    }
+}
+
+/// A map without features.
+fn empty(alloc: Global) -> Result<Editor, Fail> {
+    let style = style_of(alloc, "0")?;
+    let style = read_style(alloc, style.as_bytes())?;
+    Ok(Editor::load(alloc, style, Seq::new(alloc))?)
+}
+
+/// The text of how many features and labels there are.
+fn counted(alloc: Global, editor: &Editor) -> Result<String, Fail> {
+    let text = rev_json(alloc, editor.rev(), editor.features(), editor.labels())?;
+    Ok(String::from_utf8(text.into_vec()).ok().ok_or("a text")?)
+}
+
+/// The revision that a word asks for; `-` asks for none.
+fn rev_of(word: &str) -> Result<Option<u64>, Fail> {
+    if word == "-" {
+        return Ok(None);
+    }
+    Ok(Some(word.parse::<u64>().ok().ok_or("a revision")?))
+}
+
+/// The text that bytes are.
+fn text_of(bytes: Seq<u8>) -> Result<String, Fail> {
+    Ok(String::from_utf8(bytes.into_vec()).ok().ok_or("a text")?)
+}
+
+/// The edit that a word names, made ready.
+fn prepared<L: Ledger>(
+    alloc: Global,
+    editor: &mut Editor,
+    word: &str,
+    rev: Option<u64>,
+    words: &str,
+    steps: &mut Steps<L>,
+) -> Result<Result<Ready, EditFault>, Fail>
+    ensures { IfOk result (λ made. IfOk made (λ ready. IsReady ready editor.new.state editor.new.engine.rows × HasRoomFor ready editor.new)) }
+{
+    match word {
+        "add" => {
+            let body = body_of(alloc, words)?;
+            Ok(editor.prepare_add(alloc, rev, body.as_bytes(), steps))
+        }
+        "put" => {
+            let body = body_of(alloc, words)?;
+            Ok(editor.prepare_replace(alloc, rev, body.as_bytes(), steps))
+        }
+        "del" => {
+            let id = Text::of(alloc, words)?;
+            Ok(editor.prepare_remove(alloc, rev, &id, steps))
+        }
+        _ => {
+            let style = style_of(alloc, words)?;
+            Ok(editor.prepare_style(alloc, rev, style.as_bytes()))
+        }
+    }
+}
+
+/// Makes an edit and tells the watchers; the text of what it changed, or why it was refused.
+fn edited<L: Ledger>(
+    alloc: Global,
+    editor: &mut Editor,
+    crowd: &mut Crowd<MemWatcher>,
+    word: &str,
+    rev: Option<u64>,
+    words: &str,
+    steps: &mut Steps<L>,
+) -> Result<String, Fail> {
+    match prepared(alloc, editor, word, rev, words, steps)? {
+        Ok(ready) => {
+            let evaluated = ready.evaluated();
+            let text = text_of(edit_json(alloc, ready.rev(), ready.changes())?)?;
+            editor.commit(ready, crowd);
+            Ok(format!(in alloc; "{evaluated} {text}")?)
+        }
+        Err(fault) => {
+            let text = text_of(fault_json(alloc, &fault)?)?;
+            Ok(format!(in alloc; "- {text}")?)
+        }
+    }
+}
+
+/// Makes an addition ready and gives it up.
+fn tried<L: Ledger>(
+    alloc: Global,
+    editor: &mut Editor,
+    words: &str,
+    steps: &mut Steps<L>,
+) -> Result<String, Fail> {
+    match prepared(alloc, editor, "add", None, words, steps)? {
+        Ok(_ready) => counted(alloc, editor),
+        Err(_fault) => Err(Fail::from("a ready edit")),
+    }
+}
+
+/// Why the feature with an id has no label, or the slot of its label.
+fn why(alloc: Global, editor: &Editor, words: &str) -> Result<String, Fail> {
+    let id = Text::of(alloc, words)?;
+    match editor.standing(&id) {
+        Some(Standing::Labelled(number)) => slot_of(alloc, editor, &id, number),
+        Some(Standing::Unlabelled(reason)) => text_of(reason_json(alloc, &id, reason)?),
+        None => Ok(String::from_str(alloc, "none")?),
+    }
+}
+
+/// The slot of the label with this id and this number.
+fn slot_of(alloc: Global, editor: &Editor, id: &Text, number: u32) -> Result<String, Fail>
+    requires { IsNumberOf editor.now.engine.rows id.now number }
+{
+    let slot = editor.slot_at(number);
+    let blocker = blocker_of(editor, slot.blocker);
+    text_of(slot_json(alloc, editor.label_at(number), slot.until, blocker)?)
+}
+
+/// The id of the label with this number, if there is a number.
+fn blocker_of(editor: &Editor, number: Option<u32>) -> Option<&Text>
+    requires { IfSome number (IsLive editor.now.engine.rows) }
+{
+    match number {
+        Some(number) => Some(editor.label_at(number).id()),
+        None => None,
+    }
+}
+
+/// The ids of the labels with these numbers, or `none`.
+fn ids_of(alloc: Global, editor: &Editor, numbers: &[u32]) -> Result<String, Fail>
+    requires { All (IsLive editor.now.engine.rows) numbers.now }
+{
+    let mut text = String::new(alloc);
+    for number in numbers {
+        let id = editor.label_at(*number).id();
+        text = if text.is_empty() {
+            format!(in alloc; "{}", id.as_str())?
+        } else {
+            format!(in alloc; "{text} {}", id.as_str())?
+        };
+    }
+    if text.is_empty() {
+        text = String::from_str(alloc, "none")?;
+    }
+    Ok(text)
+}
+
+/// The ids of the labels that a view about the middle of the world shows at a scale.
+fn shown<L: Ledger>(
+    alloc: Global,
+    editor: &Editor,
+    scale: &str,
+    steps: &mut Steps<L>,
+) -> Result<String, Fail> {
+    let view = View::of(0, 0, 1024, 768, fraction(scale)?).ok_or("a view")?;
+    let numbers = editor.shown(alloc, &view, steps)?;
+    ids_of(alloc, editor, numbers.as_slice())
+}
+
+/// The ids of the features of the text of the map, in their order.
+fn mapped(alloc: Global, editor: &Editor) -> Result<String, Fail> {
+    let text = editor.export(alloc)?;
+    let features = read_collection(alloc, text.as_slice())?;
+    let mut ids = String::new(alloc);
+    for feature in features.as_slice() {
+        ids = if ids.is_empty() {
+            format!(in alloc; "{}", feature.id.as_str())?
+        } else {
+            format!(in alloc; "{ids} {}", feature.id.as_str())?
+        };
+    }
+    Ok(ids)
+}
+
+/// What a line asks of the map, or what it makes of it.
+fn told<L: Ledger>(
+    alloc: Global,
+    editor: &mut Editor,
+    crowd: &mut Crowd<MemWatcher>,
+    input: &str,
+    steps: &mut Steps<L>,
+) -> Result<String, Fail> {
+    let (word, rest) = input.split_once(" ").ok_or("a word")?;
+    let (rev, words) = rest.split_once(" ").ok_or("a revision")?;
+    match word {
+        "new" => {
+            *editor = empty(alloc)?;
+            counted(alloc, editor)
+        }
+        "rev" => counted(alloc, editor),
+        "why" => why(alloc, editor, words),
+        "order" => {
+            let numbers = editor.in_order(alloc)?;
+            ids_of(alloc, editor, numbers.as_slice())
+        }
+        "map" => mapped(alloc, editor),
+        "show" => shown(alloc, editor, words, steps),
+        "try" => tried(alloc, editor, words, steps),
+        _ => edited(alloc, editor, crowd, word, rev_of(rev)?, words, steps),
+    }
+}
+
+/// The first line that is answered otherwise than it says, with that answer; an empty text where none is.
+fn first_wrong<L: Ledger>(alloc: Global, blank: Blank) -> Result<String, Fail>
+    requires name { blank.name ≡ L.name }
+    requires parts { blank.parts ≡ L.parts }
+    requires some { 0 < blank.parts }
+{
+    let mut steps: Steps<L> = Steps::new(blank);
+    let mut editor = empty(alloc)?;
+    let mut watchers = Vec::new(alloc);
+    watchers.push(MemWatcher::new(alloc, 100, Vec::new(alloc))?)?;
+    let mut crowd = Crowd::new(watchers);
+    for line in EDITS.lines() {
+        let (input, want) = case(line)?;
+        let text = told(alloc, &mut editor, &mut crowd, input, &mut steps)?;
+        if text.as_str() != want {
+            return Ok(format!(in alloc; "{line}: {text}")?);
+        }
+    }
+    if crowd.heard(0) != Some(29) {
+        return Ok(String::from_str(alloc, "the watcher heard another number of changes")?);
+    }
+    Ok(String::new(alloc))
+}
+
+/// The same with a counter of its own.
+fn wrong_line(alloc: Global) -> Result<String, Fail> {
+    first_wrong::<Brand>(alloc, Blank::new(1))
+}
+
+#[test]
+fn a_map_is_edited(rt: HostRuntime) -> Result<(), Fail> {
+    assert_eq!(rt; wrong_line(rt.alloc())?.as_str(), "");
+    Ok(())
+}
