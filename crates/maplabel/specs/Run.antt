@@ -1,5 +1,5 @@
 -- What a run comes to, whatever the words ask for.
-use Rattle.std.specs.Prelude.{◌≡◌, ◌⊎◌, ℕ, List, Option, Some}
+use Rattle.std.specs.Prelude.{◌≡◌, ◌⊎◌, ℕ, Bool, List, Option, Some}
 use Rattle.ml_io.specs.Files.{Seen, KeptName}
 use Rattle.ml_io.specs.declared.link.Link.{Link}
 use Rattle.ml_watch.specs.Hearing.{Hearing}
@@ -14,7 +14,7 @@ use Rattle.maplabel.specs.declared.live.LiveTask.{LiveTask}
 use Rattle.maplabel.specs.declared.live.LiveTask.TheVariants.{Pipe, Serve}
 use Rattle.maplabel.specs.declared.status.Status.{Status}
 
--- what input, door and watchers tell: of a watcher what it heard; of the input what is left and its faults; of the door the connections to come, those done, its faults and its port; and what it is that one connection is served
+-- what input, door and watchers tell: of a watcher what it heard; of the input what is left and its faults; of the door the connections to come, those done, its faults, its port and whether it listens; and what it is that one connection is served
 pub record Meanings (S D I O W : Type 0) : Type 1 where
   pub hearing : W → Hearing
   pub left : S → Option (List ℕ)
@@ -23,6 +23,7 @@ pub record Meanings (S D I O W : Type 0) : Type 1 where
   pub done : D → Option (List (Link I O))
   pub doors : D → ℕ
   pub port : D → Option ℕ
+  pub listens : D → Bool
   pub one : LinkState W → Visit I O LinkAnswer → LinkState W → Type 0
 
 -- input, door and watchers
@@ -48,7 +49,7 @@ IsTaskDone m Pipe first old new out status =
     (m.reads old.input) (m.reads new.input) out.writes out.writes_after status
     × (new.door ≡ old.door)
 IsTaskDone m (Serve port count) first old new out status =
-    IsServed m.one m.hearing first old.crowd new.crowd (m.coming old.door) (m.coming new.door) (m.done old.door) (m.done new.door) count
+    IsServed m.one m.hearing first old.crowd new.crowd (m.coming old.door) (m.coming new.door) (m.done old.door) (m.done new.door) count (m.listens new.door)
     out.written out.written_after (m.doors old.door) (m.doors new.door) out.writes out.writes_after status
     × (m.port new.door ≡ Some port)
     × (new.input ≡ old.input)

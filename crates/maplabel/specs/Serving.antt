@@ -1,5 +1,5 @@
 -- How connections are served over a map that was loaded.
-use Rattle.std.specs.Prelude.{◌≡◌, ℕ, List, [], length, codes, Option, ◌⊎◌}
+use Rattle.std.specs.Prelude.{◌≡◌, ℕ, Bool, false, List, [], length, codes, Option, ◌⊎◌}
 use Rattle.ml_ratio.specs.declared.feature.Feature.{Feature}
 use Rattle.ml_io.specs.Files.{FileSet, Seen}
 use Rattle.ml_io.specs.declared.link.Link.{Link}
@@ -12,7 +12,7 @@ use Rattle.ml_http.specs.Step.{LinkAnswer}
 use Rattle.ml_http.specs.declared.connection_end.ConnEnd.{ConnEnd}
 use Rattle.ml_http.specs.declared.connection_end.ConnEnd.TheVariants as ends
 use Rattle.ml_serve.specs.Headline.{Headline}
-use Rattle.ml_serve.specs.Printed.{IsEndOfServing, HasServeCause}
+use Rattle.ml_serve.specs.Printed.{IsEndOfServing, IsFaultSaid, HasServeCause}
 use Rattle.ml_serve.specs.Session.{Visit}
 use Rattle.ml_serve.specs.declared.serve_end.ServeEnd.{ServeEnd}
 use Rattle.ml_serve.specs.declared.serve_end.ServeEnd.TheVariants as serving
@@ -59,13 +59,14 @@ pub record IsPiped {W : Type 0} (hearing : W → Hearing) (first : State) (crowd
   pub crowd_is : last.crowd ≡ crowd_after
   pub status_is : status ≡ status_of_link end
 
--- connections were served one after another from this state, as the headline says; each fault comes only where its count rose
-pub record IsServed {W I O : Type 0} (one : LinkState W → Visit I O LinkAnswer → LinkState W → Type 0) (hearing : W → Hearing) (first : State) (crowd crowd_after : List W) (coming coming_after done done_after : Option (List (Link I O))) (count : ℕ) (written written_after : Option (List ℕ)) (doors doors_after writes writes_after : ℕ) (status : Status) : Type 0 where
+-- connections were served one after another from this state, as the headline says; a door that does not listen is never said to be ready, and each fault comes only where its count rose
+pub record IsServed {W I O : Type 0} (one : LinkState W → Visit I O LinkAnswer → LinkState W → Type 0) (hearing : W → Hearing) (first : State) (crowd crowd_after : List W) (coming coming_after done done_after : Option (List (Link I O))) (count : ℕ) (listens : Bool) (written written_after : Option (List ℕ)) (doors doors_after writes writes_after : ℕ) (status : Status) : Type 0 where
   pub last : LinkState W
   pub visits : List (Visit I O LinkAnswer)
   pub end : ServeEnd
   pub headline : Headline one (λ s. s.crowd) hearing (at_first first crowd) last coming coming_after done done_after visits
   pub ends : IsEndOfServing count (length visits) coming_after written written_after end
+  pub unready : listens ≡ false → IsFaultSaid written written_after end
   pub cause : HasServeCause doors doors_after writes writes_after end
   pub crowd_is : last.crowd ≡ crowd_after
   pub status_is : status ≡ status_of_serving end

@@ -41,6 +41,7 @@ pub fn run<F: Files, S: Source, K: Sink, D: Door, W: Watcher>(
           done = D.served;
           doors = D.faults;
           port = D.at_port;
+          listens = D.listens;
           one = IsVisit W.hearing D.In.left D.In.faults D.Out.written D.Out.faults;
         })
         (seen F.told F.faults F.failed_name files.old files.new) (map string_bytes words.now)
@@ -78,6 +79,7 @@ fn run_live<F: Files, S: Source, K: Sink, D: Door, W: Watcher>(
           done = D.served;
           doors = D.faults;
           port = D.at_port;
+          listens = D.listens;
           one = IsVisit W.hearing D.In.left D.In.faults D.Out.written D.Out.faults;
         })
         (seen F.told F.faults F.failed_name files.old files.new) live.now.style.now live.now.map.now live.now.task
@@ -115,6 +117,7 @@ fn do_task<S: Source, K: Sink, D: Door, W: Watcher>(
           done = D.served;
           doors = D.faults;
           port = D.at_port;
+          listens = D.listens;
           one = IsVisit W.hearing D.In.left D.In.faults D.Out.written D.Out.faults;
         })
         task editor.state

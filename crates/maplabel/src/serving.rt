@@ -64,7 +64,7 @@ pub fn serve_at<K: Sink, D: Door, W: Watcher>(
     requires fresh { D.at_port door.old ≡ None }
     requires out { D.is_out door.old ≡ false }
     ensures served { IsServed (IsVisit W.hearing D.In.left D.In.faults D.Out.written D.Out.faults) W.hearing editor.state crowd.old crowd.new
-        (D.coming door.old) (D.coming door.new) (D.served door.old) (D.served door.new) count (K.written out.old) (K.written out.new)
+        (D.coming door.old) (D.coming door.new) (D.served door.old) (D.served door.new) count (D.listens door.new) (K.written out.old) (K.written out.new)
         (D.faults door.old) (D.faults door.new) (K.faults out.old) (K.faults out.new) result }
     ensures out { D.is_out door.new ≡ false }
     ensures port { D.at_port door.new ≡ Some port }
@@ -90,7 +90,7 @@ fn serve_counted<L: Ledger, K: Sink, D: Door, W: Watcher>(
     requires parts { blank.parts ≡ L.parts }
     requires some { 0 < blank.parts }
     ensures served { IsServed (IsVisit W.hearing D.In.left D.In.faults D.Out.written D.Out.faults) W.hearing editor.state crowd.old crowd.new
-        (D.coming door.old) (D.coming door.new) (D.served door.old) (D.served door.new) count (K.written out.old) (K.written out.new)
+        (D.coming door.old) (D.coming door.new) (D.served door.old) (D.served door.new) count (D.listens door.new) (K.written out.old) (K.written out.new)
         (D.faults door.old) (D.faults door.new) (K.faults out.old) (K.faults out.new) result }
     ensures out { D.is_out door.new ≡ false }
     ensures port { D.at_port door.new ≡ Some port }

@@ -1,5 +1,5 @@
 -- What the command printed, and the connections that it served.
-use Rattle.std.proofs.Common.{◌≡◌, ℕ, ◌⊎◌, inl, inr, List, [], ◌∷◌, ◌++◌, length, take, flat_map, codes, Option, refl, sym, ap, ◌∙◌, append-nil, arith}
+use Rattle.std.proofs.Common.{◌≡◌, ℕ, ◌<◌, ◌≤◌, ◌⊎◌, inl, inr, List, [], ◌∷◌, ◌++◌, length, take, flat_map, codes, Option, refl, sym, ap, ◌∙◌, append-nil, arith}
 use Rattle.std.proofs.lemmas.List.{length-append, take-append-le}
 use Rattle.ml_io.specs.declared.link.Link.{Link}
 use Rattle.ml_io.specs.Causes.{Appends, AppendsPart}
@@ -39,16 +39,16 @@ cut_second w w' w'' a b first part = record {
   wrote = appends_so w w'' (a ++ take part.0 b) (flat_map (λ text. text) (a ∷ []) ++ take part.0 b) (ap (λ t. t ++ take part.0 b) (sym (one_line a))) (appends_twice w w' w'' a (take part.0 b) first part.2);
 }
 
-pub end_done : {X : Type 0} (count n : ℕ) (c : Option (List X)) (w w' w'' : Option (List ℕ)) → (n ≡ count) ⊎ HasRunOut c → Appends w w' (codes "ready\n") → Appends w' w'' (served_line n) → IsEndOfServing count n c w w'' Done
-end_done count n c w w' w'' enough ready line = (
+pub end_done : {X : Type 0} (count n : ℕ) (c : Option (List X)) (w w' w'' : Option (List ℕ)) → n ≤ count → (n ≡ count) ⊎ HasRunOut c → Appends w w' (codes "ready\n") → Appends w' w'' (served_line n) → IsEndOfServing count n c w w'' Done
+end_done count n c w w' w'' few enough ready line = (
   codes "ready\n" ∷ served_line n ∷ [],
-  record { enough = enough; due = refl },
+  record { few = few; enough = enough; due = refl },
   appends_so w w'' (codes "ready\n" ++ served_line n) (flat_map (λ line. line) (codes "ready\n" ∷ served_line n ∷ [])) (sym (two_lines (codes "ready\n") (served_line n))) (appends_twice w w' w'' (codes "ready\n") (served_line n) ready line),
 )
 
-pub end_cut : {X : Type 0} (count n : ℕ) (c : Option (List X)) (w w' w'' : Option (List ℕ)) → (n ≡ count) ⊎ HasRunOut c → Appends w w' (codes "ready\n") → AppendsPart w' w'' (served_line n) → IsEndOfServing count n c w w'' WriteFault
-end_cut count n c w w' w'' enough ready part =
-    (codes "ready\n" ∷ served_line n ∷ [], inl (record { enough = enough; due = refl }), cut_second w w' w'' (codes "ready\n") (served_line n) ready part)
+pub end_cut : {X : Type 0} (count n : ℕ) (c : Option (List X)) (w w' w'' : Option (List ℕ)) → n ≤ count → (n ≡ count) ⊎ HasRunOut c → Appends w w' (codes "ready\n") → AppendsPart w' w'' (served_line n) → IsEndOfServing count n c w w'' WriteFault
+end_cut count n c w w' w'' few enough ready part =
+    (codes "ready\n" ∷ served_line n ∷ [], inl (record { few = few; enough = enough; due = refl }), cut_second w w' w'' (codes "ready\n") (served_line n) ready part)
 
 pub end_first : {X : Type 0} (count : ℕ) (c : Option (List X)) (w w' : Option (List ℕ)) → AppendsPart w w' (codes "ready\n") → IsEndOfServing count 0 c w w' WriteFault
 end_first count c w w' part = (codes "ready\n" ∷ [], inr (inr (refl, refl)), cut_first w w' (codes "ready\n") part)
@@ -58,10 +58,10 @@ end_fault count c w w' Done said = absurd said
 end_fault count c w w' DoorFault said = (codes "door fault\n" ∷ [], inl (refl, refl), said)
 end_fault count c w w' WriteFault said = (codes "door fault\n" ∷ [], inr (inl (inl (refl, refl))), cut_first w w' (codes "door fault\n") said)
 
-pub end_fault_later : {X : Type 0} (count n : ℕ) (c : Option (List X)) (w w' w'' : Option (List ℕ)) (status : ServeEnd) → Appends w w' (codes "ready\n") → IsFaultSaid w' w'' status → IsEndOfServing count n c w w'' status
-end_fault_later count n c w w' w'' Done ready said = absurd said
-end_fault_later count n c w w' w'' DoorFault ready said = (codes "ready\n" ∷ codes "door fault\n" ∷ [], inr refl, appends_twice w w' w'' (codes "ready\n") (codes "door fault\n") ready said)
-end_fault_later count n c w w' w'' WriteFault ready said = (codes "ready\n" ∷ codes "door fault\n" ∷ [], inr (inl (inr refl)), cut_second w w' w'' (codes "ready\n") (codes "door fault\n") ready said)
+pub end_fault_later : {X : Type 0} (count n : ℕ) (c : Option (List X)) (w w' w'' : Option (List ℕ)) (status : ServeEnd) → n < count → Appends w w' (codes "ready\n") → IsFaultSaid w' w'' status → IsEndOfServing count n c w w'' status
+end_fault_later count n c w w' w'' Done few ready said = absurd said
+end_fault_later count n c w w' w'' DoorFault few ready said = (codes "ready\n" ∷ codes "door fault\n" ∷ [], inr (few, refl), appends_twice w w' w'' (codes "ready\n") (codes "door fault\n") ready said)
+end_fault_later count n c w w' w'' WriteFault few ready said = (codes "ready\n" ∷ codes "door fault\n" ∷ [], inr (inl (inr (few, refl))), cut_second w w' w'' (codes "ready\n") (codes "door fault\n") ready said)
 
 -- the same from equal lists
 pub served_from : {S I O A : Type 0} (one : S → Visit I O A → S → Type 0) (n : ℕ) (b c c' a d d' : Option (List (Link I O))) (old new : S) → c ≡ b → d ≡ a → HasServed one n c c' d d' old new → HasServed one n b c' a d' old new

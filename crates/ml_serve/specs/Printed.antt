@@ -1,5 +1,5 @@
 -- What `serve` prints, and how it ends.
-use Rattle.std.specs.Prelude.{◌≡◌, ℕ, ◌≤◌, ◌⊎◌, List, [], ◌∷◌, ◌++◌, flat_map, codes, Option}
+use Rattle.std.specs.Prelude.{◌≡◌, ℕ, ◌<◌, ◌≤◌, ◌⊎◌, List, [], ◌∷◌, ◌++◌, flat_map, codes, Option}
 use Rattle.std.specs.Fmt.{decimal}
 use Rattle.ml_io.specs.Causes.{Rose, Appends, AppendsPart}
 use Rattle.ml_io.specs.Takes.{HasRunOut}
@@ -11,16 +11,17 @@ use Rattle.ml_serve.specs.declared.serve_end.ServeEnd.TheVariants.{Done, WriteFa
 abbrev pub served_line : ℕ → List ℕ
 served_line number = codes "served " ++ decimal number ++ codes "\n"
 
--- these lines are due: so many connections of at most `count` were served, and no fault came
+-- these lines are due: so many connections were served, as many as asked for or fewer where the door has run out, and no fault came
 pub record AreDone {X : Type 0} (count number : ℕ) (coming_after : Option (List X)) (lines : List (List ℕ)) : Type 0 where
+  pub few : number ≤ count
   pub enough : (number ≡ count) ⊎ HasRunOut coming_after
   pub due : lines ≡ codes "ready\n" ∷ served_line number ∷ []
 
--- these lines are due: the door failed, at first or after so many connections
-abbrev pub AreOfFault : ℕ → List (List ℕ) → Type 0
-AreOfFault number lines =
+-- these lines are due: the door failed, at first or after so many connections, which are fewer than asked for
+abbrev pub AreOfFault : ℕ → ℕ → List (List ℕ) → Type 0
+AreOfFault count number lines =
     ((number ≡ 0) × (lines ≡ codes "door fault\n" ∷ []))
-    ⊎ (lines ≡ codes "ready\n" ∷ codes "door fault\n" ∷ [])
+    ⊎ ((number < count) × (lines ≡ codes "ready\n" ∷ codes "door fault\n" ∷ []))
 
 -- that the door failed was written, or a part of it
 abbrev pub IsFaultSaid : Option (List ℕ) → Option (List ℕ) → ServeEnd → Type 0
@@ -37,9 +38,9 @@ abbrev pub IsEndOfServing : {X : Type 0} → ℕ → ℕ → Option (List X) →
 IsEndOfServing count number coming_after written written_after Done =
     (lines : List (List ℕ)) × AreDone count number coming_after lines × Appends written written_after (flat_map (λ line. line) lines)
 IsEndOfServing count number coming_after written written_after DoorFault =
-    (lines : List (List ℕ)) × AreOfFault number lines × Appends written written_after (flat_map (λ line. line) lines)
+    (lines : List (List ℕ)) × AreOfFault count number lines × Appends written written_after (flat_map (λ line. line) lines)
 IsEndOfServing count number coming_after written written_after WriteFault =
-    (lines : List (List ℕ)) × (AreDone count number coming_after lines ⊎ (AreOfFault number lines ⊎ AreFirst number lines)) × IsCut written written_after lines
+    (lines : List (List ℕ)) × (AreDone count number coming_after lines ⊎ (AreOfFault count number lines ⊎ AreFirst number lines)) × IsCut written written_after lines
 
 -- no count falls, and each fault comes only where its count rose
 pub record HasServeCause (door door_after sink sink_after : ℕ) (status : ServeEnd) : Type 0 where

@@ -39,6 +39,7 @@ pub fn serve<K: Sink, D: Door, W: Watcher, L: Ledger>(
         (D.coming door.old) (D.coming door.new) (D.served door.old) (D.served door.new) visits
         × IsEndOfServing count (length visits) (D.coming door.new) (K.written out.old) (K.written out.new) result }
     ensures out { D.is_out door.new ≡ false }
+    ensures unready { D.listens door.new ≡ false → IsFaultSaid (K.written out.old) (K.written out.new) result }
     ensures port { D.at_port door.new ≡ Some port }
     ensures cause { HasServeCause (D.faults door.old) (D.faults door.new) (K.faults out.old) (K.faults out.new) result }
 {

@@ -39,6 +39,7 @@ pub fn serve_links<D: Door, W: Watcher, L: Ledger>(
         × HasServed (IsVisit W.hearing D.In.left D.In.faults D.Out.written D.Out.faults) k
         (D.coming door.old) (D.coming door.new) (D.served door.old) (D.served door.new)
         (lent editor.old crowd.old steps.old) (lent editor.new crowd.new steps.new)) }
+    ensures listens { D.listens door.new ≡ true }
     ensures out { D.is_out door.new ≡ false }
     ensures port { D.at_port door.new ≡ D.at_port door.old }
     ensures cause { HasCause (D.faults door.old) (D.faults door.new) result }

@@ -11,6 +11,7 @@ returns-clause-served g c =
       end = c.serve-end.result;
       headline = served.1;
       ends = served.2;
+      unready = c.serve-end.ensures.unready;
       cause = c.serve-end.ensures.cause;
       crowd_is = refl;
       status_is = c.status_of_serving.ensures;

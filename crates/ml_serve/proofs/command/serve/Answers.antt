@@ -16,16 +16,16 @@ pub returns-in-Ok-put_served-clause-served : goal.returns-in-Ok-put_served-claus
 returns-in-Ok-put_served-clause-served g c =
     headline_of _ _ _ _ _ _ _ _ _ _ _ c.args.count c.in-Ok-serve_links.number _ _ Done
     (served_from _ _ _ _ _ _ _ _ _ _ c.listen.ensures.same.1 c.listen.ensures.same.2 c.in-Ok-serve_links.ensures.ok.1)
-    (end_done _ _ _ _ _ _ c.in-Ok-serve_links.ensures.ok.2 c.in-Ok-put_all.ensures.ok c.in-Ok-put_served.ensures.ok)
+    (end_done _ _ _ _ _ _ c.in-Ok-serve_links.ensures.ok.0 c.in-Ok-serve_links.ensures.ok.2 c.in-Ok-put_all.ensures.ok c.in-Ok-put_served.ensures.ok)
 
 pub returns-in-Err-put_served-clause-served : goal.returns-in-Err-put_served-clause-served
 returns-in-Err-put_served-clause-served g c =
     headline_of _ _ _ _ _ _ _ _ _ _ _ c.args.count c.in-Ok-serve_links.number _ _ WriteFault
     (served_from _ _ _ _ _ _ _ _ _ _ c.listen.ensures.same.1 c.listen.ensures.same.2 c.in-Ok-serve_links.ensures.ok.1)
-    (end_cut _ _ _ _ _ _ c.in-Ok-serve_links.ensures.ok.2 c.in-Ok-put_all.ensures.ok c.in-Err-put_served.ensures.err)
+    (end_cut _ _ _ _ _ _ c.in-Ok-serve_links.ensures.ok.0 c.in-Ok-serve_links.ensures.ok.2 c.in-Ok-put_all.ensures.ok c.in-Err-put_served.ensures.err)
 
 pub returns-in-Err-serve_links-clause-served : goal.returns-in-Err-serve_links-clause-served
 returns-in-Err-serve_links-clause-served g c =
     headline_of _ _ _ _ _ _ _ _ _ _ _ c.args.count c.in-Err-serve_links.ensures.err.0 _ _ c.say_fault-in-Err-serve_links.result
     (served_from _ _ _ _ _ _ _ _ _ _ c.listen.ensures.same.1 c.listen.ensures.same.2 c.in-Err-serve_links.ensures.err.2)
-    (end_fault_later _ _ _ _ _ _ c.say_fault-in-Err-serve_links.result c.in-Ok-put_all.ensures.ok c.say_fault-in-Err-serve_links.ensures.said)
+    (end_fault_later _ _ _ _ _ _ c.say_fault-in-Err-serve_links.result c.in-Err-serve_links.ensures.err.1 c.in-Ok-put_all.ensures.ok c.say_fault-in-Err-serve_links.ensures.said)
