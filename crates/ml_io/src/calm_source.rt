@@ -1,7 +1,7 @@
 //! A source in memory that never fails.
 ghost use Rattle.std.specs.Prelude.{◌≡◌, ◌<◌, ◌≤◌, Some, [], IfOk, IsOk, OnErr, length, min, take};
 ghost use Rattle.ml_io.specs.Causes.{HasCause};
-ghost use Rattle.ml_io.specs.Takes.{Takes, IsUsedUp};
+ghost use Rattle.ml_io.specs.Takes.{Draws, HasRunOut};
 
 use crate::failed::Failed;
 use crate::mem_source::copy_front;
@@ -42,9 +42,9 @@ impl Source for CalmSource {
     /// Gives as many bytes as there are and fit the buffer.
     fn take(&mut self, buf: &mut [u8]) -> Result<usize, Failed>
         ensures bound { IfOk result (λ n. n ≤ length buf.new) }
-        ensures ok { IfOk result (λ n. Takes (Some self.old) (Some self.new) (take n buf.new)) }
-        ensures err { OnErr result (Takes (Some self.old) (Some self.new) []) }
-        ensures end { IfOk result (λ n. n ≡ 0 → 0 < length buf.new → IsUsedUp (Some self.new)) }
+        ensures ok { IfOk result (λ n. Draws (Some self.old) (Some self.new) (take n buf.new)) }
+        ensures err { OnErr result (Draws (Some self.old) (Some self.new) []) }
+        ensures end { IfOk result (λ n. n ≡ 0 → 0 < length buf.new → HasRunOut (Some self.new)) }
         ensures cause { HasCause 0 0 result }
         ensures calm { IsOk result }
         ensures count { IfOk result (λ n. n ≡ min (length self.old) (length buf.new)) }

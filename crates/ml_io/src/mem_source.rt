@@ -2,7 +2,7 @@
 ghost use Rattle.std.specs.Prelude.{◌≡◌, ◌<◌, ◌≤◌, ◌↔◌, Some, [], Contains, IfOk, IsOk, OnErr, length, min, take, drop, ◌++◌};
 ghost use Rattle.ml_io.specs.Causes.{HasCause};
 ghost use Rattle.ml_io.specs.MemSource.{fresh_source, TakeLeaves};
-ghost use Rattle.ml_io.specs.Takes.{Takes, IsUsedUp};
+ghost use Rattle.ml_io.specs.Takes.{Draws, HasRunOut};
 
 use crate::failed::Failed;
 use crate::failing::FailingCalls;
@@ -63,10 +63,10 @@ impl Source for MemSource {
     fn take(&mut self, buf: &mut [u8]) -> Result<usize, Failed>
         ensures bound { IfOk result (λ n. n ≤ length buf.new) }
         ensures ok { IfOk result (λ n.
-            Takes (Some self.old.left) (Some self.new.left) (take n buf.new)) }
-        ensures err { OnErr result (Takes (Some self.old.left) (Some self.new.left) []) }
+            Draws (Some self.old.left) (Some self.new.left) (take n buf.new)) }
+        ensures err { OnErr result (Draws (Some self.old.left) (Some self.new.left) []) }
         ensures end { IfOk result (λ n. n ≡ 0 → 0 < length buf.new →
-            IsUsedUp (Some self.new.left)) }
+            HasRunOut (Some self.new.left)) }
         ensures cause { HasCause self.old.faults self.new.faults result }
         ensures count { IfOk result (λ n.
             n ≡ min (min (length self.old.left) (length buf.new)) self.old.cut) }
