@@ -19,7 +19,7 @@ use Rattle.ml_repair.specs.Settled.{IsSettled}
 use Rattle.ml_editor.specs.declared.draft.Draft.{Draft}
 use Rattle.ml_editor.specs.declared.edit.Edit.TheVariants.{Add, Replace, Remove, Restyle}
 use Rattle.ml_editor.specs.declared.work.Work.{Work}
-use Rattle.ml_editor.specs.State.{State, HasFeature, IsAllowed, first_state}
+use Rattle.ml_editor.specs.State.{State, HasFeature, IsAllowed, last_rev}
 use Rattle.ml_editor.specs.Faults.{IsLast}
 use Rattle.ml_editor.specs.Editing.{Editing, Prepared, IsEditing, IsReady, IsWorkOn, IsDraft, IsLabelFor, IsFeatureDraft, IsStyleDraft, IsLabelWith, label_given, prepared, rows_after, evaluated_of}
 use Rattle.ml_editor.proofs.After.{no_label, after_add, after_replace, after_remove, no_more_labels, fewer_labels, label_of_feature, labels_again}
@@ -53,12 +53,12 @@ made_anew style fs given labels built rows same of all there settled =
     let Q : List Feature → Type 0 = λ xs. AreLabelsOf style xs (labels_in rows) in
     subst Q same (labels_again style given labels (labels_in rows) of settled.in_order (subst P all there))
 
--- the first state of a map, with an engine that was built of its labels
-pub first_editing : (style : Style) (features given kept : List Feature) (labels built : List Label) (engine : Stored) (room : ℕ) → HaveDifferentIds features → length features ≤ 32768 → given ≡ features → kept ≡ features → AreLabelsOf style given labels → built ≡ labels → ((l : Label) → Contains (labels_in engine.rows) l ↔ Contains built l) → IsSettled engine.rows → IsEditing (record { state = first_state style kept; engine = engine; room = room })
-first_editing style features given kept labels built engine room differ few same again of all there settled =
-    let P : List Feature → Type 0 = λ fs. IsEditing (record { state = first_state style fs; engine = engine; room = room }) in
+-- a state of a map, with an engine that was built of its labels
+pub first_editing : (style : Style) (features given kept : List Feature) (labels built : List Label) (engine : Stored) (room rev : ℕ) → rev ≤ last_rev → HaveDifferentIds features → length features ≤ 32768 → given ≡ features → kept ≡ features → AreLabelsOf style given labels → built ≡ labels → ((l : Label) → Contains (labels_in engine.rows) l ↔ Contains built l) → IsSettled engine.rows → IsEditing (record { state = record { style = style; features = kept; rev = rev }; engine = engine; room = room })
+first_editing style features given kept labels built engine room rev low differ few same again of all there settled =
+    let P : List Feature → Type 0 = λ fs. IsEditing (record { state = record { style = style; features = fs; rev = rev }; engine = engine; room = room }) in
     subst P (sym again) (record {
-      state = record { own_ids = differ; few = few; revision = omega arith };
+      state = record { own_ids = differ; few = few; revision = low };
       labels = made_anew style features given labels built engine.rows same of all there settled;
       settled = settled;
     })
@@ -88,6 +88,11 @@ module _ (rows : List Row) (draft : Draft) (id : List ℕ) (come : Option Label)
   its_label =
       let P : Option Label → Type 0 = λ o. IsLabelWith (labels_in (rows_after draft.work rows)) o id in
       subst P (sym drawn.label) (edited_label id come (labels_in rows) (labels_in (rows_after draft.work rows)) drawn.work.edited own)
+
+  its_edit : IsEdited id draft.label (labels_in rows) (labels_in (rows_after draft.work rows))
+  its_edit =
+      let P : Option Label → Type 0 = λ o. IsEdited id o (labels_in rows) (labels_in (rows_after draft.work rows)) in
+      subst P (sym drawn.label) drawn.work.edited
 
   its_changes : AreChanges (labels_in rows) (slots_in rows) (labels_in (rows_after draft.work rows)) (slots_in (rows_after draft.work rows)) draft.changes
   its_changes =
@@ -121,6 +126,7 @@ module _ (e : Editing) (draft : Draft) (holds : IsEditing e) (not_last : ¬ (IsL
         labels = after_add style features (labels_in rows) (labels_in (rows_after draft.work rows)) holds.labels drawn.work.settled.in_order f made.0 made.1 (edited_by f label made drawn) allowed.0 state.own_ids;
         settled = drawn.work.settled;
         label = its_label rows draft f.id label drawn (own_label style f label made);
+        edited = its_edit rows draft f.id label drawn (own_label style f label made);
         changes = its_changes rows draft f.id label drawn (own_label style f label made);
         cost = drawn.work.cost;
       }
@@ -136,6 +142,7 @@ module _ (e : Editing) (draft : Draft) (holds : IsEditing e) (not_last : ¬ (IsL
         labels = after_replace style features (labels_in rows) (labels_in (rows_after draft.work rows)) holds.labels drawn.work.settled.in_order f made.0 made.1 (edited_by f label made drawn) allowed state.own_ids;
         settled = drawn.work.settled;
         label = its_label rows draft f.id label drawn (own_label style f label made);
+        edited = its_edit rows draft f.id label drawn (own_label style f label made);
         changes = its_changes rows draft f.id label drawn (own_label style f label made);
         cost = drawn.work.cost;
       }
@@ -151,6 +158,7 @@ module _ (e : Editing) (draft : Draft) (holds : IsEditing e) (not_last : ¬ (IsL
         labels = after_remove style features (labels_in rows) (labels_in (rows_after draft.work rows)) holds.labels drawn.work.settled.in_order id drawn.work.edited state.own_ids;
         settled = drawn.work.settled;
         label = its_label rows draft id None drawn tt;
+        edited = its_edit rows draft id None drawn tt;
         changes = its_changes rows draft id None drawn tt;
         cost = drawn.work.cost;
       }
@@ -167,6 +175,7 @@ module _ (e : Editing) (draft : Draft) (holds : IsEditing e) (not_last : ¬ (IsL
         labels = all.1;
         settled = all.2;
         label = drawn.label;
+        edited = tt;
         changes = all.3;
         cost = all.4;
       }

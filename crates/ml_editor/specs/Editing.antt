@@ -130,11 +130,15 @@ IsLabelWith labels label id = MatchOption label (¬ (HasId labels id)) (λ l. Co
 abbrev pub IsEditedLabel : Edit → List Label → Option Label → Type 0
 IsEditedLabel edit labels label = MatchOption (id_of edit) (label ≡ None) (IsLabelWith labels label)
 
+-- of these labels that of the edit's feature goes, and this one comes, if there is one; the others stay. A new style may change them all
+abbrev pub IsEditOf : Edit → Option Label → List Label → List Label → Type 0
+IsEditOf edit label before after = MatchOption (id_of edit) (Unit {0}) (λ id. IsEdited id label before after)
+
 -- what an edit between these labels costs; a new style costs nothing
 abbrev pub IsEditCost : Edit → List Label → List Label → ℕ → Type 0
 IsEditCost edit before after n = MatchOption (id_of edit) (n ≡ 0) (λ id. IsCost before after id n)
 
--- the edit was made ready for just this state and these labels: the features allow it, its work makes the labels of the features after it, its label is that of its feature among them, its revision is the next one, its changes are those of the labels, and so many labels were evaluated for it as it costs
+-- the edit was made ready for just this state and these labels: the features allow it, its work makes the labels of the features after it, its label is that of its feature among them, and the others stay, its revision is the next one, its changes are those of the labels, and so many labels were evaluated for it as it costs
 pub record IsReady (ready : Prepared) (s : State) (rows : List Row) : Type 0 where
   pub allowed : IsAllowed s.features ready.edit
   pub reached : IsState (step s ready.edit)
@@ -143,6 +147,7 @@ pub record IsReady (ready : Prepared) (s : State) (rows : List Row) : Type 0 whe
   pub labels : AreLabelsOf (step s ready.edit).style (step s ready.edit).features (labels_in (rows_after ready.work rows))
   pub settled : IsSettled (rows_after ready.work rows)
   pub label : IsEditedLabel ready.edit (labels_in (rows_after ready.work rows)) ready.label
+  pub edited : IsEditOf ready.edit ready.label (labels_in rows) (labels_in (rows_after ready.work rows))
   pub changes : AreChanges (labels_in rows) (slots_in rows) (labels_in (rows_after ready.work rows)) (slots_in (rows_after ready.work rows)) ready.changes
   pub cost : IsEditCost ready.edit (labels_in rows) (labels_in (rows_after ready.work rows)) ready.evaluated
 

@@ -1,14 +1,14 @@
 //! A map that is edited.
-ghost use Rattle.std.specs.Prelude.{◌≡◌, ◌+◌, ◌<◌, ◌≤◌, length, All, IfOk, IfErr, OnOk, IfSome, ℕ, Contains};
+ghost use Rattle.std.specs.Prelude.{◌≡◌, ◌+◌, ◌<◌, ◌≤◌, length, All, IfOk, IfErr, OnOk, IfSome, MatchOption, ℕ, Contains};
 ghost use Rattle.ml_ratio.specs.Refusal.{RefusesExactly};
 ghost use Rattle.ml_geojson.specs.Map.{HaveDifferentIds, IsMap};
 ghost use Rattle.ml_geojson.specs.Text.{collection_text};
 ghost use Rattle.ml_watch.specs.Hearing.{AllHear};
-ghost use Rattle.ml_store.specs.Rows.{labels_in, numbers_in, slots_in, IsLive};
+ghost use Rattle.ml_store.specs.Rows.{labels_in, numbers_in, slots_in, HasId, IsLive, IsNumberOf};
 ghost use Rattle.ml_editor.specs.Standing.{IsStanding};
 ghost use Rattle.ml_store.specs.declared.row.Row.{Row};
 ghost use Rattle.ml_repair.specs.Shown.{AreShownNumbers, AreApart, AreNear};
-ghost use Rattle.ml_editor.specs.State.{first_state, step};
+ghost use Rattle.ml_editor.specs.State.{first_state, last_rev, step};
 ghost use Rattle.ml_editor.specs.Editing.{IsEditing, IsReady, HasRoomFor};
 
 use crate::fault::LoadRefused;
@@ -64,6 +64,25 @@ impl Editor {
         ensures holds { IfOk result IsEditing }
         ensures full { RefusesExactly result LoadRefused.Full LoadRefused.Memory (MOST_FEATURES < length features) }
     {
+        Editor::load_at(alloc, style, features, 0)
+    }
+
+    /// The same at another revision, at most 2^53, so that the count of an earlier run goes on.
+    ///
+    /// # Errors
+    /// As [`Editor::load`].
+    pub fn load_at(
+        alloc: Global,
+        style: Style,
+        features: Seq<Feature>,
+        revision: u64,
+    ) -> Result<Editor, LoadRefused>
+        requires differ { HaveDifferentIds features }
+        requires low { revision ≤ last_rev }
+        ensures ok { IfOk result (λ editor. editor.state ≡ record { style = style; features = features; rev = revision }) }
+        ensures holds { IfOk result IsEditing }
+        ensures full { RefusesExactly result LoadRefused.Full LoadRefused.Memory (MOST_FEATURES < length features) }
+    {
         if features.len() > MOST_FEATURES {
             return Err(LoadRefused::Full);
         }
@@ -74,7 +93,7 @@ impl Editor {
             style,
             features,
             engine,
-            revision: 0,
+            revision,
         })
     }
 
@@ -158,6 +177,14 @@ impl Editor {
             Some(number) => Some(Standing::Labelled(number)),
             None => Some(Standing::Unlabelled(reason_of(&self.style, feature))),
         }
+    }
+
+    /// The number of the label with this id; none exactly where no label has it.
+    pub fn number_of(&self, id: &Text) -> Option<u32>
+        ensures { MatchOption result (¬ (HasId (labels_in self.now.engine.rows) id.now))
+            (IsNumberOf self.now.engine.rows id.now) }
+    {
+        self.engine.number_of(id)
     }
 
     /// The numbers of all labels in priority order.

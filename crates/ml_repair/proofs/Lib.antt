@@ -27,3 +27,5 @@ pub mod Carries
 pub mod Reading
 pub mod Seeing
 pub mod Building
+pub mod Deciding
+pub mod UnchangedRows

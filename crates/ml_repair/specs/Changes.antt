@@ -9,6 +9,7 @@ use Rattle.ml_cone.specs.declared.label.Label.{Label}
 use Rattle.ml_cone.specs.declared.slot.Slot.{Slot}
 use Rattle.ml_cone.specs.declared.slot.Span.{Span}
 use Rattle.ml_watch.specs.declared.change.Change.{Change}
+use Rattle.ml_store.specs.declared.row.Row.{Row}
 
 -- a label with its active range
 pub record Ranged : Type 0 where
@@ -46,3 +47,19 @@ pub record AreChanges (labels : List Label) (slots : List Slot) (new_labels : Li
   pub ascending : IsStrictlySortedBy (slice_cmp nat_cmp) (map (λ change. change.id) changes)
   pub sound : All (IsChange labels slots new_labels new_slots) changes
   pub whole : (change : Change) → IsChange labels slots new_labels new_slots change → Contains changes change
+
+-- the active range of a live label
+abbrev pub span_of : Row → Span
+span_of row = record { min = row.label.min; until = row.slot.until }
+
+-- the id is that of one of the changes
+abbrev pub IsChanged : List Change → List ℕ → Type 0
+IsChanged changes id = (change : Change) × Contains changes change × (change.id ≡ id)
+
+-- the row's label stands among these rows, with the same end
+abbrev pub StandsAmong : List Row → Row → Type 0
+StandsAmong rows row = (other : Row) × Contains rows other × (other.label ≡ row.label) × (other.slot.until ≡ row.slot.until)
+
+-- what a change tells of an id: no label has it, or one has, with this active range
+abbrev pub IsTold : List Row → List ℕ → Option Span → Type 0
+IsTold rows id told = MatchOption told ((row : Row) → Contains rows row → row.label.order.id ≢ id) (λ span. (row : Row) × Contains rows row × (row.label.order.id ≡ id) × (span ≡ span_of row))

@@ -3,7 +3,8 @@
 //! - [`engine`]: the live labels ([`Engine`]);
 //! - [`plan`]: what an edit will make of them ([`Plan`]); [`edit`]: the edit that a plan is for
 //!   ([`LabelEdit`]);
-//! - [`room`]: how much may come in without memory ([`Room`]).
+//! - [`room`]: how much may come in without memory ([`Room`]);
+//! - [`laws`]: what the changes of an edit tell of its labels.
 #![tactic(auto)]
 
 mod build;
@@ -13,6 +14,7 @@ mod chosen;
 pub mod edit;
 pub mod engine;
 mod gather;
+pub mod laws;
 mod moves;
 mod pass;
 mod place;
