@@ -3,3 +3,4 @@ pub mod Tile
 pub mod Area
 pub mod Cache
 pub mod Ends
+pub mod Words

@@ -8,7 +8,7 @@ use ml_cone::label::is_in_world;
 use ml_ratio::Ratio;
 
 /// The deepest tiles: one pixel is 2^21 world units.
-const DEEPEST: u8 = 21;
+pub(crate) const DEEPEST: u8 = 21;
 
 /// No tile's middle lies in the world beyond this column or row.
 const FURTHEST: i64 = 2_000_000;
@@ -38,7 +38,7 @@ impl TileKey {
         if z > DEEPEST {
             return None;
         }
-        if is_middle(z, i) && is_middle(z, j) {
+        if has_column(z, i) && has_column(z, j) {
             Some(TileKey { z, i, j })
         } else {
             None
@@ -90,8 +90,9 @@ fn middle(z: u8, i: i64) -> i64
     odd * half_of(z)
 }
 
-// Whether the middle of column `i` of the tiles of depth `z` is in the world.
-fn is_middle(z: u8, i: i64) -> bool
+/// Whether there are tiles of depth `z`, which is at most 21, in column `i`: the middle of the column is
+/// in the world. The same holds of rows.
+pub fn has_column(z: u8, i: i64) -> bool
     requires { z ≤ 21 }
     ensures { IsTrue result ↔ IsInWorld (middle z i) }
 {

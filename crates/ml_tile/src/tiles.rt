@@ -79,6 +79,13 @@ impl Tiles {
         self.held.contains(key)
     }
 
+    /// The body of the tile, if it is held. Nothing changes: it is no hit, and the tile stays in its place.
+    pub fn peek(&self, key: &TileKey) -> Option<&Seq<u8>>
+        ensures { MatchOption result (¬ (IsHeld key.now self.now.tiles)) (λ body. Contains self.now.tiles (key.now, body.now)) }
+    {
+        self.held.peek(key)
+    }
+
     /// The body of the tile, if it is held: then this is a hit, and the tile comes to the front.
     pub fn find(&mut self, key: &TileKey) -> Option<&Seq<u8>>
         ensures* ends { sem 𝓛 (EndsFound key.now self.entry result) }
@@ -90,8 +97,8 @@ impl Tiles {
         self.held.peek(key)
     }
 
-    // Whether the tile is held: then this is a hit, and the tile comes to the front.
-    fn touch(&mut self, key: &TileKey) -> bool
+    /// Whether the tile is held: then this is a hit, and the tile comes to the front.
+    pub fn touch(&mut self, key: &TileKey) -> bool
         ensures { MatchBool result ((body : List ℕ) × IsHit key.now body self.old self.new) ((¬ (IsHeld key.now self.old.tiles)) × (self.new ≡ self.old)) }
     {
         if !self.held.promote(key) {

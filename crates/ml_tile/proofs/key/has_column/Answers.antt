@@ -2,7 +2,7 @@ use Rattle.std.proofs.Common.{◌*◌, ◌^◌, rules, w64}
 use Rattle.std.proofs.lemmas.Bool.{false≢true}
 use Rattle.std.proofs.lemmas.Int.{to_z-of_z}
 use Rattle.ml_tile.proofs.Middles.{half_some, near_world}
-use Rattle.ml_tile.proofs.key.is_middle.Goals as goal
+use Rattle.ml_tile.proofs.key.has_column.Goals as goal
 
 pub returns-then-not-is_near : goal.returns-then-not-is_near
 returns-then-not-is_near c = (
