@@ -3,13 +3,13 @@
 //! - `verdict`: what the judge answers ([`Verdict`]); `judge`: the judge itself ([`check`]);
 //! - [`laws`]: that only the longest choice with its blockers is found best;
 //! - `slots_text`: the text of slots ([`read_slots`]) and what refuses it ([`SlotsFault`]), over
-//!   `slot_line`: one line of it, and `places`: where each id stands.
+//!   `slot_line`: one line of it, and [`places`]: where each id stands.
 #![tactic(auto)]
 
 mod fault;
 mod judge;
 pub mod laws;
-mod places;
+pub mod places;
 mod slot_line;
 mod slots_text;
 mod verdict;

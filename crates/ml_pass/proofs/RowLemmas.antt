@@ -47,7 +47,7 @@ box_from text l b r t None split h = λ p reads.
 box_from text l b r t (Some p) split h = record { l = l; b = b; r = r; t = t; split = split; numbers = h }
 
 -- a text writes one box at most
-box_unique : (text : List ℕ) (p q : BoxPx) → ReadsBox text p → ReadsBox text q → p ≡ q
+pub box_unique : (text : List ℕ) (p q : BoxPx) → ReadsBox text p → ReadsBox text q → p ≡ q
 box_unique text p q one two =
     let same : one.l ∷ one.b ∷ one.r ∷ one.t ∷ [] ≡ two.l ∷ two.b ∷ two.r ∷ two.t ∷ [] = sym one.split ∙ two.split in
     let el : one.l ≡ two.l = cc in
@@ -79,7 +79,7 @@ module _ {A B : Type 0} (R : A → B → Type 0) where
   zip_at (a ∷ xs) (b ∷ ys) zero d e lt h = h.0
   zip_at (a ∷ xs) (b ∷ ys) (suc i) d e lt h = zip_at xs ys i d e (omega arith) h.1
 
-  zip_unique : ((x : A) (y z : B) → R x y → R x z → y ≡ z) → (xs : List A) (ys zs : List B) → AllZip R xs ys → AllZip R xs zs → ys ≡ zs
+  pub zip_unique : ((x : A) (y z : B) → R x y → R x z → y ≡ z) → (xs : List A) (ys zs : List B) → AllZip R xs ys → AllZip R xs zs → ys ≡ zs
   zip_unique one [] [] [] h k = refl
   zip_unique one [] [] (z ∷ zs) h k = absurd k
   zip_unique one [] (y ∷ ys) zs h k = absurd h

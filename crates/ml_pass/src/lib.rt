@@ -2,13 +2,15 @@
 //!
 //! - `pass`: the longest choice with its blockers ([`assign`]), over `before`: the labels before a
 //!   place as rivals;
-//! - `table`: label tables ([`read_table`]), over `row`: one line of a table, and `fault`: why one is
-//!   refused ([`TableFault`]);
+//! - `table`: label tables ([`read_table`]), over `row`: one line of a table
+//!   ([`read_boxes`], [`pieces_of`]), and `fault`: why one is refused ([`TableFault`]);
+//! - [`laws`]: that texts write one list of boxes at most;
 //! - `slots_text`: the text of a choice ([`write_slots`]).
 #![tactic(auto)]
 
 mod before;
 mod fault;
+pub mod laws;
 mod pass;
 mod row;
 mod slots_text;
@@ -16,5 +18,6 @@ mod table;
 
 pub use fault::TableFault;
 pub use pass::assign;
+pub use row::{pieces_of, read_boxes};
 pub use slots_text::write_slots;
 pub use table::read_table;

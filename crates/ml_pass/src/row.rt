@@ -85,8 +85,11 @@ fn read_label(alloc: Global, place: u32, fields: &Fields<'_>) -> Result<Option<L
     Ok(Label::of(order, x, y, boxes, pieces, min, max, 0))
 }
 
-// The id, and an empty piece for each further box.
-fn pieces_of(alloc: Global, id: &str, count: usize) -> Result<Seq<Text>, AllocError>
+/// The id as the first piece of text of `count` boxes, and an empty piece for each further box.
+///
+/// # Errors
+/// Want of memory.
+pub fn pieces_of(alloc: Global, id: &str, count: usize) -> Result<Seq<Text>, AllocError>
     ensures { IfOk result (λ pieces. pieces ≡ id.now ∷ replicate (count - 1) []) }
 {
     let mut pieces = Seq::new(alloc);
@@ -117,8 +120,11 @@ fn is_id(id: &str) -> bool
     sized && id != "-" && are_printing(id.as_bytes())
 }
 
-// The boxes that the texts write, one each; none where one of them writes no box.
-fn read_boxes(alloc: Global, texts: &[&str]) -> Result<Option<Seq<BoxPx>>, AllocError>
+/// The boxes that the texts write, as `-10,-5,10,5`, one each; none where one of them writes no box.
+///
+/// # Errors
+/// Want of memory.
+pub fn read_boxes(alloc: Global, texts: &[&str]) -> Result<Option<Seq<BoxPx>>, AllocError>
     ensures { IfOk result (λ answer. MatchOption answer ((boxes : List BoxPx) → ¬ (AllZip ReadsBox (map (λ p. p.now) texts.now) boxes))
         (λ boxes. AllZip ReadsBox (map (λ p. p.now) texts.now) boxes)) }
 {

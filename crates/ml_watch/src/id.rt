@@ -1,6 +1,7 @@
 //! An id as it stands in a line, where blanks part the words.
-ghost use Rattle.std.specs.Prelude.{◌≡◌, ◌<◌, ◌++◌, flat_map, IfOk, OnOk};
+ghost use Rattle.std.specs.Prelude.{◌≡◌, ◌<◌, ◌≤◌, ◌++◌, [], ◌∷◌, ℕ, List, length, flat_map, IfOk, OnOk, MatchOption};
 ghost use Rattle.ml_watch.specs.Line.{is_plain, hex_digit, byte_text, id_text};
+ghost use Rattle.ml_watch.specs.Spelling.{Spells, hex_value as spec_hex_value, bytes_spelled, spelled};
 
 use ml_ratio::{Seq, Text};
 use std::alloc::{AllocError, Global};
@@ -59,4 +60,70 @@ pub(crate) fn hex_digit(n: u8) -> u8
     ensures { result ≡ hex_digit n }
 {
     if n < 10 { b'0' + n } else { b'A' + (n - 10) }
+}
+
+/// The id that a text spells as [`id_text`] does; none for any other text.
+///
+/// # Errors
+/// Want of memory.
+pub fn read_id(alloc: Global, text: &str) -> Result<Option<Text>, AllocError>
+    ensures { IfOk result (λ answer. MatchOption answer ((id : List ℕ) → ¬ (Spells text.now id)) (Spells text.now)) }
+{
+    let bytes = spelled_by(alloc, text.as_bytes())?;
+    let Ok(id) = std::str::from_utf8(&bytes) else {
+        return Ok(None);
+    };
+    let id = Text::of(alloc, id)?;
+    let again = id_text(alloc, &id)?;
+    if again.as_slice() == text.as_bytes() {
+        Ok(Some(id))
+    } else {
+        Ok(None)
+    }
+}
+
+// The bytes of the id that a text would spell, if it spells one.
+fn spelled_by(alloc: Global, text: &[u8]) -> Result<Vec<u8>, AllocError>
+    ensures { IfOk result (λ bytes. bytes.items ≡ spelled text.now) }
+{
+    match text {
+        [b'%'] => Ok(Vec::new(alloc)),
+        _ => all_spelled_by(alloc, text),
+    }
+}
+
+// The bytes that a text would spell, where each stands as it is or as `%` and two digits.
+fn all_spelled_by(alloc: Global, text: &[u8]) -> Result<Vec<u8>, AllocError>
+    ensures { IfOk result (λ bytes. bytes.items ≡ bytes_spelled text.now) }
+{
+    let mut bytes = Vec::new(alloc);
+    let mut rest = text;
+    while let Some((byte, after)) = next_spelled(rest) {
+        bytes.push(byte)?;
+        rest = after;
+    }
+    Ok(bytes)
+}
+
+// The first byte that a text would spell, and the text behind it; none where there is none.
+fn next_spelled(text: &[u8]) -> Option<(u8, &[u8])>
+    ensures { MatchOption result (text.now ≡ []) (λ p. (bytes_spelled text.now ≡ p.0 ∷ bytes_spelled p.1.now) × (length p.1.now < length text.now)) }
+{
+    match text {
+        [b'%', high, low, after @ ..] => Some((hex_value(*high) * 16 + hex_value(*low), after)),
+        [byte, after @ ..] => Some((*byte, after)),
+        [] => None,
+    }
+}
+
+// The value of an upper-case hexadecimal digit; 0 for any other byte.
+fn hex_value(digit: u8) -> u8
+    ensures value { result ≡ spec_hex_value digit }
+    ensures low { result ≤ 15 }
+{
+    match digit {
+        b'0'..=b'9' => digit - b'0',
+        b'A'..=b'F' => digit - b'A' + 10,
+        _ => 0,
+    }
 }

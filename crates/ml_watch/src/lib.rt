@@ -1,11 +1,11 @@
 //! Watchers, who are told what each edit of a map changes in the active ranges of its labels.
 //!
-//! - [`change`]: what an edit changes of one label; `line`: the line that says it; [`id`]: an id as it
-//!   stands in a line;
+//! - [`change`]: what an edit changes of one label; `sorted`: the order in which changes are told
+//!   ([`by_id`]); `line`: the line that says it; [`id`]: an id as it stands in a line, and read back;
 //! - [`watcher`]: one who is told changes ([`Watcher`]); [`crowd`]: watchers, each in its place
 //!   ([`Crowd`]);
 //! - [`mem_watcher`], [`line_watcher`]: a watcher in memory, and one that writes lines into a sink;
-//! - [`laws`]: to be told some changes and then others is to be told them all.
+//! - [`laws`]: to be told some changes and then others is to be told them all; a text spells one id.
 #![tactic(auto)]
 
 pub mod change;
@@ -15,11 +15,13 @@ pub mod laws;
 mod line;
 pub mod line_watcher;
 pub mod mem_watcher;
+mod sorted;
 pub mod watcher;
 
 pub use change::Change;
 pub use crowd::Crowd;
-pub use id::id_text;
+pub use id::{id_text, read_id};
 pub use line_watcher::LineWatcher;
 pub use mem_watcher::MemWatcher;
+pub use sorted::by_id;
 pub use watcher::Watcher;

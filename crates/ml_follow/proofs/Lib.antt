@@ -1,0 +1,13 @@
+pub mod Equals
+pub mod Texts
+pub mod Changing
+pub mod Ids
+pub mod Rows
+pub mod ReadSoFar
+pub mod Files
+pub mod Bytes
+pub mod Numerals
+pub mod ReadsBack
+pub mod SameChoice
+pub mod OneReading
+pub mod Lower

@@ -1,0 +1,110 @@
+-- What comes of one edit.
+use Rattle.std.proofs.Common.{◌≡◌, ℕ, ◌<◌, List, length, None, codes, refl, sym, ap, subst, ◌∙◌, arith}
+use Rattle.std.proofs.lemmas.List.{length-map}
+use Rattle.ml_ratio.specs.declared.feature.Feature.{Feature}
+use Rattle.ml_cone.specs.declared.view.View.{View}
+use Rattle.ml_geojson.specs.Map.{IsFeature, IsSameFeature}
+use Rattle.ml_geojson.specs.Text.{feature_text}
+use Rattle.ml_store.specs.Rows.{labels_in, slots_in, number_at}
+use Rattle.ml_label.specs.Labels.{AreLabelsOf}
+use Rattle.ml_repair.specs.Changes.{AreChanges}
+use Rattle.ml_repair.specs.Shown.{AreShownNumbers}
+use Rattle.ml_editor.specs.State.{State, HasFeature, step, most_features, last_rev}
+use Rattle.ml_editor.specs.Editing.{Editing, IsEditing, Prepared, IsReady, rows_after}
+use Rattle.ml_editor.specs.Faults.{IsRemoval, IsAddition, IsAdding}
+use Rattle.ml_editor.specs.declared.edit.Edit.{Edit}
+use Rattle.ml_editor.specs.declared.edit.Edit.TheVariants.{Add, Replace, Remove, Restyle}
+use Rattle.ml_gen.specs.Thing.{Thing, thing_of, id_of, first_town}
+use Rattle.ml_gen.specs.Turn.{goes, comes, HaveLabels, IsViewOf, Shows, IsMade, IsTurn}
+use Rattle.ml_gen.specs.declared.counts.Counts.{Counts}
+use Rattle.ml_gen.specs.declared.group.Group.{Group}
+
+pub editing_labels : (e : Editing) → IsEditing e → HaveLabels e.state (labels_in e.engine.rows) (slots_in e.engine.rows)
+editing_labels e h = record { labels_are = h.labels; one_slot = h.settled.slots.one_slot; longest = h.settled.slots.longest }
+
+-- an edit that was ready and was carried out
+pub made : (ready : Prepared) (group : Group) (old new : Editing) (shown changes evaluated : ℕ) → IsEditing old → IsEditing new →
+    IsReady ready old.state old.engine.rows → new.state ≡ step old.state ready.edit →
+    AreChanges (labels_in old.engine.rows) (slots_in old.engine.rows) (labels_in new.engine.rows) (slots_in new.engine.rows) ready.changes →
+    changes ≡ length ready.changes → evaluated ≡ ready.evaluated → (view : View) × IsViewOf group view × Shows new.state view shown →
+    IsMade ready.edit group old.state (record { shown = shown; changes = changes; evaluated = evaluated }) new.state
+made ready group old new shown changes evaluated before after ready_is state are number cost look = record {
+  allowed = ready_is.allowed;
+  state = state;
+  changes = record {
+    before = labels_in old.engine.rows;
+    slots_before = slots_in old.engine.rows;
+    have_before = editing_labels old before;
+    after = labels_in new.engine.rows;
+    slots_after = slots_in new.engine.rows;
+    have_after = editing_labels new after;
+    changes = ready.changes;
+    are_changes = are;
+    number = number;
+  };
+  evaluated = record {
+    before = labels_in old.engine.rows;
+    labels_before = before.labels;
+    after = labels_in (rows_after ready.work old.engine.rows);
+    labels_after = subst (λ (t : State). AreLabelsOf t.style t.features (labels_in (rows_after ready.work old.engine.rows))) (sym state) ready_is.labels;
+    cost = rw cost ready_is.cost;
+  };
+  view = look.0;
+  asked = look.1;
+  shown = look.2;
+}
+
+below_last : (n m : ℕ) → n < m → ¬ (n ≡ m)
+below_last n m low same = omega (arith, low, same)
+
+-- nothing refuses these edits
+pub removal_allowed : (s : State) (id : List ℕ) → HasFeature s.features id → s.rev < last_rev → IsRemoval s None id
+removal_allowed s id there early = record { present = tt; is_there = there; not_last = below_last s.rev last_rev early }
+
+pub addition_allowed : (s : State) (body : List ℕ) (f : Feature) → IsFeature body f → ¬ (HasFeature s.features f.id) → length s.features < most_features → s.rev < last_rev → IsAddition s None body
+addition_allowed s body f is gone few early = record {
+  is_new = (f.id, (tt, (f, is, refl)), gone);
+  not_full = below_last (length s.features) most_features few;
+  not_last = below_last s.rev last_rev early;
+}
+
+-- the feature that an addition brings
+pub adding : (body : List ℕ) (edit : Edit) → IsAdding body edit → (f : Feature) × IsFeature body f × (edit ≡ Add f)
+adding body (Add f) is = (f, is, refl)
+adding body (Replace f) is = absurd is
+adding body (Remove id) is = absurd is
+adding body (Restyle style) is = absurd is
+
+-- so many labels are shown as there are numbers of shown labels
+pub shown_of : (e : Editing) (view : View) (numbers : List ℕ) (n : ℕ) → IsEditing e → AreShownNumbers e.engine.rows view numbers → n ≡ length numbers → Shows e.state view n
+shown_of e view numbers n h are long = record {
+  labels = labels_in e.engine.rows;
+  slots = slots_in e.engine.rows;
+  have = editing_labels e h;
+  places = are.places;
+  shown = are.shown;
+  number = long ∙ ap (λ (ns : List ℕ). length ns) are.numbers_are ∙ length-map are.places (number_at e.engine.rows);
+}
+
+-- the removal that was made ready is that of the town, from the state before
+pub gone_out : (group : Group) (s mid t : State) (edit : Edit) (id : List ℕ) (counts : Counts) → mid ≡ s → edit ≡ Remove id → id ≡ id_of group (codes "a") →
+    IsMade edit group mid counts t → IsTurn (goes group) s counts t × (t ≡ step s (Remove (id_of group (codes "a"))))
+gone_out group s mid t edit id counts before removes same done =
+    let is : edit ≡ Remove (id_of group (codes "a")) = removes ∙ ap Remove same in
+    let from : IsMade edit group s counts t = subst (λ (u : State). IsMade edit group u counts t) before done in
+    ((edit, is, from), from.state ∙ ap (step s) is)
+
+-- a text is one feature only
+abbrev pub OneFeature : Type 0
+OneFeature = (bytes : List ℕ) (one other : Feature) → IsFeature bytes one → IsFeature bytes other → IsSameFeature one other
+
+-- the addition that was made ready is that of the town, to the state before
+pub come_back : (group : Group) (s mid t : State) (edit : Edit) (body : List ℕ) (town : Feature) (counts : Counts) → OneFeature → mid ≡ s → IsAdding body edit → body ≡ feature_text town → IsFeature body town →
+    thing_of town ≡ first_town group → IsMade edit group mid counts t →
+    IsTurn (comes group) s counts t × ((f : Feature) × (f.id ≡ id_of group (codes "a")) × (t ≡ step s (Add f)))
+come_back group s mid t edit body town counts one before adds text is thing done =
+    let from : IsMade edit group s counts t = subst (λ (u : State). IsMade edit group u counts t) before done in
+    let which = adding body edit adds in
+    let id : which.0.id ≡ id_of group (codes "a") = (one body which.0 town which.1 is).id ∙ ap (λ (u : Thing). u.id) thing in
+    let makes : IsAdding (feature_text town) edit = subst (λ (bytes : List ℕ). IsAdding bytes edit) text adds in
+    ((edit, (town, thing, makes), from), (which.0, id, from.state ∙ ap (step s) which.2))

@@ -1,0 +1,4 @@
+pub mod Group
+pub mod Thing
+pub mod Turn
+pub mod Totals
