@@ -2,7 +2,7 @@
 use Rattle.std.proofs.Common.{◌≡◌, ℕ, ◌-◌, ◌<◌, Bool, true, false, ◌==◌, List, [], ◌∷◌, ◌++◌, take, map, flat_map, refl, ap, ◌∙◌, sym, subst, arith, inl, inr, append_assoc, append-nil, Option, Some, None, MatchBool}
 use Rattle.std.proofs.lemmas.Bool.Decides.{nat_tests}
 use Rattle.ml_io.specs.Causes.{Appends, AppendsPart}
-use Rattle.ml_io.specs.Takes.{Takes, IsUsedUp}
+use Rattle.ml_io.specs.Takes.{Draws, HasRunOut}
 use Rattle.ml_http.specs.declared.request.Event.{Event}
 use Rattle.ml_http.specs.declared.connection_end.ConnEnd.{ConnEnd}
 use Rattle.ml_http.specs.declared.connection_end.ConnEnd.TheVariants.{Shut, Starved, Closed, ReadFault, WriteFault}
@@ -11,22 +11,30 @@ use Rattle.ml_http.specs.declared.connection_end.Turn.TheVariants.{Open, Over}
 use Rattle.ml_http.specs.Stream.{BeginsWith, HasNoEvent, closes, Reads, AreFirstEvents}
 use Rattle.ml_http.specs.Connection.{memory_reply, brought, IsCut, Exchange, IsEnd, IsServed, IsOpenTurn, IsTurn, IsReply, IsStarved}
 use Rattle.ml_http.proofs.StreamLemmas.{event_grows}
-use Rattle.ml_http.proofs.TakesLemmas.{takes_twice, appends_nothing, appends_twice}
+use Rattle.ml_http.proofs.TakesLemmas.{takes_nothing, takes_twice, appends_nothing, appends_twice}
 
 -- what a source brought, piece by piece
-brought_step : (a b : Option (List ℕ)) (piece rest : List ℕ) → Takes a b piece → brought a (piece ++ rest) ≡ piece ++ brought b rest
-brought_step None b piece rest takes = ap (λ o. piece ++ brought o rest) (sym takes)
-brought_step (Some all) b piece rest takes = takes.2 ∙ ap (λ o. piece ++ brought o rest) (sym takes.1)
+nothing_more : (bs : List ℕ) (c : Option (List ℕ)) (rest : List ℕ) → bs ≡ [] → Draws (Some bs) c rest → rest ≡ bs
+nothing_more bs c rest none draws = empty_front rest draws.0 (sym none ∙ draws.2) ∙ sym none
+  where
+    empty_front : (xs ys : List ℕ) → [] ≡ xs ++ ys → xs ≡ []
+    empty_front [] ys e = refl
+    empty_front (x ∷ xs) ys e = cc
 
-brought_all : (a b : Option (List ℕ)) (piece : List ℕ) → Takes a b piece → brought a piece ≡ piece ++ brought b []
-brought_all a b piece takes = ap (brought a) (sym (append-nil piece)) ∙ brought_step a b piece [] takes
+brought_step : (a b c : Option (List ℕ)) (piece rest : List ℕ) → Draws a b piece → Draws b c rest → brought a (piece ++ rest) ≡ piece ++ brought b rest
+brought_step None None c piece rest draws later = refl
+brought_step None (Some left) c piece rest draws later = ap (λ xs. piece ++ xs) (nothing_more left c rest draws later)
+brought_step (Some all) b c piece rest draws later = draws.2 ∙ ap (λ o. piece ++ brought o rest) (sym draws.1)
 
-used_up : (b : Option (List ℕ)) → IsUsedUp b → brought b [] ≡ []
-used_up None none = refl
+brought_all : (a b : Option (List ℕ)) (piece : List ℕ) → Draws a b piece → brought a piece ≡ piece ++ brought b []
+brought_all a b piece draws = ap (brought a) (sym (append-nil piece)) ∙ brought_step a b b piece [] draws (takes_nothing b)
+
+used_up : (b : Option (List ℕ)) → HasRunOut b → brought b [] ≡ []
+used_up None none = absurd none
 used_up (Some left) none = none
 
-brought_end : (a b : Option (List ℕ)) (piece : List ℕ) → Takes a b piece → IsUsedUp b → brought a piece ≡ piece
-brought_end a b piece takes none = brought_all a b piece takes ∙ ap (λ xs. piece ++ xs) (used_up b none) ∙ append-nil piece
+brought_end : (a b : Option (List ℕ)) (piece : List ℕ) → Draws a b piece → HasRunOut b → brought a piece ≡ piece
+brought_end a b piece draws none = brought_all a b piece draws ∙ ap (λ xs. piece ++ xs) (used_up b none) ∙ append-nil piece
 
 branch_true : {X : Type 0} (Y : Type 0) (b : Bool) → b ≡ true → X → MatchBool b X Y
 branch_true Y true is x = x
@@ -82,41 +90,41 @@ abbrev after_turn : {A : Type 0} → List ℕ → Event → A → Exchange A →
 after_turn taken event answer x = record { taken = taken ++ x.taken; events = event ∷ x.events; answers = answer ∷ x.answers }
 
 -- the bytes of a turn and of what follows it
-all_bytes : (a b : Option (List ℕ)) (held taken rest : List ℕ) → Takes a b taken → held ++ brought a (taken ++ rest) ≡ (held ++ taken) ++ brought b rest
-all_bytes a b held taken rest takes = ap (λ xs. held ++ xs) (brought_step a b taken rest takes) ∙ sym (append_assoc held taken (brought b rest))
+all_bytes : (a b c : Option (List ℕ)) (held taken rest : List ℕ) → Draws a b taken → Draws b c rest → held ++ brought a (taken ++ rest) ≡ (held ++ taken) ++ brought b rest
+all_bytes a b c held taken rest takes later = ap (λ xs. held ++ xs) (brought_step a b c taken rest takes later) ∙ sym (append_assoc held taken (brought b rest))
 
 -- the end of a connection after one more turn before it
 end_after : {A : Type 0} (text : A → List ℕ) (left : ℕ) (held held_after taken : List ℕ) (event : Event) (answer : A) (x : Exchange A) (a b c u v w : Option (List ℕ)) (end : ConnEnd) →
-    0 < left → Takes a b taken → BeginsWith (left == 1) (held ++ taken) event held_after → closes event ≡ false → Appends u v (text answer) →
+    0 < left → Draws a b taken → Draws b c x.taken → BeginsWith (left == 1) (held ++ taken) event held_after → closes event ≡ false → Appends u v (text answer) →
     IsEnd text (left - 1) held_after x b c v w end → IsEnd text left held (after_turn taken event answer x) a c u w end
-end_after text left held held_after taken event answer x a b c u v w Closed some takes begins stays wrote is = (
-  reads_turn HasNoEvent left (held ++ taken) (brought b x.taken) held_after _ event x.events begins stays (all_bytes a b held taken x.taken takes) is.0,
+end_after text left held held_after taken event answer x a b c u v w Closed some takes more begins stays wrote is = (
+  reads_turn HasNoEvent left (held ++ taken) (brought b x.taken) held_after _ event x.events begins stays (all_bytes a b c held taken x.taken takes more) is.0,
   omega (arith, is.1),
   λ all. is.2 all.1,
   appends_twice u v w (text answer) (flat_map text x.answers) wrote is.3,
 )
-end_after text left held held_after taken event answer x a b c u v w Shut some takes begins stays wrote is = (
-  reads_turn HasNoEvent left (held ++ taken) (brought b x.taken) held_after _ event x.events begins stays (all_bytes a b held taken x.taken takes) is.0,
+end_after text left held held_after taken event answer x a b c u v w Shut some takes more begins stays wrote is = (
+  reads_turn HasNoEvent left (held ++ taken) (brought b x.taken) held_after _ event x.events begins stays (all_bytes a b c held taken x.taken takes more) is.0,
   omega (arith, is.1, some),
   appends_twice u v w (text answer) (flat_map text x.answers) wrote is.2,
 )
-end_after text left held held_after taken event answer x a b c u v w Starved some takes begins stays wrote is = (
-  reads_turn (λ rest. Unit {0}) left (held ++ taken) (brought b x.taken) held_after _ event x.events begins stays (all_bytes a b held taken x.taken takes) is.0,
+end_after text left held held_after taken event answer x a b c u v w Starved some takes more begins stays wrote is = (
+  reads_turn (λ rest. Unit {0}) left (held ++ taken) (brought b x.taken) held_after _ event x.events begins stays (all_bytes a b c held taken x.taken takes more) is.0,
   (stays, is.1),
   subst (λ xs. Appends u w xs) (sym (append_assoc (text answer) (flat_map text x.answers) memory_reply))
       (appends_twice u v w (text answer) (flat_map text x.answers ++ memory_reply) wrote is.2),
 )
-end_after text left held held_after taken event answer x a b c u v w ReadFault some takes begins stays wrote is = (
+end_after text left held held_after taken event answer x a b c u v w ReadFault some takes more begins stays wrote is = (
   reads_turn HasNoEvent left (held ++ taken) x.taken held_after _ event x.events begins stays (sym (append_assoc held taken x.taken)) is.0,
   (stays, is.1),
   appends_twice u v w (text answer) (flat_map text x.answers) wrote is.2,
 )
-end_after text left held held_after taken event answer x a b c u v w WriteFault some takes begins stays wrote (reads, inl cut) = (
-  reads_turn (λ rest. Unit {0}) left (held ++ taken) (brought b x.taken) held_after _ event x.events begins stays (all_bytes a b held taken x.taken takes) reads,
+end_after text left held held_after taken event answer x a b c u v w WriteFault some takes more begins stays wrote (reads, inl cut) = (
+  reads_turn (λ rest. Unit {0}) left (held ++ taken) (brought b x.taken) held_after _ event x.events begins stays (all_bytes a b c held taken x.taken takes more) reads,
   inl (cut_after u v w (text answer) (map text x.answers) wrote cut),
 )
-end_after text left held held_after taken event answer x a b c u v w WriteFault some takes begins stays wrote (reads, inr cut) = (
-  reads_turn (λ rest. Unit {0}) left (held ++ taken) (brought b x.taken) held_after _ event x.events begins stays (all_bytes a b held taken x.taken takes) reads,
+end_after text left held held_after taken event answer x a b c u v w WriteFault some takes more begins stays wrote (reads, inr cut) = (
+  reads_turn (λ rest. Unit {0}) left (held ++ taken) (brought b x.taken) held_after _ event x.events begins stays (all_bytes a b c held taken x.taken takes more) reads,
   inr ((stays, cut.0), cut_after u v w (text answer) (map text x.answers ++ memory_reply ∷ []) wrote cut.1),
 )
 
@@ -130,12 +138,12 @@ served_after step idle text left held held_after old mid new a b c u v w end som
   last = later.last;
   run = (mid, turn.steps, later.run);
   leaves = later.leaves;
-  is = end_after text left held held_after turn.taken turn.event turn.answer later.exchange a b c u v w end some turn.takes turn.begins turn.stays turn.wrote later.is;
+  is = end_after text left held held_after turn.taken turn.event turn.answer later.exchange a b c u v w end some turn.takes later.takes turn.begins turn.stays turn.wrote later.is;
 }
 
 -- the input ended
 pub served_none : {S A : Type 0} (step : S → Event → A → S → Type 0) (idle : S → S → Type 0) (text : A → List ℕ) (left : ℕ) (held taken : List ℕ) (old : S) (a b w : Option (List ℕ)) →
-    0 < left → Takes a b taken → HasNoEvent (held ++ taken) → IsUsedUp b → IsServed step idle text left held old old a b w w Closed
+    0 < left → Draws a b taken → HasNoEvent (held ++ taken) → HasRunOut b → IsServed step idle text left held old old a b w w Closed
 served_none step idle text left held taken old a b w some takes none ended = record {
   exchange = record { taken = taken; events = []; answers = [] };
   takes = takes;
@@ -147,7 +155,7 @@ served_none step idle text left held taken old a b w some takes none ended = rec
 
 -- the source failed
 pub served_fault : {S A : Type 0} (step : S → Event → A → S → Type 0) (idle : S → S → Type 0) (text : A → List ℕ) (left : ℕ) (held taken : List ℕ) (old : S) (a b w : Option (List ℕ)) →
-    Takes a b taken → HasNoEvent (held ++ taken) → IsServed step idle text left held old old a b w w ReadFault
+    Draws a b taken → HasNoEvent (held ++ taken) → IsServed step idle text left held old old a b w w ReadFault
 served_fault step idle text left held taken old a b w takes none = record {
   exchange = record { taken = taken; events = []; answers = [] };
   takes = takes;
@@ -159,7 +167,7 @@ served_fault step idle text left held taken old a b w takes none = record {
 
 -- memory was wanting
 pub served_starved : {S A : Type 0} (step : S → Event → A → S → Type 0) (idle : S → S → Type 0) (text : A → List ℕ) (left : ℕ) (held taken : List ℕ) (old new : S) (a b u w : Option (List ℕ)) (end : ConnEnd) →
-    Takes a b taken → idle old new → IsStarved u w end → IsServed step idle text left held old new a b u w end
+    Draws a b taken → idle old new → IsStarved u w end → IsServed step idle text left held old new a b u w end
 served_starved step idle text left held taken old new a b u w Starved takes same wrote = record {
   exchange = record { taken = taken; events = []; answers = [] };
   takes = takes;
@@ -187,12 +195,12 @@ is_one : (left : ℕ) → (left == 1) ≡ true → 1 ≡ left
 is_one left test = grind (arith, nat_tests)
 
 -- the bytes of the last turn
-last_bytes : (a b : Option (List ℕ)) (held taken : List ℕ) → Takes a b taken → held ++ brought a taken ≡ (held ++ taken) ++ brought b []
+last_bytes : (a b : Option (List ℕ)) (held taken : List ℕ) → Draws a b taken → held ++ brought a taken ≡ (held ++ taken) ++ brought b []
 last_bytes a b held taken takes = ap (λ xs. held ++ xs) (brought_all a b taken takes) ∙ sym (append_assoc held taken (brought b []))
 
 -- an event that was read, and the reply to it
 pub turn_of_reply : {S A : Type 0} (step : S → Event → A → S → Type 0) (idle : S → S → Type 0) (text : A → List ℕ) (left : ℕ) (held held_after taken : List ℕ) (event : Event) (old new : S) (a b u w : Option (List ℕ)) (turn : Turn) →
-    0 < left → Takes a b taken → BeginsWith (left == 1) (held ++ taken) event held_after → IsReply step idle text (left == 1) event old new u w turn →
+    0 < left → Draws a b taken → BeginsWith (left == 1) (held ++ taken) event held_after → IsReply step idle text (left == 1) event old new u w turn →
     IsTurn step idle text left held held_after old new a b u w turn
 turn_of_reply step idle text left held held_after taken event old new a b u w Open some takes begins reply =
     record { taken = taken; event = event; answer = reply.0; takes = takes; begins = begins; stays = reply.3; steps = reply.1; wrote = reply.2 }

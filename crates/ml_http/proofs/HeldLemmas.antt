@@ -3,7 +3,7 @@ use Rattle.std.proofs.Common.{◌≡◌, ℕ, ◌+◌, ◌-◌, ◌≤◌, List,
 use Rattle.std.specs.Prelude.{OnErr}
 use Rattle.std.proofs.Math.Seq.{take-add}
 use Rattle.std.proofs.lemmas.List.{drop-drop, drop-take, take-append-le, length-drop, length-take}
-use Rattle.ml_io.specs.Takes.{Takes}
+use Rattle.ml_io.specs.Takes.{Draws}
 use Rattle.ml_http.specs.Held.{Gains}
 use Rattle.ml_http.proofs.TakesLemmas.{takes_nothing}
 
@@ -41,7 +41,7 @@ pub stays_of : (old mid new held : List ℕ) (before start count : ℕ) → take
 stays_of old mid new held before start count is same front = kept mid new start count front ∙ same ∙ is
 
 -- the bytes held after more came
-pub fill_of : (left left_after : Option (List ℕ)) (old mid new held : List ℕ) (before start count n : ℕ) → take count (drop before old) ≡ held → take count (drop start mid) ≡ take count (drop before old) → take (start + count) new ≡ take (start + count) mid → Takes left left_after (take n (drop (start + count) new)) → Gains left left_after held (take (count + n) (drop start new))
+pub fill_of : (left left_after : Option (List ℕ)) (old mid new held : List ℕ) (before start count n : ℕ) → take count (drop before old) ≡ held → take count (drop start mid) ≡ take count (drop before old) → take (start + count) new ≡ take (start + count) mid → Draws left left_after (take n (drop (start + count) new)) → Gains left left_after held (take (count + n) (drop start new))
 fill_of left left_after old mid new held before start count n is same front takes = record {
   taken = take n (drop (start + count) new);
   takes = takes;

@@ -8,7 +8,6 @@ pub mod LinkLemmas
 pub mod Marks
 pub mod OneAsked
 pub mod ReaderLemmas
-pub mod Revisions
 pub mod SameLists
 pub mod SameReplies
 pub mod SameLabels
@@ -17,3 +16,9 @@ pub mod StepLemmas
 pub mod StreamLemmas
 pub mod TakesLemmas
 pub mod ViewLemmas
+pub mod ShownRows
+pub mod HeldTiles
+pub mod Dropping
+pub mod StayRight
+pub mod TileLemmas
+pub mod StatePlaces

@@ -30,7 +30,7 @@ until_at rows p = (get_or (slots_in rows) p no_slot).until
 
 module _ (longest : OneLongest) (one other : List Row) (settled_one : IsSettled one) (settled_other : IsSettled other) (labels : labels_in one ≡ labels_in other) where
   -- the labels end at the same scales
-  same_untils : (p : ℕ) → p < length (labels_in one) → (get_or (slots_in one) p no_slot).until ≡ (get_or (slots_in other) p no_slot).until
+  pub same_untils : (p : ℕ) → p < length (labels_in one) → (get_or (slots_in one) p no_slot).until ≡ (get_or (slots_in other) p no_slot).until
   same_untils p within =
       same_ratio _ _ (longest (labels_in one) (ends (slots_in one)) (ends (slots_in other)) settled_one.slots.longest
       (subst (λ ls. IsLongest ls (ends (slots_in other))) (sym labels) settled_other.slots.longest) p within)
@@ -73,7 +73,7 @@ same_places us vs c d view ps qs first second there back =
     (whole.0, whole.1, get_or_default ps whole.0 q 0 whole.1 ∙ whole.2))
 
 -- rows are told apart by their numbers
-row_of : (rows : List Row) (row : Row) (p : ℕ) → HaveOwnNumbers rows → Contains rows row → p < length rows → row.number ≡ number_at rows p → get_or rows p row ≡ row
+pub row_of : (rows : List Row) (row : Row) (p : ℕ) → HaveOwnNumbers rows → Contains rows row → p < length rows → row.number ≡ number_at rows p → get_or rows p row ≡ row
 row_of rows row p own there within number =
     let many : length (numbers_in rows) ≡ length rows = length-map rows (λ r. r.number) in
     let at_k : get_or (numbers_in rows) there.0 0 ≡ row.number = get_or-map (λ r. r.number) rows there.0 row 0 there.1 ∙ ap (λ r. r.number) there.2 in

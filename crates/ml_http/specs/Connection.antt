@@ -1,7 +1,7 @@
 -- What a connection brought and what it got.
 use Rattle.std.specs.Prelude.{◌≡◌, ℕ, ◌<◌, ◌≤◌, ◌⊎◌, Bool, true, false, ◌==◌, List, [], ◌∷◌, ◌++◌, length, take, map, flat_map, codes, Option, Some, None}
 use Rattle.ml_io.specs.Causes.{Rose, Appends, AppendsPart}
-use Rattle.ml_io.specs.Takes.{Takes, IsUsedUp}
+use Rattle.ml_io.specs.Takes.{Draws, HasRunOut}
 use Rattle.ml_http.specs.declared.request.Event.{Event}
 use Rattle.ml_http.specs.declared.connection_end.ConnEnd.{ConnEnd}
 use Rattle.ml_http.specs.declared.connection_end.ConnEnd.TheVariants.{Shut, Starved, Closed, ReadFault, WriteFault}
@@ -38,7 +38,7 @@ pub record Exchange (A : Type 0) : Type 0 where
 abbrev pub IsEnd : {A : Type 0} → (A → List ℕ) → ℕ → List ℕ → Exchange A → Option (List ℕ) → Option (List ℕ) → Option (List ℕ) → Option (List ℕ) → ConnEnd → Type 0
 IsEnd text left held x source source_after written written_after Closed =
     AreEvents left (held ++ brought source x.taken) x.events × (length x.events < left)
-    × (AreOpen x.events → IsUsedUp source_after)
+    × (AreOpen x.events → HasRunOut source_after)
     × Appends written written_after (flat_map text x.answers)
 IsEnd text left held x source source_after written written_after Shut =
     AreEvents left (held ++ brought source x.taken) x.events × (length x.events ≡ left)
@@ -65,7 +65,7 @@ IsLeft idle WriteFault last new = (new ≡ last) ⊎ idle last new
 -- the connection was served so, from one state of the machine to another
 pub record IsServed {S A : Type 0} (step : S → Event → A → S → Type 0) (idle : S → S → Type 0) (text : A → List ℕ) (left : ℕ) (held : List ℕ) (old new : S) (source source_after written written_after : Option (List ℕ)) (end : ConnEnd) : Type 0 where
   pub exchange : Exchange A
-  pub takes : Takes source source_after exchange.taken
+  pub takes : Draws source source_after exchange.taken
   pub last : S
   pub run : Run step old exchange.events exchange.answers last
   pub leaves : IsLeft idle end last new
@@ -76,7 +76,7 @@ pub record IsOpenTurn {S A : Type 0} (step : S → Event → A → S → Type 0)
   pub taken : List ℕ
   pub event : Event
   pub answer : A
-  pub takes : Takes source source_after taken
+  pub takes : Draws source source_after taken
   pub begins : BeginsWith (left == 1) (held ++ taken) event held_after
   pub stays : closes event ≡ false
   pub steps : step old event answer new

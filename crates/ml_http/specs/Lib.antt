@@ -9,5 +9,8 @@ pub mod Reply
 pub mod Request
 pub mod Routes
 pub mod Run
+pub mod StateReply
 pub mod Step
 pub mod Stream
+pub mod TileReply
+pub mod TileWork

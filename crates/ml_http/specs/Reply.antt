@@ -1,7 +1,7 @@
 -- The text of a reply.
 use Rattle.std.specs.Prelude.{ℕ, Bool, ◌==◌, List, [], ◌++◌, length, codes, decimal, Option, Some, None, if◌then◌else◌}
 use Rattle.ml_http.specs.declared.kind.Kind.{Kind}
-use Rattle.ml_http.specs.declared.kind.Kind.TheVariants.{Json, Svg, GeoJson}
+use Rattle.ml_http.specs.declared.kind.Kind.TheVariants.{Json, Svg, GeoJson, Text}
 use Rattle.ml_http.specs.declared.kind.Allow.{Allow}
 use Rattle.ml_http.specs.declared.kind.Allow.TheVariants.{Get, Put, Edits}
 
@@ -24,6 +24,7 @@ abbrev pub type_of : Kind → List ℕ
 type_of Json = codes "application/json"
 type_of Svg = codes "image/svg+xml"
 type_of GeoJson = codes "application/geo+json"
+type_of Text = codes "text/plain"
 
 -- the line on the methods of the path, where the reply has one
 abbrev pub allow_line : Option Allow → List ℕ

@@ -1,16 +1,16 @@
 -- What a request asks for: its path, its method and its query.
-use Rattle.std.specs.Prelude.{ℕ, ◌+◌, take, drop, position, Bool, ◌&&◌, ◌==◌, nat_lt, nat_le, List, [], ◌∷◌, length, map, filter, codes, bytes_eq, Option, Some, None, unwrap_or, Result, Ok, Err, MatchResult, if◌then◌else◌, String, string_bytes}
+use Rattle.std.specs.Prelude.{ℕ, ◌+◌, take, drop, position, Bool, ◌==◌, List, [], ◌∷◌, length, map, filter, codes, bytes_eq, Option, Some, None, unwrap_or, Result, Ok, Err, MatchResult, if◌then◌else◌, String, string_bytes}
 use Rattle.std.specs.declared.alloc.Global.{Global}
 use Rattle.std.specs.Option.{option_map}
-use Rattle.std.specs.Str.{all_ascii_digits}
-use Rattle.std.specs.Str.Parse.{digits_value}
 use Rattle.std.specs.Str.Lossy.{utf8_lossy}
+use Rattle.ml_ratio.specs.Number.{number_up_to}
 use Rattle.form_urlencoded.specs.Form.{raw_pairs, decode}
 use Rattle.ml_cone.specs.declared.view.View.{View}
+use Rattle.ml_tile.specs.Words.{WritesTile, IsFirstBadWord}
+use Rattle.ml_tile.specs.declared.key.TileKey.{TileKey}
 use Rattle.ml_view.specs.Words.{WritesView, IsFirstBad}
 use Rattle.ml_http.specs.declared.route.Route.{Route}
-use Rattle.ml_http.specs.declared.route.Route.TheVariants.{Read, Edit}
-use Rattle.ml_http.specs.declared.route.ReadRoute.{ReadRoute}
+use Rattle.ml_http.specs.declared.route.Route.TheVariants.{Read, Tile, Edit}
 use Rattle.ml_http.specs.declared.route.ReadRoute.TheVariants as reads
 use Rattle.ml_http.specs.declared.route.EditRoute.TheVariants as edits
 use Rattle.ml_http.specs.declared.route.NoRoute.{NoRoute}
@@ -34,8 +34,8 @@ abbrev pub query_of : List ℕ → List ℕ
 query_of target = behind (position (λ byte. byte == 63) target) target
 
 -- a path that has GET alone
-abbrev pub by_get : List ℕ → ReadRoute → Result Route NoRoute
-by_get method route = if bytes_eq method (codes "GET") then Ok (Read route) else Err (Method Get)
+abbrev pub by_get : List ℕ → Route → Result Route NoRoute
+by_get method route = if bytes_eq method (codes "GET") then Ok route else Err (Method Get)
 
 -- the path of edits
 abbrev pub by_edit : List ℕ → Result Route NoRoute
@@ -51,14 +51,16 @@ by_style method = if bytes_eq method (codes "PUT") then Ok (Edit edits.Restyle) 
 -- what a method and a path ask for
 abbrev pub route_of : List ℕ → List ℕ → Result Route NoRoute
 route_of method path =
-    if bytes_eq path (codes "/view") then by_get method reads.View
-    else (if bytes_eq path (codes "/svg") then by_get method reads.Svg
-    else (if bytes_eq path (codes "/why") then by_get method reads.Why
-    else (if bytes_eq path (codes "/map") then by_get method reads.Map
-    else (if bytes_eq path (codes "/rev") then by_get method reads.Rev
+    if bytes_eq path (codes "/view") then by_get method (Read reads.View)
+    else (if bytes_eq path (codes "/svg") then by_get method (Read reads.Svg)
+    else (if bytes_eq path (codes "/why") then by_get method (Read reads.Why)
+    else (if bytes_eq path (codes "/map") then by_get method (Read reads.Map)
+    else (if bytes_eq path (codes "/rev") then by_get method (Read reads.Rev)
+    else (if bytes_eq path (codes "/state") then by_get method (Read reads.State)
+    else (if bytes_eq path (codes "/tile") then by_get method Tile
     else (if bytes_eq path (codes "/feature") then by_edit method
     else (if bytes_eq path (codes "/style") then by_style method
-    else Err Path))))))
+    else Err Path))))))))
 
 -- the text of a name or a value: `+` is a space, escapes are decoded, and what is not UTF-8 becomes U+FFFD
 abbrev pub text_of : List ℕ → List ℕ
@@ -98,13 +100,16 @@ IsViewAsked pairs result =
     (WritesView (word_of (codes "cx") pairs) (word_of (codes "cy") pairs) (word_of (codes "w") pairs) (word_of (codes "h") pairs) (word_of (codes "s") pairs))
     (IsFirstBad (word_of (codes "cx") pairs) (word_of (codes "cy") pairs) (word_of (codes "w") pairs) (word_of (codes "h") pairs) (word_of (codes "s") pairs))
 
--- one to sixteen digits
-abbrev pub is_revision : List ℕ → Bool
-is_revision text = nat_lt 0 (length text) && (nat_le (length text) 16 && all_ascii_digits text)
+-- the tile that a query asks for, or the place of the first name that is missing, stands twice or is wrong
+abbrev pub IsTileAsked : List (List ℕ × List ℕ) → Result TileKey ℕ → Type 0
+IsTileAsked pairs result =
+    MatchResult result
+    (WritesTile (word_of (codes "z") pairs) (word_of (codes "i") pairs) (word_of (codes "j") pairs))
+    (IsFirstBadWord (word_of (codes "z") pairs) (word_of (codes "i") pairs) (word_of (codes "j") pairs))
 
 -- the revision that one to sixteen digits write; no other text is one
-unfoldable pub revision : List ℕ → Option ℕ
-revision text = if is_revision text then Some (digits_value 10 text) else None
+abbrev pub revision : List ℕ → Option ℕ
+revision text = number_up_to 16 text
 
 -- the revision that a query gives: none without the name, and none that stands twice or is no number
 abbrev pub revision_in : List (List ℕ) → Option (Option ℕ)

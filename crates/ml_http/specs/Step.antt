@@ -1,5 +1,6 @@
 -- The machine: what a request is answered, and the state that the map is in afterwards.
-use Rattle.std.specs.Prelude.{◌≡◌, ◌⊎◌, ℕ, ◌+◌, zero, suc, Bool, List, [], length, map, codes, All, Contains, Option, Some, None, Result, Ok, Err, MatchOption}
+use Rattle.std.specs.Prelude.{◌≡◌, ◌⊎◌, ℕ, ◌+◌, zero, suc, Bool, List, [], length, map, codes, All, Contains, Option, Some, None, unwrap_or, Result, Ok, Err, MatchOption}
+use Rattle.std.specs.Option.{option_map}
 use Rattle.ml_ratio.specs.declared.feature.Feature.{Feature}
 use Rattle.ml_cone.specs.declared.label.Label.{Label}
 use Rattle.ml_cone.specs.declared.view.View.{View}
@@ -8,13 +9,16 @@ use Rattle.ml_label.specs.Labelling.{IsLabelling}
 use Rattle.ml_label.specs.Labels.{AreLabelsOf}
 use Rattle.ml_watch.specs.declared.change.Change.{Change}
 use Rattle.ml_watch.specs.Hearing.{Hearing, AllHear}
+use Rattle.ml_tile.specs.Cache.{HeldTile}
+use Rattle.ml_tile.specs.Tile.{IsTileView}
+use Rattle.ml_tile.specs.declared.key.TileKey.{TileKey}
 use Rattle.ml_store.specs.Rows.{labels_in, slots_in, numbers_in}
 use Rattle.ml_store.specs.declared.row.Row.{Row}
 use Rattle.ml_repair.specs.Changes.{AreChanges}
 use Rattle.ml_repair.specs.Settled.{IsSettled}
 use Rattle.ml_repair.specs.Shown.{AreShownNumbers}
 use Rattle.ml_editor.specs.State.{State, HasFeature, step}
-use Rattle.ml_editor.specs.Editing.{IsEditCost}
+use Rattle.ml_editor.specs.Editing.{IsEditCost, id_of}
 use Rattle.ml_editor.specs.Faults.{IsAddFault, IsAddition, IsAdding, IsReplaceFault, IsReplacement, IsReplacing, IsRemoveFault, IsRemoval, IsStyleFault, IsRestyle, IsRestyling}
 use Rattle.ml_editor.specs.declared.edit.Edit.{Edit}
 use Rattle.ml_editor.specs.declared.edit.Edit.TheVariants.{Remove as Removes}
@@ -42,17 +46,24 @@ use Rattle.ml_http.specs.declared.route.NoRoute.{NoRoute}
 use Rattle.ml_http.specs.Request.{RequestParts}
 use Rattle.ml_http.specs.Reply.{reply_text}
 use Rattle.ml_http.specs.Replies.{json_reply, refusal_reply, no_route_reply, query_reply, fault_code, fault_reply}
-use Rattle.ml_http.specs.Routes.{path_of, query_of, route_of, query_pairs, named, IsViewAsked, revision_in, id_in}
+use Rattle.ml_http.specs.StateReply.{IsStateReply}
+use Rattle.ml_http.specs.TileWork.{TileWork, Untouched, Asked, Changed, Remade}
+use Rattle.ml_http.specs.Routes.{path_of, query_of, route_of, query_pairs, named, IsViewAsked, IsTileAsked, revision_in, id_in}
 
--- all that comes of one event: the reply, the changes that the watchers are told, and how many labels were evaluated
+-- all that comes of one event: the reply, the changes that the watchers are told, how many labels were evaluated, and what it is for the tiles that are held
 pub record LinkAnswer : Type 0 where
   pub reply : List ℕ
   pub changes : List Change
   pub cost : ℕ
+  pub work : TileWork
 
 -- an answer that is a reply alone
 abbrev pub plain : List ℕ → LinkAnswer
-plain reply = record { reply = reply; changes = []; cost = 0 }
+plain reply = record { reply = reply; changes = []; cost = 0; work = Untouched }
+
+-- an answer that is the body of a tile
+abbrev pub tiled : List ℕ → HeldTile → LinkAnswer
+tiled reply tile = record { reply = reply; changes = []; cost = 0; work = Asked tile }
 
 -- a query: its names and values, in order
 abbrev pub Query : Type 0
@@ -134,11 +145,35 @@ IsRead reads.Svg s closes query reply = IsViewReply svg_body Svg s closes query 
 IsRead reads.Why s closes query reply = IsWhyReply s closes query reply
 IsRead reads.Map s closes query reply = reply ≡ reply_text 200 GeoJson None closes (collection_text s.features)
 IsRead reads.Rev s closes query reply = IsRevReply s closes reply
+IsRead reads.State s closes query reply = IsStateReply s closes reply
 
 -- nothing changes, and the answer is this reply alone
 pub record Stays (s : State) (reply : List ℕ) (answer : LinkAnswer) (t : State) : Type 0 where
   pub state : t ≡ s
   pub is : answer ≡ plain reply
+
+-- the text is the body of the tile: its view as JSON
+abbrev pub IsTileText : State → TileKey → List ℕ → Type 0
+IsTileText s key text = (view : View) × IsTileView key.z key.i key.j view × IsViewText json_body s view text
+
+-- the names of a tile's query, in their order
+abbrev pub tile_name : ℕ → List ℕ
+tile_name zero = codes "z"
+tile_name (suc zero) = codes "i"
+tile_name (suc (suc n)) = codes "j"
+
+-- the answer for the tile that was asked for, or where the query asks for none
+abbrev pub IsTileFor : State → Bool → Result TileKey ℕ → LinkAnswer → State → Type 0
+IsTileFor s closes (Err place) answer t = Stays s (query_reply closes (tile_name place)) answer t
+IsTileFor s closes (Ok key) answer t = (text : List ℕ) × IsTileText s key text × (t ≡ s) × (answer ≡ tiled (json_reply 200 closes text) (key, text))
+
+-- the answer to a request for a tile
+abbrev pub IsTileAnswer : State → Bool → Query → LinkAnswer → State → Type 0
+IsTileAnswer s closes query answer t = (asked : Result TileKey ℕ) × IsTileAsked query asked × IsTileFor s closes asked answer t
+
+-- an edit changes labels where it has a feature of its own; a new style makes them all anew
+abbrev pub work_of : Edit → List Row → List Row → TileWork
+work_of edit before after = unwrap_or (option_map (λ id. Changed before after) (id_of edit)) Remade
 
 -- the edit is carried out: the changes are told, and its reply tells them
 pub record IsCarriedOut (s : State) (closes : Bool) (edit : Edit) (answer : LinkAnswer) (t : State) : Type 0 where
@@ -150,6 +185,7 @@ pub record IsCarriedOut (s : State) (closes : Bool) (edit : Edit) (answer : Link
   pub changes : AreChanges (labels_in before) (slots_in before) (labels_in after) (slots_in after) answer.changes
   pub cost : IsEditCost edit (labels_in before) (labels_in after) answer.cost
   pub reply : answer.reply ≡ json_reply 200 closes (edit_text t.rev answer.changes)
+  pub work : answer.work ≡ work_of edit before after
 
 -- the edit is refused: nothing changes, and the reply tells why
 abbrev pub IsTurnedDown : State → Bool → EditFault → LinkAnswer → State → Type 0
@@ -182,6 +218,7 @@ abbrev pub IsRouted : Result Route NoRoute → State → RequestParts → LinkAn
 IsRouted (Err none) s request answer t = Stays s (no_route_reply request.closes none) answer t
 IsRouted (Ok (routes.Read route)) s request answer t =
     (reply : List ℕ) × IsRead route s request.closes (query_pairs (query_of request.target)) reply × Stays s reply answer t
+IsRouted (Ok routes.Tile) s request answer t = IsTileAnswer s request.closes (query_pairs (query_of request.target)) answer t
 IsRouted (Ok (routes.Edit route)) s request answer t = IsEdited route s request.closes (query_pairs (query_of request.target)) request.body answer t
 
 -- one step of the machine: an event is answered, and the map is in another state or in the same

@@ -1,7 +1,7 @@
 //! Bytes that were taken from a source and not used yet.
 ghost use Rattle.std.specs.Prelude.{◌≡◌, ◌+◌, ◌-◌, ◌<◌, ◌≤◌, ◌++◌, [], IfOk, OnOk, OnErr, length, take, drop};
 ghost use Rattle.ml_io.specs.Causes.{HasCause};
-ghost use Rattle.ml_io.specs.Takes.{Takes, IsUsedUp};
+ghost use Rattle.ml_io.specs.Takes.{Draws, HasRunOut};
 ghost use Rattle.ml_http.specs.Held.{Gains};
 
 use ml_io::{Failed, Source};
@@ -74,7 +74,7 @@ impl Held {
         ensures gains { Gains (S.left source.old) (S.left source.new) self.old self.new }
         ensures count { IfOk result (λ n. length self.new ≡ length self.old + n) }
         ensures err { OnErr result (self.new ≡ self.old) }
-        ensures end { IfOk result (λ n. n ≡ 0 → IsUsedUp (S.left source.new)) }
+        ensures end { IfOk result (λ n. n ≡ 0 → HasRunOut (S.left source.new)) }
         ensures cause { HasCause (S.faults source.old) (S.faults source.new) result }
     {
         let (start, taken) = refill(source, &mut self.buffer, self.start, self.count);
@@ -127,10 +127,10 @@ fn refill<S: Source>(
     ensures gains { IfOk result.1 (λ n. Gains (S.left source.old) (S.left source.new)
         (take count (drop start buffer.old)) (take (count + n) (drop result.0 buffer.new))) }
     ensures err { OnErr result.1 (take count (drop result.0 buffer.new) ≡ take count (drop start buffer.old)) }
-    ensures nothing { OnErr result.1 (Takes (S.left source.old) (S.left source.new) []) }
+    ensures nothing { OnErr result.1 (Draws (S.left source.old) (S.left source.new) []) }
     ensures bound { IfOk result.1 (λ n. result.0 + (count + n) ≤ length buffer.new) }
     ensures within { result.0 + count ≤ length buffer.new }
-    ensures end { IfOk result.1 (λ n. n ≡ 0 → IsUsedUp (S.left source.new)) }
+    ensures end { IfOk result.1 (λ n. n ≡ 0 → HasRunOut (S.left source.new)) }
     ensures cause { HasCause (S.faults source.old) (S.faults source.new) result.1 }
 {
     let start = make_room(buffer, start, count);
@@ -161,9 +161,9 @@ fn take_behind<S: Source>(source: &mut S, buffer: &mut [u8], filled: usize) -> R
     ensures front { take filled buffer.new ≡ take filled buffer.old }
     ensures bound { IfOk result (λ n. filled + n ≤ length buffer.new) }
     ensures ok { IfOk result (λ n.
-        Takes (S.left source.old) (S.left source.new) (take n (drop filled buffer.new))) }
-    ensures err { OnErr result (Takes (S.left source.old) (S.left source.new) []) }
-    ensures end { IfOk result (λ n. n ≡ 0 → IsUsedUp (S.left source.new)) }
+        Draws (S.left source.old) (S.left source.new) (take n (drop filled buffer.new))) }
+    ensures err { OnErr result (Draws (S.left source.old) (S.left source.new) []) }
+    ensures end { IfOk result (λ n. n ≡ 0 → HasRunOut (S.left source.new)) }
     ensures cause { HasCause (S.faults source.old) (S.faults source.new) result }
 {
     let (_, room) = buffer.split_at_mut(filled);

@@ -9,6 +9,8 @@ pub enum Kind {
     Svg,
     /// A map.
     GeoJson,
+    /// Plain text.
+    Text,
 }
 
 /// Which methods a path has.

@@ -2,8 +2,11 @@
 //! law, for all values.
 ghost use Rattle.std.specs.Prelude.{◌≡◌, ℕ, Bool, List, [], ◌++◌};
 ghost use Rattle.ml_editor.specs.State.{State};
+ghost use Rattle.ml_tile.specs.Cache.{Cache};
+ghost use Rattle.ml_http.specs.Link.{AreTexts};
+ghost use Rattle.ml_http.specs.TileWork.{IsDoneTo};
 ghost use Rattle.ml_http.specs.Alike.{AreAlike};
-ghost use Rattle.ml_http.specs.Step.{Query, IsRead};
+ghost use Rattle.ml_http.specs.Step.{LinkAnswer, Query, IsRead, MapStep};
 ghost use Rattle.ml_http.specs.declared.route.ReadRoute.TheVariants as reads;
 ghost use Rattle.ml_http.specs.Stream.{AreEvents};
 ghost use Rattle.ml_view.specs.Words.{SomeCoordinate, SomeSide, SomeScale};
@@ -11,6 +14,7 @@ ghost use Rattle.ml_http.specs.declared.request.Event.{Event};
 
 use ml_conflict::laws::l0 as one_longest;
 use ml_label::laws::one_label;
+use ml_repair::laws::{one_label_an_id, unchanged_stays};
 
 /// Two maps with one style and the same features, in whatever order, answer each request for a view, as
 /// JSON or as SVG, with the same bytes, whatever edits led to them.
@@ -42,3 +46,16 @@ pub fn empty_word()
     ensures side { ¬ (SomeSide []) }
     ensures scale { ¬ (SomeScale []) }
 {}
+
+/// The bodies of tiles that are held stay those of their tiles while requests are answered, whatever
+/// these are: of a map that was edited just as of one that was not. So a tile that is held is answered
+/// as one that is not.
+pub fn held_tiles_stay_right()
+    ensures { (s t : State) (event : Event) (answer : LinkAnswer) (old new : Cache) →
+        MapStep s event answer t → IsDoneTo answer.work answer.changes old new → AreTexts s old.tiles → AreTexts t new.tiles }
+{
+    one_label();
+    one_longest();
+    unchanged_stays();
+    one_label_an_id();
+}

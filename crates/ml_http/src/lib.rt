@@ -7,8 +7,10 @@
 //!   a head is judged;
 //! - [`route`]: what a request may ask for; `target`: which path and method ask for it; `query`: the
 //!   names and values of a query;
-//! - `answer`: what an event is answered; `read` with `view` and `why`: requests that change nothing;
-//!   `edit`: requests that edit;
+//! - `answer`: what an event is answered; `read` with `view`, `why` and `state`: requests that change
+//!   nothing;
+//!   `tile`: tiles, whose bodies may be held; `edit`: requests that edit; `forget`: which tiles an edit
+//!   drops;
 //! - [`reply`]: the bytes of a reply, with [`kind`]; `replies`: those of refusals;
 //! - [`laws`]: what follows of the definitions alone.
 #![tactic(auto)]
@@ -17,6 +19,7 @@ mod answer;
 pub mod connection_end;
 mod edit;
 mod fields;
+mod forget;
 mod head;
 mod held;
 pub mod kind;
@@ -30,7 +33,9 @@ pub mod reply;
 pub mod request;
 pub mod route;
 pub mod serve;
+mod state;
 mod target;
+mod tile;
 mod view;
 mod why;
 

@@ -1,10 +1,11 @@
 //! The names and values of a query.
 ghost use Rattle.std.specs.Prelude.{◌≡◌, IfOk, length, map, codes};
 ghost use Rattle.std.specs.Option.{option_map};
-ghost use Rattle.std.specs.Str.{all_ascii_digits};
-ghost use Rattle.ml_http.specs.Routes.{query_pairs, pair_bytes, named, first, word_of, IsViewAsked, is_revision, revision, revision_in, id_in};
+ghost use Rattle.ml_http.specs.Routes.{query_pairs, pair_bytes, named, first, word_of, IsViewAsked, IsTileAsked, revision_in, id_in};
 
 use ml_cone::View;
+use ml_ratio::number::read_up_to;
+use ml_tile::{TileKey, read_tile};
 use ml_view::read_view;
 use std::alloc::{AllocError, Global};
 
@@ -80,34 +81,15 @@ pub(crate) fn view_asked(pairs: &[(String, String)]) -> Result<View, usize>
     )
 }
 
-// Whether every byte is an ASCII digit.
-fn are_digits(bytes: &[u8]) -> bool
-    ensures { result ≡ all_ascii_digits bytes.now }
+/// The tile that a query asks for.
+///
+/// # Errors
+/// The place, counted from 0, of the first of `z`, `i` and `j` that is missing, stands twice or has a
+/// wrong value.
+pub(crate) fn tile_asked(pairs: &[(String, String)]) -> Result<TileKey, usize>
+    ensures { IsTileAsked (map pair_bytes pairs.now) result }
 {
-    for byte in bytes {
-        if !byte.is_ascii_digit() {
-            return false;
-        }
-    }
-    true
-}
-
-// Whether the text is one to sixteen digits.
-fn is_revision(text: &str) -> bool
-    ensures { result ≡ is_revision text.now }
-{
-    !text.is_empty() && text.len() <= 16 && are_digits(text.as_bytes())
-}
-
-// The revision that one to sixteen digits write; none for any other text.
-fn read_revision(text: &str) -> Option<u64>
-    ensures { result ≡ revision text.now }
-{
-    if is_revision(text) {
-        text.parse::<u64>().ok()
-    } else {
-        None
-    }
+    read_tile(word(pairs, "z"), word(pairs, "i"), word(pairs, "j"))
 }
 
 /// The revision that a query gives, if it gives one. The answer is none where the query gives it twice
@@ -118,7 +100,7 @@ pub(crate) fn revision_asked(pairs: &[(String, String)]) -> Option<Option<u64>>
     match count_of(pairs, "rev") {
         0 => Some(None),
         1 => match first_of(pairs, "rev") {
-            Some(text) => match read_revision(text) {
+            Some(text) => match read_up_to(16, text) {
                 Some(rev) => Some(Some(rev)),
                 None => None,
             },

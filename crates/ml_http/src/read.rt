@@ -7,6 +7,7 @@ use crate::kind::Kind;
 use crate::replies::json_reply;
 use crate::reply::reply;
 use crate::route::ReadRoute;
+use crate::state::state_reply;
 use crate::view::{json_view_reply, svg_view_reply};
 use crate::why::why_reply;
 use http::StatusCode;
@@ -40,6 +41,7 @@ pub(crate) fn read(
             )
         }
         ReadRoute::Rev => rev_reply(alloc, editor, closes),
+        ReadRoute::State => state_reply(alloc, editor, closes),
     }
 }
 

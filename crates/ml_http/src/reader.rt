@@ -1,7 +1,7 @@
 //! Reads a connection, in whatever pieces its source gives it.
 ghost use Rattle.std.specs.Prelude.{◌≡◌, ◌+◌, ◌<◌, ◌≤◌, ◌++◌, ℕ, List, IfOk, OnErr, length, take};
 ghost use Rattle.ml_io.specs.Causes.{HasCause};
-ghost use Rattle.ml_io.specs.Takes.{Takes};
+ghost use Rattle.ml_io.specs.Takes.{Draws};
 ghost use Rattle.ml_http.specs.Held.{Gains};
 ghost use Rattle.ml_http.specs.Heads.{IsJudged};
 ghost use Rattle.ml_http.specs.Stream.{EndsInHead};
@@ -45,7 +45,7 @@ fn read_body<S: Source>(
     source: &mut S,
     length: usize,
 ) -> Result<Option<Vec<u8>>, ReadFault>
-    ensures body { (taken : List ℕ) × Takes (S.left source.old) (S.left source.new) taken
+    ensures body { (taken : List ℕ) × Draws (S.left source.old) (S.left source.new) taken
         × IsBodyOf length (held.old ++ taken) held.new (S.left source.new) result }
     ensures cause { HasReadCause (S.faults source.old) (S.faults source.new) result }
 {
@@ -75,7 +75,7 @@ fn read_request<S: Source>(
     head: Head,
     last: bool,
 ) -> Result<Option<Event>, ReadFault>
-    ensures event { (taken : List ℕ) × Takes (S.left source.old) (S.left source.new) taken
+    ensures event { (taken : List ℕ) × Draws (S.left source.old) (S.left source.new) taken
         × IsRequestOf last head (held.old ++ taken) held.new (S.left source.new) result }
     ensures cause { HasReadCause (S.faults source.old) (S.faults source.new) result }
 {
@@ -105,7 +105,7 @@ pub(crate) fn read_event<S: Source>(
     source: &mut S,
     last: bool,
 ) -> Result<Option<Event>, ReadFault>
-    ensures event { (taken : List ℕ) × Takes (S.left source.old) (S.left source.new) taken
+    ensures event { (taken : List ℕ) × Draws (S.left source.old) (S.left source.new) taken
         × IsEventOf last (held.old ++ taken) held.new (S.left source.new) result }
     ensures cause { HasReadCause (S.faults source.old) (S.faults source.new) result }
 {

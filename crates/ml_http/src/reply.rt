@@ -33,6 +33,7 @@ fn media_type(kind: Kind) -> &'static str
         Kind::Json => "application/json",
         Kind::Svg => "image/svg+xml",
         Kind::GeoJson => "application/geo+json",
+        Kind::Text => "text/plain",
     }
 }
 

@@ -14,6 +14,8 @@ pub enum ReadRoute {
     Map,
     /// The revision.
     Rev,
+    /// The whole state of the labels.
+    State,
 }
 
 /// Which edit a request may ask for.
@@ -34,6 +36,8 @@ pub enum EditRoute {
 pub enum Route {
     /// To be told something.
     Read(ReadRoute),
+    /// A tile: its view as JSON, which may be held.
+    Tile,
     /// To change something.
     Edit(EditRoute),
 }

@@ -47,11 +47,11 @@ fn parts(target: &[u8]) -> (&[u8], &[u8])
 }
 
 // What is asked for by a path that has GET alone.
-fn by_get(method: &[u8], route: ReadRoute) -> Result<Route, NoRoute>
+fn by_get(method: &[u8], route: Route) -> Result<Route, NoRoute>
     ensures { result ≡ by_get method.now route }
 {
     if method == b"GET".as_slice() {
-        Ok(Route::Read(route))
+        Ok(route)
     } else {
         Err(NoRoute::Method(Allow::Get))
     }
@@ -88,15 +88,19 @@ fn route(method: &[u8], path: &[u8]) -> Result<Route, NoRoute>
     ensures { result ≡ route_of method.now path.now }
 {
     if path == b"/view".as_slice() {
-        by_get(method, ReadRoute::View)
+        by_get(method, Route::Read(ReadRoute::View))
     } else if path == b"/svg".as_slice() {
-        by_get(method, ReadRoute::Svg)
+        by_get(method, Route::Read(ReadRoute::Svg))
     } else if path == b"/why".as_slice() {
-        by_get(method, ReadRoute::Why)
+        by_get(method, Route::Read(ReadRoute::Why))
     } else if path == b"/map".as_slice() {
-        by_get(method, ReadRoute::Map)
+        by_get(method, Route::Read(ReadRoute::Map))
     } else if path == b"/rev".as_slice() {
-        by_get(method, ReadRoute::Rev)
+        by_get(method, Route::Read(ReadRoute::Rev))
+    } else if path == b"/state".as_slice() {
+        by_get(method, Route::Read(ReadRoute::State))
+    } else if path == b"/tile".as_slice() {
+        by_get(method, Route::Tile)
     } else if path == b"/feature".as_slice() {
         by_edit(method)
     } else if path == b"/style".as_slice() {

@@ -113,8 +113,11 @@ fn shown(alloc: Global, editor: &Editor, view: &View) -> Result<Seq<u32>, AllocE
     shown_counted::<Brand>(Blank::new(1), alloc, editor, view)
 }
 
-// The text of a view as JSON.
-fn json_view(alloc: Global, editor: &Editor, view: &View) -> Result<Seq<u8>, AllocError>
+/// The text of a view as JSON.
+///
+/// # Errors
+/// Want of memory.
+pub(crate) fn json_view(alloc: Global, editor: &Editor, view: &View) -> Result<Seq<u8>, AllocError>
     ensures { IfOk result (λ text. IsViewText json_body editor.now.state view.now text) }
 {
     let numbers = shown(alloc, editor, view)?;

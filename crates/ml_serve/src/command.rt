@@ -1,7 +1,7 @@
 //! Listens, serves, and says so.
 ghost use Rattle.std.specs.Prelude.{◌≡◌, ◌≤◌, List, Some, None, false, length};
 ghost use Rattle.ml_io.specs.Causes.{Rose};
-ghost use Rattle.ml_http.specs.Link.{lent};
+ghost use Rattle.ml_http.specs.Link.{AreTexts, lent};
 ghost use Rattle.ml_http.specs.Step.{LinkAnswer};
 ghost use Rattle.ml_serve.specs.Headline.{Headline};
 ghost use Rattle.ml_serve.specs.Printed.{IsEndOfServing, IsFaultSaid, HasServeCause};
@@ -14,6 +14,7 @@ use crate::serve_end::ServeEnd;
 use ml_editor::Editor;
 use ml_io::{Door, Sink, put_all};
 use ml_ratio::Steps;
+use ml_tile::Tiles;
 use ml_watch::{Crowd, Watcher};
 use std::alloc::Global;
 use std::sync::ledger::Ledger;
@@ -27,15 +28,17 @@ pub fn serve<K: Sink, D: Door, W: Watcher, L: Ledger>(
     out: &mut K,
     door: &mut D,
     crowd: &mut Crowd<W>,
+    tiles: &mut Tiles,
     steps: &mut Steps<L>,
     port: u16,
     count: u64,
 ) -> ServeEnd
     requires fresh { D.at_port door.old ≡ None }
     requires out { D.is_out door.old ≡ false }
+    requires texts { AreTexts editor.old.state tiles.old.tiles }
     ensures served { (visits : List (Visit D.In D.Out LinkAnswer))
         × Headline (IsVisit W.hearing D.In.left D.In.faults D.Out.written D.Out.faults) (λ s. s.crowd) W.hearing
-        (lent editor.old crowd.old steps.old) (lent editor.new crowd.new steps.new)
+        (lent editor.old crowd.old tiles.old steps.old) (lent editor.new crowd.new tiles.new steps.new)
         (D.coming door.old) (D.coming door.new) (D.served door.old) (D.served door.new) visits
         × IsEndOfServing count (length visits) (D.coming door.new) (K.written out.old) (K.written out.new) result }
     ensures out { D.is_out door.new ≡ false }
@@ -51,7 +54,7 @@ pub fn serve<K: Sink, D: Door, W: Watcher, L: Ledger>(
         Ok(()) => {}
         Err(_) => return ServeEnd::WriteFault,
     }
-    match serve_links(alloc, editor, door, crowd, steps, count) {
+    match serve_links(alloc, editor, door, crowd, tiles, steps, count) {
         Ok(number) => match put_served(out, number) {
             Ok(()) => ServeEnd::Done,
             Err(_) => ServeEnd::WriteFault,

@@ -2,7 +2,7 @@
 ghost use Rattle.std.specs.Prelude.{◌≡◌, ◌<◌, ◌≤◌, ◌⊎◌, ℕ, true, false, Ok, IfOk, OnErr};
 ghost use Rattle.ml_io.specs.Causes.{HasCause};
 ghost use Rattle.ml_io.specs.Takes.{HasRunOut};
-ghost use Rattle.ml_http.specs.Link.{lent};
+ghost use Rattle.ml_http.specs.Link.{AreTexts, lent};
 ghost use Rattle.ml_serve.specs.Session.{HasServed, links_in};
 ghost use Rattle.ml_serve.specs.Visit.{IsVisit};
 
@@ -10,12 +10,14 @@ use ml_editor::Editor;
 use ml_http::serve_link;
 use ml_io::{Door, Failed};
 use ml_ratio::Steps;
+use ml_tile::Tiles;
 use ml_watch::{Crowd, Watcher};
 use std::alloc::Global;
 use std::sync::ledger::Ledger;
 
 /// Serves connections one after another, until so many were served or the door gives none. Each finds
-/// the map as the one before left it, and is given back to the door.
+/// the map, and the tiles that are held of it, as the one before left them, and is given back to the
+/// door.
 ///
 /// # Errors
 /// `Failed` comes only where the door's count of faults rose in this call; the connections before
@@ -25,20 +27,23 @@ pub fn serve_links<D: Door, W: Watcher, L: Ledger>(
     editor: &mut Editor,
     door: &mut D,
     crowd: &mut Crowd<W>,
+    tiles: &mut Tiles,
     steps: &mut Steps<L>,
     count: u64,
 ) -> Result<u64, Failed>
     requires listens { D.listens door.old ≡ true }
     requires out { D.is_out door.old ≡ false }
+    requires texts { AreTexts editor.old.state tiles.old.tiles }
+    ensures texts { AreTexts editor.new.state tiles.new.tiles }
     ensures ok { IfOk result (λ k. (k ≤ count)
         × HasServed (IsVisit W.hearing D.In.left D.In.faults D.Out.written D.Out.faults) k
         (D.coming door.old) (D.coming door.new) (D.served door.old) (D.served door.new)
-        (lent editor.old crowd.old steps.old) (lent editor.new crowd.new steps.new)
+        (lent editor.old crowd.old tiles.old steps.old) (lent editor.new crowd.new tiles.new steps.new)
         × ((k ≡ count) ⊎ HasRunOut (D.coming door.new))) }
     ensures err { OnErr result ((k : ℕ) × (k < count)
         × HasServed (IsVisit W.hearing D.In.left D.In.faults D.Out.written D.Out.faults) k
         (D.coming door.old) (D.coming door.new) (D.served door.old) (D.served door.new)
-        (lent editor.old crowd.old steps.old) (lent editor.new crowd.new steps.new)) }
+        (lent editor.old crowd.old tiles.old steps.old) (lent editor.new crowd.new tiles.new steps.new)) }
     ensures listens { D.listens door.new ≡ true }
     ensures out { D.is_out door.new ≡ false }
     ensures port { D.at_port door.new ≡ D.at_port door.old }
@@ -46,7 +51,7 @@ pub fn serve_links<D: Door, W: Watcher, L: Ledger>(
 {
     let mut served = 0;
     'links: while served < count {
-        match serve_next(alloc, editor, door, crowd, steps) {
+        match serve_next(alloc, editor, door, crowd, tiles, steps) {
             Ok(true) => served += 1,
             Ok(false) => return Ok(served),
             Err(_) => return Err(Failed),
@@ -61,13 +66,16 @@ fn serve_next<D: Door, W: Watcher, L: Ledger>(
     editor: &mut Editor,
     door: &mut D,
     crowd: &mut Crowd<W>,
+    tiles: &mut Tiles,
     steps: &mut Steps<L>,
 ) -> Result<bool, Failed>
     requires listens { D.listens door.old ≡ true }
     requires out { D.is_out door.old ≡ false }
+    requires texts { AreTexts editor.old.state tiles.old.tiles }
+    ensures texts { AreTexts editor.new.state tiles.new.tiles }
     ensures served { HasServed (IsVisit W.hearing D.In.left D.In.faults D.Out.written D.Out.faults) (links_in result)
         (D.coming door.old) (D.coming door.new) (D.served door.old) (D.served door.new)
-        (lent editor.old crowd.old steps.old) (lent editor.new crowd.new steps.new) }
+        (lent editor.old crowd.old tiles.old steps.old) (lent editor.new crowd.new tiles.new steps.new) }
     ensures ended { result ≡ Ok false → HasRunOut (D.coming door.new) }
     ensures listens { D.listens door.new ≡ true }
     ensures out { D.is_out door.new ≡ false }
@@ -83,6 +91,7 @@ fn serve_next<D: Door, W: Watcher, L: Ledger>(
                 &mut link.source,
                 &mut link.sink,
                 crowd,
+                tiles,
                 steps,
             );
             door.done(link);

@@ -1,7 +1,7 @@
 use Rattle.std.proofs.Common.{ap, map, ◌∙◌}
 use Rattle.std.proofs.lemmas.Result.{IfOk-weaker}
 use Rattle.ml_http.specs.Routes.{pair_bytes, query_pairs}
-use Rattle.ml_http.proofs.StepLemmas.{read_follows, no_route_follows}
+use Rattle.ml_http.proofs.StepLemmas.{read_follows, tile_follows, no_route_follows}
 use Rattle.ml_http.proofs.answer.answer_request.Goals as goal
 
 pub returns-in_ok-pairs-in-Ok-Read-clause-ok : goal.returns-in_ok-pairs-in-Ok-Read-clause-ok
@@ -18,3 +18,11 @@ returns-in-Err-clause-ok g c =
     (λ bytes text. no_route_follows _ c.args.editor.now.state c.args.request.now _ c.in-Err.none c.request.inside.closes _ _ bytes.items c.hear_nothing.ensures
     c.in-Err.ensures (ap (λ r. r.closes) c.request.view_is) text)
     c.no_route_reply.ensures
+
+pub returns-in_ok-pairs-in-Ok-Tile-clause-ok : goal.returns-in_ok-pairs-in-Ok-Tile-clause-ok
+returns-in_ok-pairs-in-Ok-Tile-clause-ok g c =
+    let pairs = c.in_ok-pairs-in-Ok-Tile.ensures ∙ ap query_pairs c.query_asked-in-Ok-Tile.ensures in
+    IfOk-weaker c.tile_reply.result _ _
+    (λ bytes told. tile_follows _ c.args.editor.now.state c.args.request.now _ c.request.inside.closes (map pair_bytes c.deref-in-Ok-Tile.result.now) told.0 _ _ _ _ bytes.items c.hear_nothing.ensures
+    (rw c.in-Ok-Tile.field-0-is at c.in-Ok-Tile.ensures) (ap (λ r. r.closes) c.request.view_is) (ap (map pair_bytes) c.deref-in-Ok-Tile.ensures.value ∙ pairs) told.1 told.2)
+    c.tile_reply.ensures.ok

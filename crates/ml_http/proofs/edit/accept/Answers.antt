@@ -4,6 +4,7 @@ use Rattle.ml_store.specs.Rows.{labels_in}
 use Rattle.ml_editor.specs.Editing.{rows_after}
 use Rattle.ml_answer.specs.Edit.{edit_text}
 use Rattle.ml_http.specs.Replies.{json_reply}
+use Rattle.ml_http.specs.Step.{work_of}
 use Rattle.ml_http.proofs.edit.accept.Goals as goal
 
 pub returns-clause-ok : goal.returns-clause-ok
@@ -13,7 +14,7 @@ returns-clause-ok g c =
     let ready = c.args.ready in
     let of_state = c.requires.of_state in
     record {
-      answer = record { reply = c.in_ok-reply.reply.items; changes = ready.changes; cost = ready.evaluated };
+      answer = record { reply = c.in_ok-reply.reply.items; changes = ready.changes; cost = ready.evaluated; work = work_of ready.edit rows (rows_after ready.work rows) };
       carried = record {
         state = c.commit.ensures.step;
         before = rows;
@@ -29,8 +30,10 @@ returns-clause-ok g c =
             ∙ c.in_ok-text.ensures
             ∙ ap (λ changes. edit_text c.rev.result changes) c.changes.ensures
             ∙ ap (λ r. edit_text r ready.changes) (c.rev.ensures ∙ of_state.rev ∙ sym (ap (λ s. s.rev) c.commit.ensures.step)));
+        work = refl;
       };
       hears = c.commit.ensures.told;
+      done = c.forget_changes.ensures;
       costs = refl;
       is = refl;
     }

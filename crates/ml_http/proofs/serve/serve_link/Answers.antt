@@ -1,7 +1,7 @@
 use Rattle.std.proofs.Common.{arith, []}
 use Rattle.ml_http.proofs.TakesLemmas.{takes_nothing}
 use Rattle.ml_http.proofs.ConnectionLemmas.{served_after, served_starved}
-use Rattle.ml_http.proofs.LinkLemmas.{idles, link_served}
+use Rattle.ml_http.proofs.LinkLemmas.{idles, link_served, texts_stay, texts_served}
 use Rattle.ml_http.proofs.serve.serve_link.Goals as goal
 
 pub returns-in_default-clause-served : goal.returns-in_default-clause-served
@@ -13,6 +13,7 @@ requests-preserved g c =
     let turn = rw c.in-Open.is at c.serve_next.ensures.turn in
     record {
       some = omega (arith, c.in-Open.ensures.open);
+      texts = texts_stay c.held_tiles_stay_right.ensures _ _ _ _ _ turn.steps c.requests.invariant.texts;
       source_later = omega (arith, c.requests.invariant.source_later, c.serve_next.ensures.cause.source_later);
       sink_later = omega (arith, c.requests.invariant.sink_later, c.serve_next.ensures.cause.sink_later);
       whatever_follows = λ new source_after written_after end later.
@@ -23,3 +24,7 @@ requests-preserved g c =
 pub returns-in-Over-clause-served : goal.returns-in-Over-clause-served
 returns-in-Over-clause-served g c =
     link_served _ c.hear_nothing.ensures c.hear_twice.ensures _ _ _ _ _ _ c.in-Over.end (c.requests.invariant.whatever_follows _ _ _ c.in-Over.end (rw c.in-Over.is at c.serve_next.ensures.turn))
+
+pub returns-in-Over-clause-texts : goal.returns-in-Over-clause-texts
+returns-in-Over-clause-texts g c =
+    texts_served c.held_tiles_stay_right.ensures _ _ _ _ _ _ _ c.in-Over.end (c.requests.invariant.whatever_follows _ _ _ c.in-Over.end (rw c.in-Over.is at c.serve_next.ensures.turn)) c.requires.texts

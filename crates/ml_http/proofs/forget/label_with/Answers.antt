@@ -1,0 +1,13 @@
+use Rattle.std.proofs.Common.{List, Contains, sym, ap, ◌∙◌, subst}
+use Rattle.ml_cone.specs.declared.label.Label.{Label}
+use Rattle.ml_store.specs.Rows.{labels_in}
+use Rattle.ml_store.proofs.Lists.{contains_map}
+use Rattle.ml_http.proofs.forget.label_with.Goals as goal
+
+pub returns-in-Some : goal.returns-in-Some
+returns-in-Some c =
+    let there = c.in-Some.ensures in
+    let rows = c.args.editor.now.engine.rows in
+    let is = c.label_at.ensures there.0 there.1 there.3 in
+    let P : Label → Type 0 = λ l. Contains (labels_in rows) l in
+    (subst P (sym is) (contains_map (λ r. r.label) rows there.0 there.1), ap (λ (l : Label). l.order.id) is ∙ there.2)
