@@ -10,7 +10,7 @@ use ml_editor::{EditFault, Editor, Ready, Standing};
 use ml_geojson::read_collection;
 use ml_ratio::lines::parts_of;
 use ml_ratio::{Seq, Steps, Text};
-use ml_style::read_style;
+use ml_style::{Style, read_style};
 use ml_watch::{Crowd, MemWatcher};
 use std::alloc::Global;
 use std::marker::Brand;
@@ -97,7 +97,19 @@ style - 5 => 0 {"changes":[{"after":["0/1","1000/1"],"before":["0/1","1000/1"],"
 style 4 5 => 0 {"changes":[],"rev":5}
 style - version => - {"error":"Version"}
 style 0 version => - {"error":"RevMoved","rev":5}
-rev - - => {"features":3,"labels":3,"rev":5}"#;
+rev - - => {"features":3,"labels":3,"rev":5}
+last - - => {"features":0,"labels":0,"rev":9007199254740992}
+add - A 0 3 ab => - {"error":"RevEnd"}
+style - 5 => - {"error":"RevEnd"}
+del - A => - {"error":"Unknown","id":"A"}
+add 0 x => - {"error":"RevMoved","rev":9007199254740992}
+full - - => {"features":32768,"labels":0,"rev":0}
+add - A 0 3 ab => - {"error":"Full"}
+add - 5 0 3 ab => - {"error":"Duplicate","id":"5"}
+put - 5 0 3 ab => 1 {"changes":[{"after":["0/1","1000/1"],"before":null,"id":"5"}],"rev":1}
+del - 7 => 0 {"changes":[],"rev":2}
+add - A 0 2 ab => 1 {"changes":[{"after":["0/1","0/1"],"before":null,"id":"A"}],"rev":3}
+rev - - => {"features":32768,"labels":2,"rev":3}"#;
 
 /// A style with this margin, or the text itself.
 fn style_of(alloc: Global, words: &str) -> Result<String, Fail> {
@@ -122,11 +134,30 @@ fn body_of(alloc: Global, words: &str) -> Result<String, Fail> {
     }
 }
 
-/// A map without features.
-fn empty(alloc: Global) -> Result<Editor, Fail> {
+/// A map without features; at its last revision for the word `last`, and with as many features as a map
+/// may have, none of them with a label, for the word `full`.
+fn fresh(alloc: Global, word: &str) -> Result<Editor, Fail> {
     let style = style_of(alloc, "0")?;
     let style = read_style(alloc, style.as_bytes())?;
-    Ok(Editor::load(alloc, style, Seq::new(alloc))?)
+    match word {
+        "last" => Ok(Editor::load_at(alloc, style, Seq::new(alloc), 9007199254740992)?),
+        "full" => full(alloc, style),
+        _ => Ok(Editor::load(alloc, style, Seq::new(alloc))?),
+    }
+}
+
+/// A map of as many features as there may be, none of which has a label.
+fn full(alloc: Global, style: Style) -> Result<Editor, Fail> {
+    let mut text = String::from_str(alloc, r#"{"type":"FeatureCollection","features":["#)?;
+    for i in 0..32768 {
+        let comma = if i == 0 { "" } else { "," };
+        text.push_str(format!(in alloc;
+            r#"{comma}{{"type":"Feature","id":"{i}","geometry":null,"properties":null}}"#
+        )?.as_str())?;
+    }
+    text.push_str("]}")?;
+    let features = read_collection(alloc, text.as_bytes())?;
+    Ok(Editor::load(alloc, style, features)?)
 }
 
 /// The text of how many features and labels there are.
@@ -211,7 +242,10 @@ fn tried<L: Ledger>(
     steps: &mut Steps<L>,
 ) -> Result<String, Fail> {
     match prepared(alloc, editor, "add", None, words, steps)? {
-        Ok(_ready) => counted(alloc, editor),
+        Ok(ready) => match ready.edited_id() {
+            Some(_id) => counted(alloc, editor),
+            None => Err(Fail::from("an id")),
+        },
         Err(_fault) => Err(Fail::from("a ready edit")),
     }
 }
@@ -302,8 +336,8 @@ fn told<L: Ledger>(
     let (word, rest) = input.split_once(" ").ok_or("a word")?;
     let (rev, words) = rest.split_once(" ").ok_or("a revision")?;
     match word {
-        "new" => {
-            *editor = empty(alloc)?;
+        "new" | "last" | "full" => {
+            *editor = fresh(alloc, word)?;
             counted(alloc, editor)
         }
         "rev" => counted(alloc, editor),
@@ -326,7 +360,7 @@ fn first_wrong<L: Ledger>(alloc: Global, blank: Blank) -> Result<String, Fail>
     requires some { 0 < blank.parts }
 {
     let mut steps: Steps<L> = Steps::new(blank);
-    let mut editor = empty(alloc)?;
+    let mut editor = fresh(alloc, "new")?;
     let mut watchers = Vec::new(alloc);
     watchers.push(MemWatcher::new(alloc, 100, Vec::new(alloc))?)?;
     let mut crowd = Crowd::new(watchers);
@@ -337,7 +371,7 @@ fn first_wrong<L: Ledger>(alloc: Global, blank: Blank) -> Result<String, Fail>
             return Ok(format!(in alloc; "{line}: {text}")?);
         }
     }
-    if crowd.heard(0) != Some(29) {
+    if crowd.heard(0) != Some(31) {
         return Ok(String::from_str(alloc, "the watcher heard another number of changes")?);
     }
     Ok(String::new(alloc))

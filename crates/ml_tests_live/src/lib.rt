@@ -5,7 +5,7 @@
 //!
 //! - `cases`: reads the parts of a case, and tells changes and slots as texts;
 //! - `engine`: labels that come and go, edit by edit; `editor`: the same of features, and what is asked
-//!   of a map between edits; `tiles`: tiles that are held.
+//!   of a map between edits; `made_map`: generated maps; `follow`: states that are offered to a follower; `tiles`: tiles that are held.
 #![tactic(auto)]
 
 #[cfg(test)]
@@ -14,5 +14,9 @@ mod cases;
 mod editor;
 #[cfg(test)]
 mod engine;
+#[cfg(test)]
+mod follow;
+#[cfg(test)]
+mod made_map;
 #[cfg(test)]
 mod tiles;

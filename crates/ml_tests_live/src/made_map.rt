@@ -1,0 +1,130 @@
+//! Generated maps: where groups lie, and what the edits of a map come to.
+use crate::cases::case;
+use ml_gen::group::groups_of;
+use ml_gen::{make_totals, totals_line};
+use ml_ratio::lines::parts_of;
+use ml_style::read_style;
+use std::alloc::Global;
+use std::test::Fail;
+
+/// A style of towns, rivers and areas, each letter ten pixels wide.
+const STYLE: &str = r#"version = 1
+name = "name"
+rank = "pop"
+
+[fonts.sans]
+units = 1000
+default = 500
+advances = { "i" = 250, "\u0301" = 0 }
+
+[[class]]
+geometry = "point"
+key = "place"
+value = "city"
+font = "sans"
+size = 20
+priority = 1
+min = "0"
+max = "1000"
+
+[[class]]
+geometry = "point"
+font = "sans"
+size = 20
+priority = 2
+min = "0"
+max = "1000"
+
+[[class]]
+geometry = "line"
+font = "sans"
+size = 20
+priority = 3
+ref = 1000
+min = "0"
+max = "2000"
+
+[[class]]
+geometry = "area"
+font = "sans"
+size = 20
+priority = 4
+min = "0"
+max = "100000"
+"#;
+
+/// So many groups and a seed, and the line of totals. Each removal leaves one town of the group shown
+/// and each addition two; either changes three labels; a removal evaluates two, an addition three.
+const LINES: &str = "\
+20 7 => groups 20 features 100 labels 100 edits 40 shown 60 changes 120 evaluated 100 rev 40
+1 0 => groups 1 features 5 labels 5 edits 2 shown 3 changes 6 evaluated 5 rev 2
+3 4294967295 => groups 3 features 15 labels 15 edits 6 shown 9 changes 18 evaluated 15 rev 6
+83 82 => groups 83 features 415 labels 415 edits 166 shown 249 changes 498 evaluated 415 rev 166";
+
+/// A seed and the number of a group, and its place.
+const PLACES: &str = "\
+0 0 => -399996386 -399936593
+7 0 => -399969444 -399988790
+7 1 => -389973537 -399982095
+7 79 => 390075468 -399920169
+7 80 => -399936335 -389965766
+7 161 => -389998279 -379974895
+4294967295 0 => -399996482 -399962846
+4294967295 5999 => 390073103 340006319";
+
+/// The whole numbers that two words write.
+fn two(alloc: Global, words: &str) -> Result<(u32, u32), Fail> {
+    let parts = parts_of(alloc, words, ' ')?;
+    match parts.as_slice() {
+        [one, other] => {
+            let one = one.parse::<u32>().ok().ok_or("a number")?;
+            let other = other.parse::<u32>().ok().ok_or("a number")?;
+            Ok((one, other))
+        }
+        _ => Err(Fail::from("two numbers")),
+    }
+}
+
+/// The line of totals of a map of so many groups.
+fn line_of(alloc: Global, groups: u32, seed: u32) -> Result<String, Fail> {
+    if groups < 1 || groups > 6000 {
+        return Err(Fail::from("so many groups"));
+    }
+    let style = read_style(alloc, STYLE.as_bytes())?;
+    let totals = make_totals(alloc, style, groups, seed)?;
+    let line = totals_line(alloc, &totals)?;
+    Ok(String::from_utf8(line.into_vec()).ok().ok_or("a text")?)
+}
+
+/// The place of a group.
+fn place_of(alloc: Global, seed: u32, number: u32) -> Result<String, Fail> {
+    if number >= 6000 {
+        return Err(Fail::from("a group"));
+    }
+    let groups = groups_of(alloc, number + 1, seed)?;
+    let group = groups.get(number as usize).ok_or("a group")?;
+    let (x, y) = (group.x, group.y);
+    Ok(format!(in alloc; "{x} {y}")?)
+}
+
+#[test]
+fn edits_come_to_totals(rt: HostRuntime) -> Result<(), Fail> {
+    for line in LINES.lines() {
+        let (input, want) = case(line)?;
+        let (groups, seed) = two(rt.alloc(), input)?;
+        let text = line_of(rt.alloc(), groups, seed)?;
+        assert_eq!(rt; text.as_str().trim_end(), want, "{line}");
+    }
+    Ok(())
+}
+
+#[test]
+fn groups_have_places(rt: HostRuntime) -> Result<(), Fail> {
+    for line in PLACES.lines() {
+        let (input, want) = case(line)?;
+        let (seed, number) = two(rt.alloc(), input)?;
+        let text = place_of(rt.alloc(), seed, number)?;
+        assert_eq!(rt; text.as_str(), want, "{line}");
+    }
+    Ok(())
+}
