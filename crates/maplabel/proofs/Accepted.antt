@@ -68,7 +68,7 @@ fault_of bytes (label ∷ labels) Full line table h is = no_fault bytes label la
 fault_of bytes (label ∷ labels) Memory line table h is = absurd is
 
 -- a name has one file
-same_file : (files : FileSet) (name one two : List ℕ) → files name ≡ Some one → files name ≡ Some two → one ≡ two
+pub same_file : (files : FileSet) (name one two : List ℕ) → files name ≡ Some one → files name ≡ Some two → one ≡ two
 same_file files name one two e f = (let both : Some one ≡ Some two = sym e ∙ f in cc)
 
 pub table_or_not : (files : FileSet) (name : List ℕ) (labels : List Label) (line : List ℕ) → HasTable (Some files) name labels → ¬ (IsNoTable (Some files) name line)

@@ -7,7 +7,7 @@ use Rattle.maplabel.specs.Inputs.{most_bytes}
 use Rattle.maplabel.specs.Outcome.{IsDueFile, IsStyleRefused, IsInputRefused, IsOutcome}
 use Rattle.maplabel.specs.Ready.{AreReady}
 use Rattle.maplabel.specs.declared.status.Status.{Status}
-use Rattle.maplabel.specs.declared.status.Status.TheVariants.{Done, NotBest, Usage, StyleRefused, InputRefused, FileFault, ReadFault, WriteFault, DoorFault, Memory, TooLong}
+use Rattle.maplabel.specs.declared.status.Status.TheVariants.{Done, NotBest, Usage, StyleRefused, InputRefused, FileFault, ReadFault, WriteFault, DoorFault, Memory, TooLong, NotAdopted}
 use Rattle.maplabel.proofs.Accepted.{KnownFiles, table_or_not, slots_or_not, style_or_not, map_or_not, not_too_long}
 
 module _ (known : KnownFiles) (files : FileSet) (words : List (List ℕ)) where
@@ -55,3 +55,4 @@ module _ (known : KnownFiles) (files : FileSet) (words : List (List ℕ)) where
     ends DoorFault text due = absurd due
     ends Memory text due = inr (inr refl)
     ends TooLong text due = absurd (let long = rw same at due.1 in not_long long.0 ready long.1 long.2)
+    ends NotAdopted text due = absurd due

@@ -9,3 +9,7 @@ pub mod ZoomLemmas
 pub mod GapLemmas
 pub mod Stopping
 pub mod ServesWell
+pub mod Makings
+pub mod FollowLemmas
+pub mod FollowEnds
+pub mod FollowsWell

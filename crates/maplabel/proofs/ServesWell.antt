@@ -16,7 +16,7 @@ use Rattle.maplabel.specs.declared.stop.Stop.TheVariants as stop
 use Rattle.maplabel.proofs.Accepted.{KnownFiles, style_or_not, map_or_not, not_too_long}
 
 -- want of memory prints nothing, and the run ends with it
-ended : (written written_after : Option (List ℕ)) (writes writes_after : ℕ) → ¬ (Rose writes writes_after)
+pub ended : (written written_after : Option (List ℕ)) (writes writes_after : ℕ) → ¬ (Rose writes writes_after)
     → (status : Status) (s : Stop) (due : Status) (text : List ℕ) → s ≡ stop.Memory → IsStopLine s due text → IsPrinted text due written written_after writes writes_after status → status ≡ statuses.Memory
 ended written written_after writes writes_after dry status s due text is line (inl whole) = whole.0 ∙ (rw is at line).0
 ended written written_after writes writes_after dry status s due text is line (inr part) = absurd (dry part.2)

@@ -1,6 +1,6 @@
 use Rattle.std.specs.Prelude.{ℕ}
 use Rattle.maplabel.specs.declared.status.Status.{Status}
-use Rattle.maplabel.specs.declared.status.Status.TheVariants.{Done, NotBest, Usage, StyleRefused, InputRefused, FileFault, ReadFault, WriteFault, DoorFault, Memory, TooLong}
+use Rattle.maplabel.specs.declared.status.Status.TheVariants.{Done, NotBest, Usage, StyleRefused, InputRefused, FileFault, ReadFault, WriteFault, DoorFault, Memory, TooLong, NotAdopted}
 
 -- the exit code of a status
 abbrev pub code_of : Status → ℕ
@@ -15,3 +15,4 @@ code_of WriteFault = 7
 code_of DoorFault = 8
 code_of Memory = 9
 code_of TooLong = 10
+code_of NotAdopted = 11

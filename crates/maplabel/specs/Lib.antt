@@ -1,10 +1,14 @@
 pub mod Answers
 pub mod Codes
+pub mod FollowLines
+pub mod Following
+pub mod FollowsWell
 pub mod Forms
 pub mod GapLines
 pub mod Inputs
 pub mod Live
 pub mod MapInputs
+pub mod Offering
 pub mod Outcome
 pub mod ServesWell
 pub mod Serving
@@ -13,3 +17,4 @@ pub mod Ready
 pub mod VerdictText
 pub mod ViewLine
 pub mod Zoom
+pub mod Making

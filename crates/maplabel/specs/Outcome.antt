@@ -12,7 +12,7 @@ use Rattle.maplabel.specs.declared.command.MapTask.{MapTask}
 use Rattle.maplabel.specs.MapInputs.{HasStyle, IsNoStyle, IsStyleStop, IsNoMap, IsMapStop}
 use Rattle.maplabel.specs.Inputs.{most_bytes, HasTable, IsNoTable, IsTableStop, AreNoSlots, IsSlotsStop}
 use Rattle.maplabel.specs.declared.status.Status.{Status}
-use Rattle.maplabel.specs.declared.status.Status.TheVariants.{Done, NotBest, Usage, StyleRefused, InputRefused, FileFault, ReadFault, WriteFault, DoorFault, Memory, TooLong}
+use Rattle.maplabel.specs.declared.status.Status.TheVariants.{Done, NotBest, Usage, StyleRefused, InputRefused, FileFault, ReadFault, WriteFault, DoorFault, Memory, TooLong, NotAdopted}
 use Rattle.maplabel.specs.declared.stop.Stop.{Stop}
 use Rattle.maplabel.specs.declared.stop.Stop.TheVariants as stop
 
@@ -91,6 +91,7 @@ IsOutcome seen words ReadFault text = ⊥
 IsOutcome seen words WriteFault text = ⊥
 IsOutcome seen words DoorFault text = ⊥
 IsOutcome seen words Memory text = KeptName seen × IsStop seen words stop.Memory × (text ≡ [])
+IsOutcome seen words NotAdopted text = ⊥
 
 -- why slots were not judged: the table was not read, or it was and the slots were not
 abbrev pub IsCheckStop : Seen → List ℕ → List ℕ → Stop → Type 0

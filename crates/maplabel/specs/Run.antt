@@ -7,8 +7,11 @@ use Rattle.ml_editor.specs.State.{State}
 use Rattle.ml_http.specs.Link.{LinkState}
 use Rattle.ml_http.specs.Step.{LinkAnswer}
 use Rattle.ml_serve.specs.Session.{Visit}
+use Rattle.maplabel.specs.Following.{AskFollow, IsFollow, IsFollowEnd}
 use Rattle.maplabel.specs.Live.{AskLive, IsLive}
+use Rattle.maplabel.specs.Making.{AskMaking, IsMaking, IsMakingEnd}
 use Rattle.maplabel.specs.Outcome.{IsOutcome, IsEnd}
+use Rattle.maplabel.specs.declared.making.Making.{Making}
 use Rattle.maplabel.specs.Serving.{IsFirstState, IsNotLoaded, IsPiped, IsServed}
 use Rattle.maplabel.specs.declared.live.LiveTask.{LiveTask}
 use Rattle.maplabel.specs.declared.live.LiveTask.TheVariants.{Pipe, Serve}
@@ -60,8 +63,20 @@ IsLiveEnd m seen style map task old new out status =
     (IsNotLoaded seen style map out.written out.written_after out.writes out.writes_after status × (new ≡ old))
     ⊎ ((first : State) × IsFirstState seen.told style map first × KeptName seen × IsTaskDone m task first old new out status)
 
--- the words ask for connections to be served, and that ended so; or they do not, and what is due was printed
+-- the words ask for a generated map, and what is due of it was printed; or they do not, and what is due of files was printed
+abbrev pub IsOther : Seen → List (List ℕ) → Output → Status → Type 0
+IsOther seen words out status =
+    ((making : Making) × AskMaking words making × KeptName seen × IsMakingEnd making out.written out.written_after out.writes out.writes_after status)
+    ⊎ ((¬ (IsMaking words)) × IsEnd (IsOutcome seen words) out.written out.written_after out.writes out.writes_after status)
+
+-- the words ask for states to be followed, and that ended so; or they do not, what is due was printed, and the watchers stay as they were
+abbrev pub IsUnserved : {W : Type 0} → (W → Hearing) → Seen → List (List ℕ) → List W → List W → Output → Status → Type 0
+IsUnserved hearing seen words crowd crowd_after out status =
+    ((name : List ℕ) × AskFollow words name × IsFollowEnd hearing seen name crowd crowd_after out.written out.written_after out.writes out.writes_after status)
+    ⊎ ((¬ (IsFollow words)) × IsOther seen words out status × (crowd_after ≡ crowd))
+
+-- the words ask for connections to be served, and that ended so; or they do not, and what else they ask for was done, while input and door stay as they were
 abbrev pub IsRun : {S D I O W : Type 0} → Meanings S D I O W → Seen → List (List ℕ) → Lent S D W → Lent S D W → Output → Status → Type 0
 IsRun m seen words old new out status =
     ((style : List ℕ) × (map : List ℕ) × (task : LiveTask) × AskLive words style map task × IsLiveEnd m seen style map task old new out status)
-    ⊎ ((¬ (IsLive words)) × IsEnd (IsOutcome seen words) out.written out.written_after out.writes out.writes_after status × (new ≡ old))
+    ⊎ ((¬ (IsLive words)) × IsUnserved m.hearing seen words old.crowd new.crowd out status × (new.input ≡ old.input) × (new.door ≡ old.door))

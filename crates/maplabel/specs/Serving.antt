@@ -6,6 +6,7 @@ use Rattle.ml_io.specs.declared.link.Link.{Link}
 use Rattle.ml_watch.specs.Hearing.{Hearing}
 use Rattle.ml_style.specs.declared.style.Style.{Style}
 use Rattle.ml_editor.specs.State.{State, first_state}
+use Rattle.ml_tile.specs.Cache.{Cache}
 use Rattle.ml_http.specs.Connection.{HasEndCause}
 use Rattle.ml_http.specs.Link.{LinkState, IsLinkServed}
 use Rattle.ml_http.specs.Step.{LinkAnswer}
@@ -32,9 +33,13 @@ pub record IsFirstState (told : Option FileSet) (style map : List ℕ) (state : 
   pub has_map : HasMap told map features
   pub is : state ≡ first_state classes features
 
--- what a run is lent to before its first request: the map, the watchers, and no step spent
+-- no tile is held, and none was asked for
+abbrev pub no_tiles : Cache
+no_tiles = record { tiles = []; hits = 0; skips = 0 }
+
+-- what a run is lent to before its first request: the map, the watchers, no tile held, and no step spent
 abbrev pub at_first : {W : Type 0} → State → List W → LinkState W
-at_first state crowd = record { map_state = state; crowd = crowd; spent = 0 }
+at_first state crowd = record { map_state = state; crowd = crowd; tiles = no_tiles; spent = 0 }
 
 -- the status of a run by how its one connection ended
 abbrev pub status_of_link : ConnEnd → Status

@@ -1,12 +1,11 @@
 -- The line of a verdict.
 use Rattle.std.specs.Prelude.{ℕ, ◌<◌, ◌++◌, List, [], length, slice_index_or, codes}
 use Rattle.ml_ratio.specs.Ratio.{ratio_text}
-use Rattle.ml_cone.specs.declared.label.Label.{Label}
 use Rattle.ml_cert.specs.declared.verdict.Verdict.{Verdict}
 use Rattle.ml_cert.specs.declared.verdict.Verdict.TheVariants.{Best, BadEnd, Clash, Uncovered, BadBlocker}
 
--- the verdict's places are places of labels
-abbrev pub AreItsPlaces : List Label → Verdict → Type 0
+-- the verdict's places are places of these
+abbrev pub AreItsPlaces : {A : Type 0} → List A → Verdict → Type 0
 AreItsPlaces labels Best = Unit {0}
 AreItsPlaces labels (BadEnd i) = i < length labels
 AreItsPlaces labels (Clash i j limit) = (i < length labels) × (j < length labels)

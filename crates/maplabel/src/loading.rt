@@ -3,15 +3,17 @@ ghost use Rattle.std.specs.Prelude.{◌≡◌, ◌≤◌, IfOk, IfErr};
 ghost use Rattle.ml_io.specs.Files.{seen};
 ghost use Rattle.maplabel.specs.Inputs.{Keeps};
 ghost use Rattle.maplabel.specs.Outcome.{IsMapAnswerStop};
-ghost use Rattle.maplabel.specs.Serving.{IsFirstState};
+ghost use Rattle.maplabel.specs.Serving.{IsFirstState, no_tiles};
 
 use crate::map_inputs::{load_map, load_style};
 use crate::stop::Stop;
 use ml_editor::{Editor, LoadRefused};
 use ml_io::Files;
-use std::alloc::Global;
+use ml_tile::Tiles;
+use std::alloc::{AllocError, Global};
 
-/// The map of this name under the style of that name, at its first revision.
+/// The map of this name under the style of that name, at its first revision; and room for tiles of it,
+/// of which none is held yet.
 ///
 /// # Errors
 /// As [`load_style`] and then [`load_map`]; want of memory.
@@ -20,8 +22,8 @@ pub fn load_editor<F: Files>(
     files: &mut F,
     style: &str,
     map: &str,
-) -> Result<Editor, Stop>
-    ensures ok { IfOk result (λ editor. IsFirstState (F.told files.old) style.now map.now editor.state) }
+) -> Result<(Editor, Tiles), Stop>
+    ensures ok { IfOk result (λ p. IsFirstState (F.told files.old) style.now map.now p.0.state × (p.1 ≡ no_tiles)) }
     ensures stop { IfErr result (IsMapAnswerStop (seen F.told F.faults F.failed_name files.old files.new) style.now map.now) }
     ensures same { F.told files.new ≡ F.told files.old }
     ensures kept { Keeps (seen F.told F.faults F.failed_name files.old files.new) result }
@@ -30,7 +32,10 @@ pub fn load_editor<F: Files>(
     let classes = load_style(alloc, files, style)?;
     let features = load_map(alloc, files, map)?;
     match Editor::load(alloc, classes, features) {
-        Ok(editor) => Ok(editor),
+        Ok(editor) => match Tiles::new(alloc) {
+            Ok(tiles) => Ok((editor, tiles)),
+            Err(AllocError) => Err(Stop::Memory),
+        },
         // the map was read, so it has no more features than there may be
         Err(LoadRefused::Full) => unreachable!(),
         Err(LoadRefused::Memory) => Err(Stop::Memory),

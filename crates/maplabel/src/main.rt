@@ -3,6 +3,9 @@
 //! - [`run`]: the top call ([`run`](run::run)); [`status`]: how it ends;
 //! - [`live`]: the words that ask for connections to be served; [`loading`]: the map that they are
 //!   served over; [`serving`]: one connection, or those of a door;
+//! - [`making`]: maps that are generated, edited and counted;
+//! - [`following`]: states of a map that are followed; [`follow_lines`]: the lines that say what became
+//!   of them;
 //! - [`batch`]: the commands that print one text; [`command`]: what their words ask for; [`answer`]:
 //!   what they come to; [`printing`]: what is printed;
 //! - [`table`], [`map`], [`check`]: what is asked of a table and of a map, and the verdict on slots;
@@ -11,7 +14,7 @@
 //! - [`inputs`], [`map_inputs`]: the files that a command needs; [`stop`]: what ends a command early;
 //! - [`view_line`]: the line of a view; [`verdict_text`]: the line of a verdict; [`zoom_text`]: the
 //!   lines of a zoom timeline;
-//! - [`laws`]: a law of what a run comes to.
+//! - [`laws`]: laws of what a run comes to.
 #![tactic(auto)]
 
 pub mod answer;
@@ -19,11 +22,14 @@ pub mod batch;
 pub mod check;
 pub mod choice;
 pub mod command;
+pub mod follow_lines;
+pub mod following;
 pub mod gap_lines;
 pub mod inputs;
 pub mod laws;
 pub mod live;
 pub mod loading;
+pub mod making;
 pub mod map;
 pub mod map_inputs;
 pub mod printing;
@@ -55,18 +61,24 @@ fn words_of(rt: &HostRuntime) -> io::Result<Vec<String>> {
     Ok(words)
 }
 
-// Who is told the changes of edits: standard error, a line for each, where connections are served.
+// Who is told what changes: standard error, a line for each change, where connections are served or
+// states followed.
 fn crowd_of(
     rt: &HostRuntime,
     words: &[String],
 ) -> Result<Crowd<LineWatcher<RealErrors<Stderr>>>, AllocError> {
     let mut watchers = Vec::new(rt.alloc());
     if let Some(first) = words.first() {
-        if first.as_str() == "serve" || first.as_str() == "pipe" {
+        if tells_changes(first.as_str()) {
             watchers.push(LineWatcher::new(RealErrors::new(rt.stderr())))?;
         }
     }
     Ok(Crowd::new(watchers))
+}
+
+// Whether the command of this name tells watchers what changes.
+fn tells_changes(name: &str) -> bool {
+    name == "serve" || name == "pipe" || name == "follow"
 }
 
 fn main(rt: HostRuntime) -> ExitCode {
@@ -99,6 +111,8 @@ fn main(rt: HostRuntime) -> ExitCode {
     ExitCode::from(status.code())
 }
 
+#[cfg(test)]
+mod follow_tests;
 #[cfg(test)]
 mod map_tests;
 #[cfg(test)]

@@ -60,8 +60,8 @@ pub fn load_map<F: Files>(alloc: Global, files: &mut F, name: &str) -> Result<Se
     }
 }
 
-// Why a style is refused, as a line.
-fn style_refusal(alloc: Global, fault: &StyleFault) -> Stop
+/// Why a style is refused, as a line.
+pub fn style_refusal(alloc: Global, fault: &StyleFault) -> Stop
     ensures { IsStyleRefusal fault.now result }
 {
     match fault {

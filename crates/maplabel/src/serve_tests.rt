@@ -41,7 +41,15 @@ const LATER: &str =
     r#"HTTP/1.1 200 OK~Content-Type: application/json~Content-Length: 71~~{"changes":[{"after":["0/1","1000/1"],"before":null,"id":"A"}],"rev":3}HTTP/1.1 200 OK~Content-Type: application/json~Content-Length: 103~~{"labels":[{"at":[0,0],"boxes":[[-10,-10,10,10]],"id":"A","text":"ab","until":"1000/1"}],"scale":"1/1"}HTTP/1.1 200 OK~Content-Type: application/json~Content-Length: 71~~{"changes":[{"after":null,"before":["0/1","1000/1"],"id":"A"}],"rev":4}HTTP/1.1 200 OK~Content-Type: application/json~Content-Length: 27~~{"labels":[],"scale":"1/1"}"#;
 
 /// Words, and the exit code with the line that is printed. `s` is a style and `e` a map.
-const NOT_SERVED: &str = "\
+const PRINTED_ALONE: &str = "\
+gen 20 7 => 0 groups 20 features 100 labels 100 edits 40 shown 60 changes 120 evaluated 100 rev 40
+gen 1 0 => 0 groups 1 features 5 labels 5 edits 2 shown 3 changes 6 evaluated 5 rev 2
+gen 2000 7 => 0 groups 2000 features 10000 labels 10000 edits 4000 shown 6000 changes 12000 evaluated 10000 rev 4000
+gen 6001 1 => 2 usage: maplabel show, slots, check, view, pipe, serve or gen
+gen 0 1 => 2 usage: maplabel show, slots, check, view, pipe, serve or gen
+gen 1 4294967296 => 2 usage: maplabel show, slots, check, view, pipe, serve or gen
+gen 1 => 2 usage: maplabel show, slots, check, view, pipe, serve or gen
+gen 1 2 3 => 2 usage: maplabel show, slots, check, view, pipe, serve or gen
 pipe none e => 5 file fault
 pipe s none => 5 file fault
 serve none e 80 1 => 5 file fault
@@ -71,8 +79,8 @@ fn run_told(alloc: Global, words: &str) -> Result<String, Fail> {
 }
 
 #[test]
-fn what_is_not_served_is_told(rt: HostRuntime) -> Result<(), Fail> {
-    for line in NOT_SERVED.lines() {
+fn what_is_printed_alone_is_told(rt: HostRuntime) -> Result<(), Fail> {
+    for line in PRINTED_ALONE.lines() {
         let (words, want) = line.split_once(" => ").ok_or("a case")?;
         let told = run_told(rt.alloc(), words)?;
         assert_eq!(rt; told.trim_end(), want, "{line}");

@@ -1,7 +1,7 @@
 //! Connections that are served over a map.
 ghost use Rattle.std.specs.Prelude.{◌≡◌, ◌<◌, ◌≤◌, None, Some, false};
 ghost use Rattle.ml_serve.specs.Visit.{IsVisit};
-ghost use Rattle.maplabel.specs.Serving.{IsPiped, IsServed, status_of_link, status_of_serving};
+ghost use Rattle.maplabel.specs.Serving.{IsPiped, IsServed, no_tiles, status_of_link, status_of_serving};
 
 use crate::status::Status;
 use ml_editor::Editor;
@@ -9,6 +9,7 @@ use ml_http::{ConnEnd, serve_link};
 use ml_io::{Door, Sink, Source};
 use ml_ratio::Steps;
 use ml_serve::{ServeEnd, serve};
+use ml_tile::Tiles;
 use ml_watch::{Crowd, Watcher};
 use std::alloc::Global;
 use std::marker::Brand;
@@ -18,21 +19,24 @@ use std::sync::ledger::{Blank, Ledger};
 pub fn pipe<S: Source, K: Sink, W: Watcher>(
     alloc: Global,
     editor: Editor,
+    tiles: Tiles,
     input: &mut S,
     out: &mut K,
     crowd: &mut Crowd<W>,
 ) -> Status
+    requires none { tiles ≡ no_tiles }
     ensures served { IsPiped W.hearing editor.state crowd.old crowd.new (S.left input.old) (S.left input.new) (K.written out.old) (K.written out.new)
         (S.faults input.old) (S.faults input.new) (K.faults out.old) (K.faults out.new) result }
     ensures later { (K.faults out.old ≤ K.faults out.new) × (S.faults input.old ≤ S.faults input.new) }
 {
-    pipe_counted::<Brand, S, K, W>(alloc, editor, input, out, crowd, Blank::new(1))
+    pipe_counted::<Brand, S, K, W>(alloc, editor, tiles, input, out, crowd, Blank::new(1))
 }
 
 // The same, with a counter of its own.
 fn pipe_counted<L: Ledger, S: Source, K: Sink, W: Watcher>(
     alloc: Global,
     editor: Editor,
+    tiles: Tiles,
     input: &mut S,
     out: &mut K,
     crowd: &mut Crowd<W>,
@@ -41,13 +45,23 @@ fn pipe_counted<L: Ledger, S: Source, K: Sink, W: Watcher>(
     requires name { blank.name ≡ L.name }
     requires parts { blank.parts ≡ L.parts }
     requires some { 0 < blank.parts }
+    requires none { tiles ≡ no_tiles }
     ensures served { IsPiped W.hearing editor.state crowd.old crowd.new (S.left input.old) (S.left input.new) (K.written out.old) (K.written out.new)
         (S.faults input.old) (S.faults input.new) (K.faults out.old) (K.faults out.new) result }
     ensures later { (K.faults out.old ≤ K.faults out.new) × (S.faults input.old ≤ S.faults input.new) }
 {
     let mut editor = editor;
+    let mut tiles = tiles;
     let mut steps: Steps<L> = Steps::new(blank);
-    let end = serve_link(alloc, &mut editor, input, out, crowd, &mut steps);
+    let end = serve_link(
+        alloc,
+        &mut editor,
+        input,
+        out,
+        crowd,
+        &mut tiles,
+        &mut steps,
+    );
     status_of_link(end)
 }
 
@@ -55,6 +69,7 @@ fn pipe_counted<L: Ledger, S: Source, K: Sink, W: Watcher>(
 pub fn serve_at<K: Sink, D: Door, W: Watcher>(
     alloc: Global,
     editor: Editor,
+    tiles: Tiles,
     out: &mut K,
     door: &mut D,
     crowd: &mut Crowd<W>,
@@ -63,6 +78,7 @@ pub fn serve_at<K: Sink, D: Door, W: Watcher>(
 ) -> Status
     requires fresh { D.at_port door.old ≡ None }
     requires out { D.is_out door.old ≡ false }
+    requires none { tiles ≡ no_tiles }
     ensures served { IsServed (IsVisit W.hearing D.In.left D.In.faults D.Out.written D.Out.faults) W.hearing editor.state crowd.old crowd.new
         (D.coming door.old) (D.coming door.new) (D.served door.old) (D.served door.new) count (D.listens door.new) (K.written out.old) (K.written out.new)
         (D.faults door.old) (D.faults door.new) (K.faults out.old) (K.faults out.new) result }
@@ -70,13 +86,24 @@ pub fn serve_at<K: Sink, D: Door, W: Watcher>(
     ensures port { D.at_port door.new ≡ Some port }
     ensures later { (K.faults out.old ≤ K.faults out.new) × (D.faults door.old ≤ D.faults door.new) }
 {
-    serve_counted::<Brand, K, D, W>(alloc, editor, out, door, crowd, port, count, Blank::new(1))
+    serve_counted::<Brand, K, D, W>(
+        alloc,
+        editor,
+        tiles,
+        out,
+        door,
+        crowd,
+        port,
+        count,
+        Blank::new(1),
+    )
 }
 
 // The same, with a counter of its own.
 fn serve_counted<L: Ledger, K: Sink, D: Door, W: Watcher>(
     alloc: Global,
     editor: Editor,
+    tiles: Tiles,
     out: &mut K,
     door: &mut D,
     crowd: &mut Crowd<W>,
@@ -89,6 +116,7 @@ fn serve_counted<L: Ledger, K: Sink, D: Door, W: Watcher>(
     requires name { blank.name ≡ L.name }
     requires parts { blank.parts ≡ L.parts }
     requires some { 0 < blank.parts }
+    requires none { tiles ≡ no_tiles }
     ensures served { IsServed (IsVisit W.hearing D.In.left D.In.faults D.Out.written D.Out.faults) W.hearing editor.state crowd.old crowd.new
         (D.coming door.old) (D.coming door.new) (D.served door.old) (D.served door.new) count (D.listens door.new) (K.written out.old) (K.written out.new)
         (D.faults door.old) (D.faults door.new) (K.faults out.old) (K.faults out.new) result }
@@ -97,6 +125,7 @@ fn serve_counted<L: Ledger, K: Sink, D: Door, W: Watcher>(
     ensures later { (K.faults out.old ≤ K.faults out.new) × (D.faults door.old ≤ D.faults door.new) }
 {
     let mut editor = editor;
+    let mut tiles = tiles;
     let mut steps: Steps<L> = Steps::new(blank);
     let end = serve(
         alloc,
@@ -104,6 +133,7 @@ fn serve_counted<L: Ledger, K: Sink, D: Door, W: Watcher>(
         out,
         door,
         crowd,
+        &mut tiles,
         &mut steps,
         port,
         count,

@@ -25,6 +25,8 @@ pub enum Status {
     Memory,
     /// A file is longer than 67,108,864 bytes.
     TooLong,
+    /// All states were offered, and not all of them adopted.
+    NotAdopted,
 }
 
 impl Status {
@@ -47,6 +49,7 @@ impl Status {
             Status::DoorFault => 8,
             Status::Memory => 9,
             Status::TooLong => 10,
+            Status::NotAdopted => 11,
         }
     }
 }

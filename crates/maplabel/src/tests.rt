@@ -112,7 +112,7 @@ fn text_of(alloc: Global, written: &str) -> Result<String, Fail> {
 }
 
 /// What a run prints, with `¶` for each line feed, behind its exit code.
-fn told(alloc: Global, status: Status, out: &MemSink) -> Result<String, Fail> {
+pub(crate) fn told(alloc: Global, status: Status, out: &MemSink) -> Result<String, Fail> {
     let printed = std::str::from_utf8(out.bytes()).ok().ok_or("a text")?;
     let printed = printed.replace(alloc, "\n", "¶")?;
     let code = status.code();
@@ -256,6 +256,7 @@ fn statuses_have_these_codes(rt: HostRuntime) {
         (Status::DoorFault, 8),
         (Status::Memory, 9),
         (Status::TooLong, 10),
+        (Status::NotAdopted, 11),
     ] {
         assert_eq!(rt; status.code(), code, "{status:?}");
     }

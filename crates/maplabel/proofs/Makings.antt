@@ -1,0 +1,16 @@
+-- Why there is no generated map.
+use Rattle.std.proofs.Common.{◌≡◌, List, ℕ, subst}
+use Rattle.ml_style.specs.Answer as style_answer
+use Rattle.ml_style.specs.declared.fault.StyleFault.{StyleFault}
+use Rattle.maplabel.specs.MapInputs.{IsStyleRefusal}
+use Rattle.maplabel.specs.Making.{IsMakingStop, sample_style}
+use Rattle.maplabel.specs.declared.stop.Stop.{Stop}
+use Rattle.maplabel.specs.declared.stop.Stop.TheVariants as stop
+
+pub sample_refused : (bytes : List ℕ) (fault : StyleFault) (s : Stop) → bytes ≡ sample_style → style_answer.IsRefusal bytes fault → IsStyleRefusal fault s → IsMakingStop s
+sample_refused bytes fault stop.Usage same refuses told = told
+sample_refused bytes fault (stop.StyleRefused line) same refuses told = (fault, subst (λ b. style_answer.IsRefusal b fault) same refuses, told)
+sample_refused bytes fault (stop.InputRefused line) same refuses told = told
+sample_refused bytes fault stop.FileFault same refuses told = told
+sample_refused bytes fault stop.TooLong same refuses told = told
+sample_refused bytes fault stop.Memory same refuses told = tt

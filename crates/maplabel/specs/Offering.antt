@@ -1,0 +1,73 @@
+-- What the steps of following come to.
+use Rattle.std.specs.Prelude.{◌≡◌, ℕ, Bool, List, ◌++◌, Option, Result, Ok, Err, MatchBool}
+use Rattle.ml_io.specs.Causes.{Rose, Appends, AppendsPart}
+use Rattle.ml_follow.specs.declared.state.State.{State}
+use Rattle.ml_http.specs.Connection.{IsCut}
+use Rattle.ml_watch.specs.Hearing.{Hearing, AllHear}
+use Rattle.ml_watch.specs.declared.change.Change.{Change}
+use Rattle.maplabel.specs.FollowLines.{held_line}
+use Rattle.maplabel.specs.Following.{Offered, IsOffer, Offers, lines_of, changes_of, joined, AllAdopted, SomeNotAdopted}
+use Rattle.maplabel.specs.declared.following.Answer.{Answer}
+use Rattle.maplabel.specs.declared.following.Halt.{Halt}
+use Rattle.maplabel.specs.declared.following.Halt.TheVariants.{Memory, WriteFault}
+use Rattle.maplabel.specs.declared.status.Status.{Status}
+use Rattle.maplabel.specs.declared.status.Status.TheVariants as status
+
+-- the status of a run that was halted
+abbrev pub halted : Halt → Status
+halted Memory = status.Memory
+halted WriteFault = status.WriteFault
+
+-- an answer with the changes that the watchers are told
+abbrev pub offered : Answer → List Change → Offered
+offered answer changes = record { line = answer.line.items; adopted = answer.adopted; changes = changes }
+
+-- the state was offered and answered so, and the watchers were told what changed by it
+abbrev pub IsHeardOffer : {W : Type 0} → (W → Hearing) → Option State → State → Offered → Option State → List W → List W → Type 0
+IsHeardOffer hearing held state answer held_after crowd crowd_after = IsOffer held state answer held_after × AllHear hearing answer.changes crowd crowd_after
+
+-- the same of an answer, whatever the changes are
+abbrev pub IsAnswered : {W : Type 0} → (W → Hearing) → Option State → State → Option State → List W → List W → Answer → Type 0
+IsAnswered hearing held state held_after crowd crowd_after answer =
+    (changes : List Change) × IsHeardOffer hearing held state (offered answer changes) held_after crowd crowd_after
+
+-- one state was offered, and its line printed, or a part of it; or memory was wanting, and all stays
+abbrev pub IsTurn : {W : Type 0} → (W → Hearing) → Option State → State → Option State → List W → List W → Option (List ℕ) → Option (List ℕ) → ℕ → ℕ → Result Bool Halt → Type 0
+IsTurn hearing held state held_after crowd crowd_after written written_after writes writes_after (Ok adopted) =
+    (answer : Offered) × IsHeardOffer hearing held state answer held_after crowd crowd_after
+    × Appends written written_after answer.line × (answer.adopted ≡ adopted)
+IsTurn hearing held state held_after crowd crowd_after written written_after writes writes_after (Err WriteFault) =
+    (answer : Offered) × IsHeardOffer hearing held state answer held_after crowd crowd_after
+    × AppendsPart written written_after answer.line × Rose writes writes_after
+IsTurn hearing held state held_after crowd crowd_after written written_after writes writes_after (Err Memory) =
+    (held_after ≡ held) × (crowd_after ≡ crowd) × (written_after ≡ written)
+
+-- states were offered and answered so, and the watchers were told what changed by them
+pub record AreAnswered {W : Type 0} (hearing : W → Hearing) (held : Option State) (states : List State) (answers : List Offered) (held_after : Option State) (crowd crowd_after : List W) : Type 0 where
+  pub offers : Offers held states answers held_after
+  pub hears : AllHear hearing (changes_of answers) crowd crowd_after
+
+-- the first of the states were answered, and these lines were printed
+pub record AreFirstAnswered {W : Type 0} (hearing : W → Hearing) (held : Option State) (states : List State) (held_after : Option State) (crowd crowd_after : List W) (Printed : List (List ℕ) → Type 0) : Type 0 where
+  pub front : List State
+  pub rest : List State
+  pub are : states ≡ front ++ rest
+  pub answers : List Offered
+  pub answered : AreAnswered hearing held front answers held_after crowd crowd_after
+  pub printed : Printed (lines_of answers)
+
+-- all states were offered, and all lines printed; or what was offered before output or memory failed
+abbrev pub AreOffered : {W : Type 0} → (W → Hearing) → Option State → List State → Option State → List W → List W → Option (List ℕ) → Option (List ℕ) → ℕ → ℕ → Result Bool Halt → Type 0
+AreOffered hearing held states held_after crowd crowd_after written written_after writes writes_after (Ok all) =
+    (answers : List Offered) × AreAnswered hearing held states answers held_after crowd crowd_after
+    × Appends written written_after (joined (lines_of answers)) × MatchBool all (AllAdopted answers) (SomeNotAdopted answers)
+AreOffered hearing held states held_after crowd crowd_after written written_after writes writes_after (Err WriteFault) =
+    AreFirstAnswered hearing held states held_after crowd crowd_after (λ lines. IsCut written written_after lines) × Rose writes writes_after
+AreOffered hearing held states held_after crowd crowd_after written written_after writes writes_after (Err Memory) =
+    AreFirstAnswered hearing held states held_after crowd crowd_after (λ lines. Appends written written_after (joined lines))
+
+-- the line of what is held was printed, or a part of it; or memory was wanting, and nothing was
+abbrev pub IsHeldPrinted : Option State → Option (List ℕ) → Option (List ℕ) → ℕ → ℕ → Result (Unit {0}) Halt → Type 0
+IsHeldPrinted held written written_after writes writes_after (Ok _) = Appends written written_after (held_line held)
+IsHeldPrinted held written written_after writes writes_after (Err WriteFault) = AppendsPart written written_after (held_line held) × Rose writes writes_after
+IsHeldPrinted held written written_after writes writes_after (Err Memory) = written_after ≡ written
