@@ -1,5 +1,5 @@
 //! A source over a reader of `std`, as standard input or a socket: a part of the trusted edge.
-ghost use Rattle.std.specs.Prelude.{◌≡◌, ◌<◌, ◌≤◌, ◌||◌, true, false, [], IfOk, OnErr, length, take};
+ghost use Rattle.std.specs.Prelude.{◌≡◌, ◌<◌, ◌≤◌, ◌||◌, true, false, [], IfOk, IsOk, OnErr, length, take};
 ghost use Rattle.std.specs.Io.KnownBytes.{ReadConsumes};
 ghost use Rattle.ml_io.specs.Causes.{HasCause};
 ghost use Rattle.ml_io.specs.Takes.{Draws, HasRunOut};
@@ -57,7 +57,7 @@ impl<R: Read> Source for RealInput<R> {
         ensures cause { HasCause self.old.faults self.new.faults result }
         ensures read { self.old.ended ≡ false
             → ReadConsumes (R.remaining self.old.reader) (R.remaining self.new.reader) result buf.new }
-        ensures over { self.old.ended ≡ true → self.new.reader ≡ self.old.reader }
+        ensures over { self.old.ended ≡ true → IsOk result × (self.new.reader ≡ self.old.reader) }
         ensures ended { self.new.ended ≡ (self.old.ended || says_end result (length buf.new)) }
         ensures counted { self.new.faults ≡ faults_after_call result self.old.faults }
     {
