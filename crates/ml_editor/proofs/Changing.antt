@@ -18,7 +18,8 @@ use Rattle.ml_store.specs.declared.row.Row.{Row}
 use Rattle.ml_watch.specs.declared.change.Change.{Change}
 use Rattle.ml_repair.specs.Changes.{Ranged, IsStanding, IsAbsent, IsStateOf, AreChanges}
 use Rattle.ml_repair.specs.Settled.{IsSettled}
-use Rattle.ml_repair.specs.Stays.{AreOfOwn, IsJoinedBy}
+use Rattle.ml_repair.specs.Stays.{IsJoinedBy}
+use Rattle.ml_watch.specs.ById.{HaveOwnIds}
 use Rattle.ml_editor.specs.State.{HasFeature}
 use Rattle.ml_editor.specs.Changing.{IsChangeIn, IsChangeOf, IsTakenIn, AreChangesAt}
 use Rattle.ml_editor.proofs.States.{added_cases, one_behind, last_one}
@@ -111,7 +112,7 @@ module _ (old new : List Row) where
     ]),
   )
 
-  one_more_own : (fs : List Feature) (f : Feature) (change : Option Change) (before after : List Change) → ¬ (HasFeature fs f.id) → AreChangesAt old new fs before → IsChangeOf old new f.id change → IsJoinedBy change before after → AreOfOwn after
+  one_more_own : (fs : List Feature) (f : Feature) (change : Option Change) (before after : List Change) → ¬ (HasFeature fs f.id) → AreChangesAt old new fs before → IsChangeOf old new f.id change → IsJoinedBy change before after → HaveOwnIds after
   one_more_own fs f None before after unknown at of joined = rw joined at.own
   one_more_own fs f (Some x) before after unknown at of joined = rw joined (all_pairs_push (λ (a : Change) (b : Change). a.id ≢ b.id) before x at.own (λ k d lt same.
       let own : x.id ≡ f.id = ((of x).0 refl).1 in

@@ -6,7 +6,8 @@ use Rattle.ml_watch.specs.declared.change.Change.{Change}
 use Rattle.ml_store.specs.Rows.{labels_in, slots_in}
 use Rattle.ml_store.specs.declared.row.Row.{Row}
 use Rattle.ml_repair.specs.Changes.{Ranged, IsChange}
-use Rattle.ml_repair.specs.Stays.{AreOfOwn, IsJoinedBy}
+use Rattle.ml_repair.specs.Stays.{IsJoinedBy}
+use Rattle.ml_watch.specs.ById.{HaveOwnIds}
 use Rattle.ml_editor.specs.State.{HasFeature}
 use Rattle.ml_editor.specs.declared.changes.Held.{Held}
 
@@ -33,4 +34,4 @@ IsTakenIn old new id before after = (change : Option Change) × IsChangeOf old n
 -- the changes of the ids of these features, each once
 pub record AreChangesAt (old new : List Row) (features : List Feature) (changes : List Change) : Type 0 where
   pub are : (c : Change) → Contains changes c ↔ (IsChangeIn old new c × HasFeature features c.id)
-  pub own : AreOfOwn changes
+  pub own : HaveOwnIds changes

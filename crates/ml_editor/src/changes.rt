@@ -1,15 +1,11 @@
 //! What changes where all labels of a map are made anew.
-ghost use Rattle.std.specs.Prelude.{ℕ, ◌≡◌, ◌≢◌, ◌↔◌, List, IfOk, MatchBool, Contains, map};
+ghost use Rattle.std.specs.Prelude.{ℕ, ◌≡◌, List, IfOk, MatchBool, map};
 ghost use Rattle.std.specs.Option.{option_map};
-ghost use Rattle.std.specs.List.Sorted.{IsStrictlySortedBy};
-ghost use Rattle.std.specs.Cmp.Lexicographic.{slice_cmp};
-ghost use Rattle.std.specs.Ordering.{nat_cmp};
 ghost use Rattle.ml_geojson.specs.Map.{HaveDifferentIds};
 ghost use Rattle.ml_store.specs.Rows.{labels_in, slots_in, HasId};
 ghost use Rattle.ml_watch.specs.declared.change.Change.{Change};
 ghost use Rattle.ml_repair.specs.Changes.{IsStateOf, AreChanges};
 ghost use Rattle.ml_repair.specs.Settled.{IsSettled};
-ghost use Rattle.ml_repair.specs.Stays.{AreOfOwn};
 ghost use Rattle.ml_editor.specs.State.{HasFeature};
 ghost use Rattle.ml_editor.specs.Changing.{ranged, ranged_of, IsChangeOf, IsTakenIn, AreChangesAt};
 
@@ -17,7 +13,7 @@ use crate::compare::{same_labels, same_ratios};
 use ml_cone::{Label, Span};
 use ml_ratio::{Feature, Seq, Text};
 use ml_repair::Engine;
-use ml_watch::Change;
+use ml_watch::{Change, by_id};
 use std::alloc::{AllocError, Global};
 
 /// A label of an engine with its active range.
@@ -131,17 +127,6 @@ fn changes_at(
         push_change(&feature.id, old, new, &mut out)?;
     }
     Ok(out)
-}
-
-// The same changes in byte order of ids.
-fn by_id(changes: Vec<Change>) -> Seq<Change>
-    requires { AreOfOwn changes.items }
-    ensures same { (c : Change) → Contains result c ↔ Contains changes.items c }
-    ensures ascending { IsStrictlySortedBy (slice_cmp nat_cmp) (map (λ change. change.id) result) }
-{
-    let mut sorted = changes;
-    sorted.sort_unstable_by(|one, other| one.id.cmp(&other.id));
-    Seq::of_vec(sorted)
 }
 
 /// The changes between two engines, each of whose labels has the id of a feature, in byte order of ids.

@@ -7,7 +7,8 @@ use Rattle.ml_watch.specs.declared.change.Change.{Change}
 use Rattle.ml_store.specs.Rows.{labels_in, HasId}
 use Rattle.ml_store.specs.declared.row.Row.{Row}
 use Rattle.ml_store.proofs.Lists.{contains_map}
-use Rattle.ml_repair.specs.Stays.{IsStayChange, AreOfOwn, IsJoinedBy}
+use Rattle.ml_repair.specs.Stays.{IsStayChange, IsJoinedBy}
+use Rattle.ml_watch.specs.ById.{HaveOwnIds}
 use Rattle.ml_repair.specs.declared.edit.Moved.{Moved}
 
 module _ (rows : List Row) (moved : List Moved) where
@@ -22,7 +23,7 @@ module _ (rows : List Row) (moved : List Moved) where
         ],
       )
 
-  pub joined_own : (edited : Option Change) (before after : List Change) → ((c : Change) → Contains before c ↔ IsStayChange rows moved c) → AreOfOwn before → IfSome edited (λ c. ¬ (HasId (labels_in rows) c.id)) → IsJoinedBy edited before after → AreOfOwn after
+  pub joined_own : (edited : Option Change) (before after : List Change) → ((c : Change) → Contains before c ↔ IsStayChange rows moved c) → HaveOwnIds before → IfSome edited (λ c. ¬ (HasId (labels_in rows) c.id)) → IsJoinedBy edited before after → HaveOwnIds after
   joined_own None before after are own none joined = rw joined own
   joined_own (Some x) before after are own none joined =
       rw joined (all_pairs_push (λ (a : Change) (b : Change). a.id ≢ b.id) before x own (λ k d lt e.

@@ -18,7 +18,8 @@ use Rattle.ml_store.specs.declared.row.Row.{Row}
 use Rattle.ml_store.proofs.Lists.{contains_map}
 use Rattle.ml_repair.specs.Moves.{numbers_of}
 use Rattle.ml_repair.specs.Plan.{slot_for}
-use Rattle.ml_repair.specs.Stays.{IsStayChange, AreOfOwn, IsPushedFor, stay_change}
+use Rattle.ml_repair.specs.Stays.{IsStayChange, IsPushedFor, stay_change}
+use Rattle.ml_watch.specs.ById.{HaveOwnIds}
 use Rattle.ml_repair.specs.declared.edit.Moved.{Moved}
 use Rattle.ml_repair.proofs.Moving.{slot_new, slot_kept}
 use Rattle.std.specs.Prelude.{◌↔◌}
@@ -36,7 +37,7 @@ same_ratio a b e = ratio_exact a b (same_cmp (a.num * b.den) (b.num * a.den) e)
 pub record Noted (rows : List Row) (moved : List Moved) (k : ℕ) (out : List Change) : Type 0 where
   pub sound : (c : Change) → Contains out c → (s : IsStayChange rows moved c) × (j : ℕ) × (j < k) × (get_or (numbers_of moved) j 0 ≡ s.row.number)
   pub whole : (r : Row) → Contains rows r → (j : ℕ) → j < k → get_or (numbers_of moved) j 0 ≡ r.number → r.slot.until ≢ (slot_for r.number r.slot moved).until → Contains out (stay_change r (slot_for r.number r.slot moved))
-  pub own : AreOfOwn out
+  pub own : HaveOwnIds out
 
 pub noted_none : (rows : List Row) (moved : List Moved) → Noted rows moved 0 []
 noted_none rows moved = record {

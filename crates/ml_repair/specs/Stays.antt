@@ -1,5 +1,5 @@
 -- Changes of labels that stay.
-use Rattle.std.specs.Prelude.{◌≡◌, ◌≢◌, ◌⊎◌, ◌++◌, List, [], ◌∷◌, Option, Some, None, MatchOption, Contains, AllPairs}
+use Rattle.std.specs.Prelude.{◌≡◌, ◌≢◌, ◌⊎◌, ◌++◌, List, [], ◌∷◌, Option, Some, None, MatchOption, Contains}
 use Rattle.ml_cone.specs.declared.slot.Slot.{Slot}
 use Rattle.ml_watch.specs.declared.change.Change.{Change}
 use Rattle.ml_store.specs.declared.row.Row.{Row}
@@ -20,10 +20,6 @@ pub record IsStayChange (rows : List Row) (moved : List Moved) (change : Change)
   pub there : Contains rows row
   pub change_is : change ≡ stay_change row (slot_for row.number row.slot moved)
   pub differ : row.slot.until ≢ (slot_for row.number row.slot moved).until
-
--- no two changes are of one id
-abbrev pub AreOfOwn : List Change → Type 0
-AreOfOwn changes = AllPairs (λ one other. one.id ≢ other.id) changes
 
 -- the change of a label came in, if its slot has another end
 abbrev pub IsPushedFor : Row → Slot → List Change → List Change → Type 0

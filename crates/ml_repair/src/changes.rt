@@ -6,7 +6,8 @@ ghost use Rattle.std.specs.Ordering.{nat_cmp};
 ghost use Rattle.ml_cone.specs.Label.{IsLabelList};
 ghost use Rattle.ml_store.specs.Rows.{labels_in, HasId};
 ghost use Rattle.ml_watch.specs.declared.change.Change.{Change};
-ghost use Rattle.ml_repair.specs.Stays.{IsStayChange, AreOfOwn, IsPushedFor, IsJoinedBy};
+ghost use Rattle.ml_watch.specs.ById.{HaveOwnIds};
+ghost use Rattle.ml_repair.specs.Stays.{IsStayChange, IsPushedFor, IsJoinedBy};
 
 use crate::edit::Moved;
 use crate::moves::Moves;
@@ -15,9 +16,8 @@ use crate::roster::Roster;
 use ml_cone::{Slot, Span};
 use ml_ratio::Seq;
 use ml_store::Row;
-use ml_watch::Change;
+use ml_watch::{Change, by_id};
 use std::alloc::{AllocError, Global};
-use std::cmp::Ordering;
 
 // Appends the change of a label that gets a slot, if its end is another one.
 fn push_moved(row: &Row, slot: Slot, out: &mut Vec<Change>) -> Result<(), AllocError>
@@ -49,7 +49,7 @@ fn stay_changes(
 ) -> Result<Vec<Change>, AllocError>
     requires { IsLabelList (labels_in roster.now) }
     ensures are { IfOk result (λ changes. (c : Change) → Contains changes.items c ↔ IsStayChange roster.now moves.now c) }
-    ensures own { IfOk result (λ changes. AreOfOwn changes.items) }
+    ensures own { IfOk result (λ changes. HaveOwnIds changes.items) }
 {
     let _many = roster.len();
     let moved = moves.as_slice();
@@ -61,17 +61,6 @@ fn stay_changes(
         }
     }
     Ok(out)
-}
-
-// The same changes in byte order of ids.
-fn by_id(changes: Vec<Change>) -> Seq<Change>
-    requires { AreOfOwn changes.items }
-    ensures same { (c : Change) → Contains result c ↔ Contains changes.items c }
-    ensures ascending { IsStrictlySortedBy (slice_cmp nat_cmp) (map (λ change. change.id) result) }
-{
-    let mut sorted = changes;
-    sorted.sort_unstable_by(|one, other| one.id.cmp(&other.id));
-    Seq::of_vec(sorted)
 }
 
 // Appends the change of the edited label, if there is one.
