@@ -10,54 +10,8 @@ use crate::stop::Stop;
 use ml_gen::{make_totals, totals_line};
 use ml_io::Sink;
 use ml_ratio::{Seq, read_whole};
-use ml_style::{Style, read_style};
+use ml_style::{SAMPLE, Style, read_style};
 use std::alloc::Global;
-
-/// The style that generated maps are loaded under.
-const SAMPLE_STYLE: &str = r#"version = 1
-name = "name"
-rank = "pop"
-
-[fonts.sans]
-units = 1000
-default = 500
-advances = { "i" = 250, "\u0301" = 0 }
-
-[[class]]
-geometry = "point"
-key = "place"
-value = "city"
-font = "sans"
-size = 20
-priority = 1
-min = "0"
-max = "1000"
-
-[[class]]
-geometry = "point"
-font = "sans"
-size = 20
-priority = 2
-min = "0"
-max = "1000"
-
-[[class]]
-geometry = "line"
-font = "sans"
-size = 20
-priority = 3
-ref = 1000
-min = "0"
-max = "2000"
-
-[[class]]
-geometry = "area"
-font = "sans"
-size = 20
-priority = 4
-min = "0"
-max = "100000"
-"#;
 
 /// A map that is to be generated: of how many groups, 1 to 6,000, and of which seed.
 #[derive(Clone, Copy, Debug, PartialEq, Eq)]
@@ -161,5 +115,5 @@ fn sample(alloc: Global) -> Result<Style, Stop>
 fn sample_text() -> &'static [u8]
     ensures { result.now ≡ sample_style }
 {
-    SAMPLE_STYLE.as_bytes()
+    SAMPLE.as_bytes()
 }

@@ -1,54 +1,9 @@
 //! Views of maps over files in memory, worked out by hand.
 use crate::status::Status;
 use crate::tests::run_over;
+use ml_style::SAMPLE;
 use std::alloc::Global;
 use std::test::Fail;
-
-/// A style of cities, other points, rivers and areas.
-pub(crate) const STYLE: &str = r#"version = 1
-name = "name"
-rank = "pop"
-
-[fonts.sans]
-units = 1000
-default = 500
-advances = { "i" = 250, "\u0301" = 0 }
-
-[[class]]
-geometry = "point"
-key = "place"
-value = "city"
-font = "sans"
-size = 20
-priority = 1
-min = "0"
-max = "1000"
-
-[[class]]
-geometry = "point"
-font = "sans"
-size = 20
-priority = 2
-min = "0"
-max = "1000"
-
-[[class]]
-geometry = "line"
-font = "sans"
-size = 20
-priority = 3
-ref = 1000
-min = "0"
-max = "2000"
-
-[[class]]
-geometry = "area"
-font = "sans"
-size = 20
-priority = 4
-min = "0"
-max = "100000"
-"#;
 
 /// A city, two islands, a river, and a feature without geometry, as a desktop program writes them.
 const MAP: &str = r#"{
@@ -94,70 +49,70 @@ margin = 5
 /// The style `s`, the map `m`, the words, the status, and what is printed.
 const MAP_RUNS: [(&str, &str, &str, Status, &str); 25] = [
     (
-        STYLE,
+        SAMPLE,
         MAP,
         "view s m 85416942 473768861 1024 768 100",
         Status::Done,
         "{\"labels\":[{\"at\":[85416942,473768861],\"boxes\":[[-27,-10,28,10]],\"id\":\"#0\",\"text\":\"Zürich\",\"until\":\"1000/1\"}],\"scale\":\"100/1\"}\n",
     ),
     (
-        STYLE,
+        SAMPLE,
         MAP,
         "view s m 200000 100000 1024 768 1",
         Status::Done,
         "{\"labels\":[{\"at\":[200000,100000],\"boxes\":[[-17,-16,-7,4],[-7,-13,-2,7],[-2,-12,8,8],[8,-17,18,3]],\"id\":\"#2\",\"text\":\"Sihl\",\"until\":\"2000/1\"}],\"scale\":\"1/1\"}\n",
     ),
     (
-        STYLE,
+        SAMPLE,
         MAP,
         "view s m 30000000 10000000 1024 768 99999",
         Status::Done,
         "{\"labels\":[{\"at\":[30000000,10000000],\"boxes\":[[-30,-10,30,10]],\"id\":\"#1\",\"text\":\"Inseln\",\"until\":\"100000/1\"}],\"scale\":\"99999/1\"}\n",
     ),
     (
-        STYLE,
+        SAMPLE,
         MAP,
         "view s m 30000000 10000000 1024 768 100000",
         Status::Done,
         "{\"labels\":[],\"scale\":\"100000/1\"}\n",
     ),
     (
-        STYLE,
+        SAMPLE,
         MAP,
         "view s m 85416942 473768861 1024 768 1000",
         Status::Done,
         "{\"labels\":[],\"scale\":\"1000/1\"}\n",
     ),
     (
-        STYLE,
+        SAMPLE,
         MAP,
         "view s m 0 0 2 2 1",
         Status::Done,
         "{\"labels\":[],\"scale\":\"1/1\"}\n",
     ),
     (
-        STYLE,
+        SAMPLE,
         RANKED,
         "view s m 15000 0 4096 4096 20",
         Status::Done,
         "{\"labels\":[{\"at\":[30000,0],\"boxes\":[[-5,-10,5,10]],\"id\":\"#3\",\"text\":\"d\",\"until\":\"1000/1\"},{\"at\":[20000,0],\"boxes\":[[-5,-10,5,10]],\"id\":\"#4\",\"text\":\"c\",\"until\":\"1000/1\"},{\"at\":[10000,0],\"boxes\":[[-5,-10,5,10]],\"id\":\"#1\",\"text\":\"b\",\"until\":\"1000/1\"},{\"at\":[0,0],\"boxes\":[[-5,-10,5,10]],\"id\":\"#0\",\"text\":\"a\",\"until\":\"1000/1\"}],\"scale\":\"20/1\"}\n",
     ),
     (
-        STYLE,
+        SAMPLE,
         THREE,
         "view s m 0 0 1024 768 19/1",
         Status::Done,
         "{\"labels\":[{\"at\":[0,0],\"boxes\":[[-10,-10,10,10]],\"id\":\"#2\",\"text\":\"ab\",\"until\":\"1000/1\"},{\"at\":[400,0],\"boxes\":[[-10,-10,10,10]],\"id\":\"#1\",\"text\":\"ab\",\"until\":\"20/1\"},{\"at\":[800,0],\"boxes\":[[-10,-10,10,10]],\"id\":\"#0\",\"text\":\"ab\",\"until\":\"40/1\"}],\"scale\":\"19/1\"}\n",
     ),
     (
-        STYLE,
+        SAMPLE,
         THREE,
         "view s m 0 0 1024 768 20/1",
         Status::Done,
         "{\"labels\":[{\"at\":[0,0],\"boxes\":[[-10,-10,10,10]],\"id\":\"#2\",\"text\":\"ab\",\"until\":\"1000/1\"},{\"at\":[800,0],\"boxes\":[[-10,-10,10,10]],\"id\":\"#0\",\"text\":\"ab\",\"until\":\"40/1\"}],\"scale\":\"20/1\"}\n",
     ),
     (
-        STYLE,
+        SAMPLE,
         THREE,
         "view s m 0 0 1024 768 40/1",
         Status::Done,
@@ -199,14 +154,14 @@ const MAP_RUNS: [(&str, &str, &str, Status, &str); 25] = [
         "{\"labels\":[{\"at\":[0,0],\"boxes\":[[-10,-10,10,10]],\"id\":\"#2\",\"text\":\"ab\",\"until\":\"1000/1\"}],\"scale\":\"80/3\"}\n",
     ),
     (
-        STYLE,
+        SAMPLE,
         MAP,
         "view x m 0 0 1024 768 1",
         Status::FileFault,
         "file fault\n",
     ),
     (
-        STYLE,
+        SAMPLE,
         MAP,
         "view s x 0 0 1024 768 1",
         Status::FileFault,
@@ -220,49 +175,49 @@ const MAP_RUNS: [(&str, &str, &str, Status, &str); 25] = [
         "style refused: 2 Version\n",
     ),
     (
-        STYLE,
+        SAMPLE,
         "{\"type\":\"Feature",
         "view s m 0 0 1024 768 1",
         Status::InputRefused,
         "map refused: 1 NotJson 16\n",
     ),
     (
-        STYLE,
+        SAMPLE,
         "[[[[[[[[[[[[[[[[[[[[[[[[[[[[[[[[[[[[[[[[[[[[[[[[[[[[[[[[[[[[[[[[[",
         "view s m 0 0 1024 768 1",
         Status::InputRefused,
         "map refused: 2 Deep 64\n",
     ),
     (
-        STYLE,
+        SAMPLE,
         "[]",
         "view s m 0 0 1024 768 1",
         Status::InputRefused,
         "map refused: 3 NotCollection\n",
     ),
     (
-        STYLE,
+        SAMPLE,
         "{\"type\":\"FeatureCollection\",\"features\":[{\"type\":\"Feature\"},1]}",
         "view s m 0 0 1024 768 1",
         Status::InputRefused,
         "map refused: 4 NotFeature 1\n",
     ),
     (
-        STYLE,
+        SAMPLE,
         "{\"type\":\"Feature\",\"geometry\":{\"type\":\"Circle\"}}",
         "view s m 0 0 1024 768 1",
         Status::InputRefused,
         "map refused: 5 BadGeometry 0\n",
     ),
     (
-        STYLE,
+        SAMPLE,
         "{\"type\":\"Feature\",\"geometry\":{\"type\":\"LineString\",\"coordinates\":[[201,0],[1]]}}",
         "view s m 0 0 1024 768 1",
         Status::InputRefused,
         "map refused: 6 OutOfRange 0\n",
     ),
     (
-        STYLE,
+        SAMPLE,
         "{\"type\":\"Feature\",\"geometry\":{\"type\":\"Polygon\",\"coordinates\":[[[0,0],[1,0]],5]}}",
         "view s m 0 0 1024 768 1",
         Status::InputRefused,
@@ -350,7 +305,7 @@ fn a_map_has_at_most_32768_features(rt: HostRuntime) -> Result<(), Fail> {
         (32769, Status::InputRefused, "map refused: 9 Full\n"),
     ] {
         let map = many(rt.alloc(), n)?;
-        let files = [("s", STYLE), ("m", map.as_str())];
+        let files = [("s", SAMPLE), ("m", map.as_str())];
         let (status, out) = run_over(rt.alloc(), &files, "view s m 0 0 1024 768 1")?;
         assert_eq!(rt; status, want, "{n}");
         assert_eq!(rt; out.bytes(), printed.as_bytes(), "{n}");

@@ -1,7 +1,7 @@
 //! Zoom timelines of maps over files in memory, worked out by hand.
-use crate::map_tests::STYLE;
 use crate::status::Status;
 use crate::tests::run_over;
+use ml_style::SAMPLE;
 use std::alloc::Global;
 use std::test::Fail;
 
@@ -28,7 +28,7 @@ min = "0" |  | -1000 0 2 2 => A%20b (0/1,1000/1)¶peak 1 after 0/1¶"#;
 
 /// The style with another minimum and a further line in the class of cities.
 fn style_with(alloc: Global, min: &str, line: &str) -> Result<String, Fail> {
-    let style = STYLE.replace(alloc, "min = \"0\"", min)?;
+    let style = SAMPLE.replace(alloc, "min = \"0\"", min)?;
     let city = format!(in alloc; "value = \"city\"\n{line}")?;
     Ok(style.replace(alloc, "value = \"city\"", city.as_str())?)
 }

@@ -6,6 +6,7 @@
 //! - [`style`]: classes and fonts together;
 //! - [`matching`]: the class of a feature;
 //! - [`reader`]: bytes to a style, or the first fault ([`fault`]);
+//! - [`sample`]: a style to begin with;
 //! - [`laws`]: laws over the definitions alone.
 //!
 //! The reader goes from the outside in: [`reader`], [`style_table`], [`font_table`], [`class_table`],
@@ -26,6 +27,7 @@ pub mod laws;
 pub mod matching;
 mod parts;
 pub mod reader;
+pub mod sample;
 pub mod style;
 mod style_table;
 mod table;
@@ -37,4 +39,5 @@ pub use font::Font;
 pub use fonts::NamedFont;
 pub use matching::class_of;
 pub use reader::read_style;
+pub use sample::SAMPLE;
 pub use style::Style;

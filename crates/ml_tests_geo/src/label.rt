@@ -1,13 +1,12 @@
 //! Labels worked out by hand. A label is written as its id, class, rank, anchor, range of scales, and
 //! its pieces, each with the left, bottom, right and top of its box.
 use crate::cases::case;
-use crate::style::SAMPLE;
 use ml_cone::Label;
 use ml_geojson::read_collection;
 use ml_label::{label_of, labels_of};
 use ml_pass::{assign, write_slots};
 use ml_ratio::Seq;
-use ml_style::{Style, read_style};
+use ml_style::{SAMPLE, Style, read_style};
 use std::alloc::Global;
 use std::test::Fail;
 

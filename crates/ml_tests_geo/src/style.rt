@@ -6,55 +6,9 @@ ghost use Rattle.ml_ratio.specs.Geometry.{IsSomeGeometry};
 
 use crate::cases::case;
 use ml_ratio::{Feature, Geometry, Pos, Prop, Scalar, Seq, Text};
-use ml_style::{Class, Kind, Style, StyleFault, class_of, read_style};
+use ml_style::{Class, Kind, SAMPLE, Style, StyleFault, class_of, read_style};
 use std::alloc::Global;
 use std::test::Fail;
-
-/// A style of four classes and one font.
-pub(crate) const SAMPLE: &str = r#"version = 1
-name = "name"
-rank = "pop"
-
-[fonts.sans]
-units = 1000
-default = 500
-advances = { "i" = 250, "\u0301" = 0 }
-
-[[class]]
-geometry = "point"
-key = "place"
-value = "city"
-font = "sans"
-size = 20
-priority = 1
-min = "0"
-max = "1000"
-
-[[class]]
-geometry = "point"
-font = "sans"
-size = 20
-priority = 2
-min = "0"
-max = "1000"
-
-[[class]]
-geometry = "line"
-font = "sans"
-size = 20
-priority = 3
-ref = 1000
-min = "0"
-max = "2000"
-
-[[class]]
-geometry = "area"
-font = "sans"
-size = 20
-priority = 4
-min = "0"
-max = "100000"
-"#;
 
 /// The classes of the sample: kind, priority, reference, the end of the range, and whether they ask
 /// for a city.

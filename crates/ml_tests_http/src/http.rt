@@ -7,58 +7,13 @@ use ml_geojson::read_collection;
 use ml_http::{ConnEnd, MEMORY_REPLY, serve_link};
 use ml_io::{MemSink, MemSource};
 use ml_ratio::Steps;
-use ml_style::read_style;
+use ml_style::{SAMPLE, read_style};
 use ml_tile::Tiles;
 use ml_watch::{Crowd, MemWatcher};
 use std::alloc::{AllocError, Global};
 use std::marker::Brand;
 use std::sync::ledger::{Blank, Ledger};
 use std::test::Fail;
-
-const STYLE: &str = r#"version = 1
-name = "name"
-rank = "pop"
-
-[fonts.sans]
-units = 1000
-default = 500
-advances = { "i" = 250, "\u0301" = 0 }
-
-[[class]]
-geometry = "point"
-key = "place"
-value = "city"
-font = "sans"
-size = 20
-priority = 1
-min = "0"
-max = "1000"
-
-[[class]]
-geometry = "point"
-font = "sans"
-size = 20
-priority = 2
-min = "0"
-max = "1000"
-
-[[class]]
-geometry = "line"
-font = "sans"
-size = 20
-priority = 3
-ref = 1000
-min = "0"
-max = "2000"
-
-[[class]]
-geometry = "area"
-font = "sans"
-size = 20
-priority = 4
-min = "0"
-max = "100000"
-"#;
 
 /// The same style, with free space about the labels of its first class.
 const STYLE_WITH_MARGIN: &str = r#"version = 2
@@ -108,7 +63,7 @@ max = "100000"
 "#;
 
 /// A map as a desktop GIS writes it.
-const SAMPLE: &str = r#"{
+const SAMPLE_MAP: &str = r#"{
 "type": "FeatureCollection",
 "name": "sample",
 "crs": { "type": "name", "properties": { "name": "urn:ogc:def:crs:OGC:1.3:CRS84" } },
@@ -153,7 +108,7 @@ fn wire(alloc: Global, text: &str) -> Result<Vec<u8>, AllocError> {
 }
 
 fn editor_of(alloc: Global, map: &str) -> Result<Editor, Fail> {
-    let style = read_style(alloc, STYLE.as_bytes())?;
+    let style = read_style(alloc, SAMPLE.as_bytes())?;
     let features = read_collection(alloc, map.as_bytes())?;
     Ok(Editor::load(alloc, style, features)?)
 }
@@ -592,7 +547,14 @@ fn lines_of(alloc: Global, text: &str) -> Result<String, AllocError> {
 fn got_of(alloc: Global, target: &str) -> Result<Vec<u8>, Fail> {
     let request = format!(in alloc; "GET {target} HTTP/1.1~Host: a~~")?;
     let input = wire(alloc, request.as_str())?;
-    let got = served(alloc, SAMPLE, &input, 7, Vec::new(alloc), Vec::new(alloc))?;
+    let got = served(
+        alloc,
+        SAMPLE_MAP,
+        &input,
+        7,
+        Vec::new(alloc),
+        Vec::new(alloc),
+    )?;
     Ok(got.bytes)
 }
 

@@ -3,55 +3,9 @@ use crate::cases::case;
 use ml_gen::group::groups_of;
 use ml_gen::{make_totals, totals_line};
 use ml_ratio::lines::parts_of;
-use ml_style::read_style;
+use ml_style::{SAMPLE, read_style};
 use std::alloc::Global;
 use std::test::Fail;
-
-/// A style of towns, rivers and areas, each letter ten pixels wide.
-const STYLE: &str = r#"version = 1
-name = "name"
-rank = "pop"
-
-[fonts.sans]
-units = 1000
-default = 500
-advances = { "i" = 250, "\u0301" = 0 }
-
-[[class]]
-geometry = "point"
-key = "place"
-value = "city"
-font = "sans"
-size = 20
-priority = 1
-min = "0"
-max = "1000"
-
-[[class]]
-geometry = "point"
-font = "sans"
-size = 20
-priority = 2
-min = "0"
-max = "1000"
-
-[[class]]
-geometry = "line"
-font = "sans"
-size = 20
-priority = 3
-ref = 1000
-min = "0"
-max = "2000"
-
-[[class]]
-geometry = "area"
-font = "sans"
-size = 20
-priority = 4
-min = "0"
-max = "100000"
-"#;
 
 /// So many groups and a seed, and the line of totals. Each removal leaves one town of the group shown
 /// and each addition two; either changes three labels; a removal evaluates two, an addition three.
@@ -90,7 +44,7 @@ fn line_of(alloc: Global, groups: u32, seed: u32) -> Result<String, Fail> {
     if groups < 1 || groups > 6000 {
         return Err(Fail::from("so many groups"));
     }
-    let style = read_style(alloc, STYLE.as_bytes())?;
+    let style = read_style(alloc, SAMPLE.as_bytes())?;
     let totals = make_totals(alloc, style, groups, seed)?;
     let line = totals_line(alloc, &totals)?;
     Ok(String::from_utf8(line.into_vec()).ok().ok_or("a text")?)
