@@ -354,6 +354,26 @@ fn told<L: Ledger>(
 }
 
 /// The first line that is answered otherwise than it says, with that answer; an empty text where none is.
+fn wrong_in<L: Ledger>(
+    alloc: Global,
+    editor: &mut Editor,
+    crowd: &mut Crowd<MemWatcher>,
+    steps: &mut Steps<L>,
+) -> Result<String, Fail> {
+    for line in EDITS.lines() {
+        let (input, want) = case(line)?;
+        let text = told(alloc, editor, crowd, input, steps)?;
+        if text.as_str() != want {
+            return Ok(format!(in alloc; "{line}: {text}")?);
+        }
+    }
+    if crowd.heard(0) != Some(31) {
+        return Ok(String::from_str(alloc, "the watcher heard another number of changes")?);
+    }
+    Ok(String::new(alloc))
+}
+
+/// The same from an empty map on, with one watcher.
 fn first_wrong<L: Ledger>(alloc: Global, blank: Blank) -> Result<String, Fail>
     requires name { blank.name ≡ L.name }
     requires parts { blank.parts ≡ L.parts }
@@ -364,17 +384,7 @@ fn first_wrong<L: Ledger>(alloc: Global, blank: Blank) -> Result<String, Fail>
     let mut watchers = Vec::new(alloc);
     watchers.push(MemWatcher::new(alloc, 100, Vec::new(alloc))?)?;
     let mut crowd = Crowd::new(watchers);
-    for line in EDITS.lines() {
-        let (input, want) = case(line)?;
-        let text = told(alloc, &mut editor, &mut crowd, input, &mut steps)?;
-        if text.as_str() != want {
-            return Ok(format!(in alloc; "{line}: {text}")?);
-        }
-    }
-    if crowd.heard(0) != Some(31) {
-        return Ok(String::from_str(alloc, "the watcher heard another number of changes")?);
-    }
-    Ok(String::new(alloc))
+    wrong_in(alloc, &mut editor, &mut crowd, &mut steps)
 }
 
 /// The same with a counter of its own.
