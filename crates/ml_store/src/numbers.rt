@@ -63,6 +63,10 @@ fn shift(order: &mut Vec<u32>, from: usize, to: usize)
     requires to_place { to < length order.old.items }
     ensures { order.new.items ≡ insert (remove order.old.items from) to (slice_index order.old.items from) }
 {
+    // a label that comes last takes the first free number, and nothing need move
+    if from == to {
+        return;
+    }
     let number = order.remove(from);
     match order.insert(to, number) {
         Ok(()) => {}
