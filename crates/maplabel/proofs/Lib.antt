@@ -3,6 +3,7 @@ pub mod Answering
 pub mod Chosen
 pub mod EndsWell
 pub mod MapViewing
+pub mod MapLines
 pub mod ShownMore
 pub mod FormLemmas
 pub mod ZoomLemmas

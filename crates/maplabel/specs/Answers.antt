@@ -7,6 +7,7 @@ use Rattle.ml_cone.specs.Slots.{AreSlots, ends}
 use Rattle.ml_cone.specs.declared.label.Label.{Label}
 use Rattle.ml_cone.specs.declared.slot.Slot.{Slot}
 use Rattle.ml_cone.specs.declared.view.View.{View}
+use Rattle.ml_flight.specs.declared.window.Window.{Window}
 use Rattle.ml_label.specs.Labels.{AreLabelsOf}
 use Rattle.ml_style.specs.declared.style.Style.{Style}
 use Rattle.ml_pass.specs.SlotsText.{ids, slots_text}
@@ -47,10 +48,18 @@ IsTableText labels Slots text = IsSlotsOf labels text
 IsTableText labels Gaps text = IsGapsOf labels text
 IsTableText labels (GapView view) text = IsGapViewOf labels view text
 
--- the text is what is asked of a map, of which these are the labels
-abbrev pub IsMapText : List Label → MapTask → List ℕ → Type 0
-IsMapText labels (ShowMap view) text = IsViewOf labels view text
-IsMapText labels (Zoom window) text = IsZoomOf labels window text
+-- the text is the line of a view of the labels of features under a style
+abbrev pub IsMapLine : Style → List Feature → View → List ℕ → Type 0
+IsMapLine classes features view text = (labels : List Label) × AreLabelsOf classes features labels × IsViewOf labels view text
+
+-- the text is the zoom timeline of the labels of features under a style
+abbrev pub IsMapZoom : Style → List Feature → Window → List ℕ → Type 0
+IsMapZoom classes features window text = (labels : List Label) × AreLabelsOf classes features labels × IsZoomOf labels window text
+
+-- the text is what is asked of the labels of features under a style
+abbrev pub IsTextOf : Style → List Feature → MapTask → List ℕ → Type 0
+IsTextOf classes features (ShowMap view) text = IsMapLine classes features view text
+IsTextOf classes features (Zoom window) text = IsMapZoom classes features window text
 
 -- the text is what is asked of the named table
 abbrev pub IsTableAnswer : Option FileSet → List ℕ → TableTask → List ℕ → Type 0
@@ -60,11 +69,9 @@ IsTableAnswer told table task text = (labels : List Label) × HasTable told tabl
 pub record IsMapAnswer (told : Option FileSet) (style map : List ℕ) (task : MapTask) (text : List ℕ) : Type 0 where
   pub classes : Style
   pub features : List Feature
-  pub labels : List Label
   pub has_style : HasStyle told style classes
   pub has_map : HasMap told map features
-  pub labels_are : AreLabelsOf classes features labels
-  pub answered : IsMapText labels task text
+  pub answered : IsTextOf classes features task text
 
 -- the text is the line of the verdict on the slots that a file gives to the labels of a table
 pub record IsJudged (told : Option FileSet) (table slots : List ℕ) (verdict : Verdict) (text : List ℕ) : Type 0 where

@@ -11,6 +11,7 @@
 //! - [`table`], [`map`], [`check`]: what is asked of a table and of a map, and the verdict on slots;
 //! - [`choice`]: the longest choice of any labels; [`gap_lines`]: their longest free gaps; [`zoom`]:
 //!   their zoom timeline;
+//! - [`map_line`]: the line of a view of a map;
 //! - [`inputs`], [`map_inputs`]: the files that a command needs; [`stop`]: what ends a command early;
 //! - [`view_line`]: the line of a view; [`verdict_text`]: the line of a verdict; [`zoom_text`]: the
 //!   lines of a zoom timeline;
@@ -32,6 +33,7 @@ pub mod loading;
 pub mod making;
 pub mod map;
 pub mod map_inputs;
+mod map_line;
 pub mod printing;
 pub mod run;
 pub mod serving;

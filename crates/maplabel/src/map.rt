@@ -1,19 +1,21 @@
 //! What is asked of a map under a style.
 ghost use Rattle.std.specs.Prelude.{◌≡◌, ◌≤◌, IfOk, IfErr, length};
 ghost use Rattle.ml_io.specs.Files.{seen};
-ghost use Rattle.maplabel.specs.Answers.{IsMapText, IsMapAnswer};
+ghost use Rattle.ml_geojson.specs.Map.{HaveDifferentIds};
+ghost use Rattle.maplabel.specs.Answers.{IsMapAnswer, IsMapZoom, IsTextOf};
 ghost use Rattle.maplabel.specs.Inputs.{Keeps};
 ghost use Rattle.maplabel.specs.Outcome.{IsMapAnswerStop};
 
-use crate::choice::line_of;
 use crate::command::MapTask;
 use crate::map_inputs::{load_map, load_style};
+use crate::map_line::map_line;
 use crate::stop::Stop;
 use crate::zoom::zoom_of;
-use ml_cone::Label;
+use ml_flight::Window;
 use ml_io::Files;
 use ml_label::labels_of;
-use ml_ratio::Seq;
+use ml_ratio::{Feature, Seq};
+use ml_style::Style;
 use std::alloc::{AllocError, Global};
 
 /// The text that is asked of the labels of a map's features under a style, by the names of both.
@@ -35,18 +37,38 @@ pub fn on_map<F: Files>(
 {
     let classes = load_style(alloc, files, style)?;
     let features = load_map(alloc, files, map)?;
-    let labels = labels_of(alloc, &classes, features.as_slice())?;
-    let text = map_text(alloc, &labels, task)?;
+    let text = map_text(alloc, classes, features, task)?;
     Ok(text)
 }
 
-// The text that is asked of labels.
-fn map_text(alloc: Global, labels: &[Label], task: MapTask) -> Result<Seq<u8>, AllocError>
-    requires few { length labels.now ≤ 32768 }
-    ensures { IfOk result (IsMapText labels.now task) }
+// The text that is asked of the labels of features under a style.
+fn map_text(
+    alloc: Global,
+    classes: Style,
+    features: Seq<Feature>,
+    task: MapTask,
+) -> Result<Seq<u8>, AllocError>
+    requires differ { HaveDifferentIds features }
+    requires few { length features ≤ 32768 }
+    ensures { IfOk result (IsTextOf classes features task) }
 {
     match task {
-        MapTask::ShowMap(view) => line_of(alloc, labels, &view),
-        MapTask::Zoom(window) => zoom_of(alloc, labels, &window),
+        MapTask::ShowMap(view) => map_line(alloc, classes, features, &view),
+        MapTask::Zoom(window) => map_zoom(alloc, &classes, features.as_slice(), &window),
     }
+}
+
+// The text of the zoom timeline of features under a style.
+fn map_zoom(
+    alloc: Global,
+    classes: &Style,
+    features: &[Feature],
+    window: &Window,
+) -> Result<Seq<u8>, AllocError>
+    requires differ { HaveDifferentIds features.now }
+    requires few { length features.now ≤ 32768 }
+    ensures { IfOk result (IsMapZoom classes.now features.now window.now) }
+{
+    let labels = labels_of(alloc, classes, features)?;
+    zoom_of(alloc, &labels, window)
 }

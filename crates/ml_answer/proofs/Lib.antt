@@ -1,3 +1,4 @@
+pub mod MapViews
 pub mod NoFloats
 pub mod Sizes
 pub mod Views

@@ -2,6 +2,7 @@
 //!
 //! - [`view`]: the JSON text of a view, fed label by label ([`JsonView`]); `shown`: the text of a label
 //!   in it;
+//! - [`map_view`]: the views of a map, as JSON ([`view_json`]) and as SVG ([`view_svg`]);
 //! - [`slot`]: the JSON text of a label's slot ([`slot_json`]);
 //! - [`reason`]: the JSON text of why a feature has no label ([`reason_json`]);
 //! - [`edit`]: the JSON texts of an edit ([`edit_json`]) and of a revision ([`rev_json`]);
@@ -17,6 +18,7 @@ mod drawn;
 pub mod edit;
 mod escape;
 pub mod fault;
+pub mod map_view;
 mod place;
 pub mod px;
 pub mod reason;
@@ -28,6 +30,7 @@ pub mod view;
 
 pub use edit::{edit_json, rev_json};
 pub use fault::fault_json;
+pub use map_view::{view_json, view_svg};
 pub use px::write_px;
 pub use reason::reason_json;
 pub use slot::slot_json;

@@ -22,7 +22,8 @@ use Rattle.ml_editor.specs.State.{State}
 use Rattle.ml_tile.specs.Cache.{HeldTile, ShowsIn}
 use Rattle.ml_tile.specs.Tile.{IsTileView}
 use Rattle.ml_tile.specs.declared.key.TileKey.{TileKey}
-use Rattle.ml_http.specs.Step.{AreRowsOf, AreShownRows, IsTileText, IsViewText, json_body, shown_of}
+use Rattle.ml_answer.specs.MapView.{AreRowsOf, AreShownRows, IsViewText, json_body, shown_of}
+use Rattle.ml_http.specs.Step.{IsTileText}
 use Rattle.ml_http.specs.TileWork.{ShowsId, ShowsChange, ShowsChanges}
 use Rattle.ml_http.proofs.SameLabels.{same_labels}
 use Rattle.ml_http.proofs.SameLists.{here, later, cases}

@@ -15,7 +15,6 @@ pub mod SameViews
 pub mod StepLemmas
 pub mod StreamLemmas
 pub mod TakesLemmas
-pub mod ViewLemmas
 pub mod ShownRows
 pub mod HeldTiles
 pub mod Dropping

@@ -15,7 +15,8 @@ use Rattle.ml_answer.specs.View.{Shown, view_text}
 use Rattle.ml_http.specs.declared.kind.Kind.{Kind}
 use Rattle.ml_http.specs.Alike.{AreAlike}
 use Rattle.ml_http.specs.Reply.{reply_text}
-use Rattle.ml_http.specs.Step.{Query, IsViewText, IsReplyFor, IsViewReply, json_body, svg_body, shown_of}
+use Rattle.ml_answer.specs.MapView.{IsViewText, json_body, svg_body, shown_of}
+use Rattle.ml_http.specs.Step.{Query, IsReplyFor, IsViewReply}
 use Rattle.ml_http.proofs.OneAsked.{one_asked}
 use Rattle.ml_http.proofs.SameLabels.{same_labels}
 use Rattle.ml_http.proofs.SameViews.{OneLongest, same_rows_shown}

@@ -17,7 +17,7 @@ use Rattle.ml_store.specs.declared.row.Row.{Row}
 use Rattle.ml_repair.specs.Settled.{IsSettled}
 use Rattle.ml_repair.specs.Shown.{AreShownNumbers}
 use Rattle.ml_answer.specs.View.{Shown}
-use Rattle.ml_http.specs.Step.{AreShownRows, shown_of}
+use Rattle.ml_answer.specs.MapView.{AreShownRows, shown_of}
 use Rattle.ml_http.proofs.SameLists.{one_list, here, later}
 use Rattle.ml_http.proofs.SameLabels.{same_ratio}
 

@@ -8,7 +8,7 @@ use Rattle.ml_tile.specs.Tile.{IsTileView}
 use Rattle.ml_tile.specs.declared.key.TileKey.{TileKey}
 use Rattle.ml_http.specs.Link.{AreTexts}
 use Rattle.ml_http.specs.Replies.{json_reply}
-use Rattle.ml_http.specs.Step.{IsViewText, json_body}
+use Rattle.ml_answer.specs.MapView.{IsViewText, json_body}
 use Rattle.ml_http.specs.TileReply.{IsTileTold}
 use Rattle.ml_http.specs.TileWork.{IsKept}
 

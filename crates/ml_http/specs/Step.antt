@@ -1,22 +1,17 @@
 -- The machine: what a request is answered, and the state that the map is in afterwards.
-use Rattle.std.specs.Prelude.{◌≡◌, ◌⊎◌, ℕ, ◌+◌, zero, suc, Bool, List, [], length, map, codes, All, Contains, Option, Some, None, unwrap_or, Result, Ok, Err, MatchOption}
+use Rattle.std.specs.Prelude.{◌≡◌, ◌⊎◌, ℕ, zero, suc, Bool, List, [], length, map, codes, Contains, Option, Some, None, unwrap_or, Result, Ok, Err, MatchOption}
 use Rattle.std.specs.Option.{option_map}
 use Rattle.ml_ratio.specs.declared.feature.Feature.{Feature}
-use Rattle.ml_cone.specs.declared.label.Label.{Label}
 use Rattle.ml_cone.specs.declared.view.View.{View}
 use Rattle.ml_geojson.specs.Text.{collection_text}
 use Rattle.ml_label.specs.Labelling.{IsLabelling}
-use Rattle.ml_label.specs.Labels.{AreLabelsOf}
 use Rattle.ml_watch.specs.declared.change.Change.{Change}
-use Rattle.ml_watch.specs.Hearing.{Hearing, AllHear}
 use Rattle.ml_tile.specs.Cache.{HeldTile}
 use Rattle.ml_tile.specs.Tile.{IsTileView}
 use Rattle.ml_tile.specs.declared.key.TileKey.{TileKey}
-use Rattle.ml_store.specs.Rows.{labels_in, slots_in, numbers_in}
+use Rattle.ml_store.specs.Rows.{labels_in, slots_in}
 use Rattle.ml_store.specs.declared.row.Row.{Row}
 use Rattle.ml_repair.specs.Changes.{AreChanges}
-use Rattle.ml_repair.specs.Settled.{IsSettled}
-use Rattle.ml_repair.specs.Shown.{AreShownNumbers}
 use Rattle.ml_editor.specs.State.{State, HasFeature, step}
 use Rattle.ml_editor.specs.Editing.{IsEditCost, id_of}
 use Rattle.ml_editor.specs.Faults.{IsAddFault, IsAddition, IsAdding, IsReplaceFault, IsReplacement, IsReplacing, IsRemoveFault, IsRemoval, IsStyleFault, IsRestyle, IsRestyling}
@@ -30,8 +25,7 @@ use Rattle.ml_answer.specs.Edit.{edit_text, rev_text}
 use Rattle.ml_answer.specs.Fault.{fault_text}
 use Rattle.ml_answer.specs.Reason.{reason_text}
 use Rattle.ml_answer.specs.Slot.{slot_text}
-use Rattle.ml_answer.specs.Svg.{svg_text}
-use Rattle.ml_answer.specs.View.{Shown, view_text}
+use Rattle.ml_answer.specs.MapView.{AreRowsOf, IsViewText, json_body, svg_body}
 use Rattle.ml_http.specs.declared.kind.Kind.{Kind}
 use Rattle.ml_http.specs.declared.kind.Kind.TheVariants.{Json, Svg, GeoJson}
 use Rattle.ml_http.specs.declared.request.Event.{Event}
@@ -68,31 +62,6 @@ tiled reply tile = record { reply = reply; changes = []; cost = 0; work = Asked 
 -- a query: its names and values, in order
 abbrev pub Query : Type 0
 Query = List (List ℕ × List ℕ)
-
--- the labels of a map, in priority order, each with a number and with its slot; the slots are the longest choice with its blockers
-pub record AreRowsOf (s : State) (rows : List Row) : Type 0 where
-  pub labels : AreLabelsOf s.style s.features (labels_in rows)
-  pub settled : IsSettled rows
-
--- those of the rows that the view shows, in priority order
-pub record AreShownRows (rows : List Row) (view : View) (shown : List Row) : Type 0 where
-  pub among : All (Contains rows) shown
-  pub numbers : AreShownNumbers rows view (numbers_in shown)
-
--- a shown label, with the scale from which on it is not shown
-abbrev pub shown_of : Row → Shown
-shown_of row = record { label = row.label; until = row.slot.until }
-
--- the body of a view as JSON, and as SVG
-abbrev pub json_body : View → List Row → List ℕ
-json_body view shown = view_text view.scale (map shown_of shown)
-
-abbrev pub svg_body : View → List Row → List ℕ
-svg_body view shown = svg_text view (labels_in shown)
-
--- the text is made of what the view shows of the map
-abbrev pub IsViewText : (View → List Row → List ℕ) → State → View → List ℕ → Type 0
-IsViewText body s view text = (rows : List Row) × AreRowsOf s rows × ((shown : List Row) × AreShownRows rows view shown × (text ≡ body view shown))
 
 -- the names of a view's query, in their order
 abbrev pub view_name : ℕ → List ℕ

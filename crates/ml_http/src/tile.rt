@@ -3,7 +3,7 @@ ghost use Rattle.std.specs.Prelude.{◌≡◌, ℕ, List, Result, Contains, IfOk
 ghost use Rattle.ml_http.specs.Link.{AreTexts};
 ghost use Rattle.ml_http.specs.Replies.{json_reply};
 ghost use Rattle.ml_http.specs.Routes.{IsTileAsked, pair_bytes};
-ghost use Rattle.ml_http.specs.Step.{IsTileText, tile_name};
+ghost use Rattle.ml_http.specs.Step.{tile_name};
 ghost use Rattle.ml_http.specs.TileReply.{IsTileReply, IsTileTold};
 ghost use Rattle.ml_http.specs.TileWork.{IsKept};
 ghost use Rattle.ml_tile.specs.Cache.{IsHeld};
@@ -11,8 +11,8 @@ ghost use Rattle.ml_tile.specs.declared.key.TileKey.{TileKey};
 
 use crate::query::tile_asked;
 use crate::replies::{json_reply, query_reply};
-use crate::view::json_view;
 use http::StatusCode;
+use ml_answer::view_json;
 use ml_editor::Editor;
 use ml_ratio::Seq;
 use ml_tile::{TileKey, Tiles};
@@ -67,7 +67,7 @@ fn reply_of(
         tiles.touch(&key);
         return Ok(reply);
     }
-    let text = json_view(alloc, editor, &key.view())?;
+    let text = view_json(alloc, editor, &key.view())?;
     let reply = json_reply(alloc, StatusCode::OK, closes, text.as_slice())?;
     keep(tiles, key, &text);
     Ok(reply)

@@ -12,9 +12,7 @@ pub returns-clause-ok : goal.returns-clause-ok
 returns-clause-ok g c = record {
   classes = c.in_ok-classes.classes;
   features = c.in_ok-features.features;
-  labels = c.in_ok-labels.labels.items;
   has_style = c.in_ok-classes.ensures.ok;
   has_map = rw c.in_ok-classes.ensures.same at c.in_ok-features.ensures.ok;
-  labels_are = rw c.as_slice.ensures at c.in_ok-labels.ensures.ok;
-  answered = rw c.deref.ensures.value at c.in_ok-text.ensures;
+  answered = c.in_ok-text.ensures;
 }

@@ -1,4 +1,4 @@
-use Rattle.ml_http.specs.Step.{json_body, svg_body}
+use Rattle.ml_answer.specs.MapView.{json_body, svg_body}
 use Rattle.ml_http.specs.declared.kind.Kind.TheVariants as kinds
 use Rattle.ml_http.proofs.SameReplies.{same_view_reply, json_made, svg_made}
 use Rattle.ml_http.proofs.laws.l4.Goals as goal

@@ -1,9 +1,9 @@
 use Rattle.std.proofs.Common.{◌≡◌, List, map, take}
 use Rattle.ml_store.specs.declared.row.Row.{Row}
 use Rattle.ml_answer.specs.View.{no_label, with_labels}
-use Rattle.ml_http.specs.Step.{shown_of}
-use Rattle.ml_http.proofs.ViewLemmas.{HaveNumbers}
-use Rattle.ml_http.proofs.view.json_view.Given as goal
+use Rattle.ml_answer.specs.MapView.{shown_of}
+use Rattle.ml_answer.proofs.MapViews.{HaveNumbers}
+use Rattle.ml_answer.proofs.map_view.view_json.Given as goal
 
 abbrev pub invariant-loop-number : goal.invariant-loop-number
 invariant-loop-number l =

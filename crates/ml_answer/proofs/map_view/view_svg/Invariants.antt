@@ -2,8 +2,8 @@ use Rattle.std.proofs.Common.{◌≡◌, List, ◌++◌, take, flat_map}
 use Rattle.ml_store.specs.Rows.{labels_in}
 use Rattle.ml_store.specs.declared.row.Row.{Row}
 use Rattle.ml_answer.specs.Svg.{head_line, label_lines}
-use Rattle.ml_http.proofs.ViewLemmas.{HaveNumbers}
-use Rattle.ml_http.proofs.view.svg_view.Given as goal
+use Rattle.ml_answer.proofs.MapViews.{HaveNumbers}
+use Rattle.ml_answer.proofs.map_view.view_svg.Given as goal
 
 abbrev pub invariant-loop-number : goal.invariant-loop-number
 invariant-loop-number l =

@@ -6,8 +6,8 @@ use Rattle.ml_store.specs.Rows.{IsLive}
 use Rattle.ml_repair.specs.Shown.{AreShownNumbers}
 use Rattle.ml_answer.specs.View.{no_label}
 use Rattle.ml_answer.specs.Svg.{head_line}
-use Rattle.ml_http.proofs.ViewLemmas.{one_more_number, svg_step}
-use Rattle.ml_http.proofs.view.svg_view.Goals as goal
+use Rattle.ml_answer.proofs.MapViews.{one_more_number, svg_step}
+use Rattle.ml_answer.proofs.map_view.view_svg.Goals as goal
 
 pub add_svg-requires : goal.add_svg-requires
 add_svg-requires c =

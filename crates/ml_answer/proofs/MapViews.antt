@@ -10,7 +10,7 @@ use Rattle.ml_store.specs.Rows.{numbers_in, labels_in}
 use Rattle.ml_store.specs.declared.row.Row.{Row}
 use Rattle.ml_answer.specs.Svg.{SvgViewState, label_lines}
 use Rattle.ml_answer.specs.View.{Shown, JsonViewState, with_label, with_labels}
-use Rattle.ml_http.specs.Step.{shown_of}
+use Rattle.ml_answer.specs.MapView.{shown_of}
 
 -- these rows have these numbers, in order
 pub record HaveNumbers (rows : List Row) (numbers : List ℕ) (shown : List Row) : Type 0 where

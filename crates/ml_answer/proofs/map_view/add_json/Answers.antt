@@ -1,7 +1,7 @@
 use Rattle.std.proofs.Common.{ap, ◌∙◌}
 use Rattle.std.proofs.lemmas.Result.{on_ok_weaker}
 use Rattle.ml_answer.specs.View.{with_label}
-use Rattle.ml_http.proofs.view.add_json.Goals as goal
+use Rattle.ml_answer.proofs.map_view.add_json.Goals as goal
 
 pub returns : goal.returns
 returns c =

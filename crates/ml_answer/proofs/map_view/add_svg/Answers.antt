@@ -1,7 +1,7 @@
 use Rattle.std.proofs.Common.{ap, ◌∙◌, ◌++◌}
 use Rattle.std.proofs.lemmas.Result.{on_ok_weaker}
 use Rattle.ml_answer.specs.Svg.{SvgViewState, label_lines}
-use Rattle.ml_http.proofs.view.add_svg.Goals as goal
+use Rattle.ml_answer.proofs.map_view.add_svg.Goals as goal
 
 pub returns : goal.returns
 returns c =

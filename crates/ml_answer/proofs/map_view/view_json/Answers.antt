@@ -6,8 +6,8 @@ use Rattle.ml_store.specs.Rows.{IsLive}
 use Rattle.ml_repair.specs.Shown.{AreShownNumbers}
 use Rattle.ml_answer.specs.View.{no_label}
 use Rattle.ml_answer.specs.Svg.{head_line}
-use Rattle.ml_http.proofs.ViewLemmas.{one_more_number, json_more}
-use Rattle.ml_http.proofs.view.json_view.Goals as goal
+use Rattle.ml_answer.proofs.MapViews.{one_more_number, json_more}
+use Rattle.ml_answer.proofs.map_view.view_json.Goals as goal
 
 pub add_json-requires : goal.add_json-requires
 add_json-requires c =
