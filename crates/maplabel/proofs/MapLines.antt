@@ -21,7 +21,7 @@ use Rattle.ml_repair.proofs.OneRow.{one_number}
 use Rattle.ml_editor.specs.State.{State, first_state}
 use Rattle.ml_answer.specs.MapView.{IsViewText, json_body, shown_of}
 use Rattle.ml_answer.specs.View.{view_text}
-use Rattle.maplabel.specs.Answers.{IsMapLine}
+use Rattle.maplabel.specs.Answers.{IsMapView}
 use Rattle.maplabel.specs.ViewLine.{shown_at}
 
 -- a list of slots, of which each is what may be had at its place
@@ -116,7 +116,7 @@ module _ (rows : List Row) (own : HaveOwnNumbers rows) (slots : List Slot) (unti
       ap (λ o. cons_option o (filter_map (shown_at (labels_in rows) slots) places)) first ∙ ap (λ ss. shown_of r ∷ ss) rest
 
 -- the text of a view and the end of a line are the line of the view
-pub map_lined : (classes : Style) (features : List Feature) (s : State) (view : View) (text line : List ℕ) → s ≡ first_state classes features → IsViewText json_body s view text → line ≡ text ++ codes "\n" → IsMapLine classes features view line
+pub map_lined : (classes : Style) (features : List Feature) (s : State) (view : View) (text line : List ℕ) → s ≡ first_state classes features → IsViewText json_body s view text → line ≡ text ++ codes "\n" → IsMapView classes features view line
 map_lined classes features s view text line is (rows, its, (shown, are, body)) end =
     let placed = slots_by_place rows its.settled.slots in
     let places = are.numbers.places in

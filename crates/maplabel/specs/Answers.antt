@@ -49,8 +49,8 @@ IsTableText labels Gaps text = IsGapsOf labels text
 IsTableText labels (GapView view) text = IsGapViewOf labels view text
 
 -- the text is the line of a view of the labels of features under a style
-abbrev pub IsMapLine : Style → List Feature → View → List ℕ → Type 0
-IsMapLine classes features view text = (labels : List Label) × AreLabelsOf classes features labels × IsViewOf labels view text
+abbrev pub IsMapView : Style → List Feature → View → List ℕ → Type 0
+IsMapView classes features view text = (labels : List Label) × AreLabelsOf classes features labels × IsViewOf labels view text
 
 -- the text is the zoom timeline of the labels of features under a style
 abbrev pub IsMapZoom : Style → List Feature → Window → List ℕ → Type 0
@@ -58,7 +58,7 @@ IsMapZoom classes features window text = (labels : List Label) × AreLabelsOf cl
 
 -- the text is what is asked of the labels of features under a style
 abbrev pub IsTextOf : Style → List Feature → MapTask → List ℕ → Type 0
-IsTextOf classes features (ShowMap view) text = IsMapLine classes features view text
+IsTextOf classes features (ShowMap view) text = IsMapView classes features view text
 IsTextOf classes features (Zoom window) text = IsMapZoom classes features window text
 
 -- the text is what is asked of the named table

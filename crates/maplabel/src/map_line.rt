@@ -2,7 +2,7 @@
 ghost use Rattle.std.specs.Prelude.{◌≡◌, ◌≤◌, IfOk, length};
 ghost use Rattle.ml_geojson.specs.Map.{HaveDifferentIds};
 ghost use Rattle.ml_editor.specs.State.{first_state};
-ghost use Rattle.maplabel.specs.Answers.{IsMapLine};
+ghost use Rattle.maplabel.specs.Answers.{IsMapView};
 
 use ml_answer::view_json;
 use ml_cone::View;
@@ -24,7 +24,7 @@ pub fn map_line(
 ) -> Result<Seq<u8>, AllocError>
     requires differ { HaveDifferentIds features }
     requires few { length features ≤ 32768 }
-    ensures { IfOk result (IsMapLine style features view.now) }
+    ensures { IfOk result (IsMapView style features view.now) }
 {
     let editor = loaded(alloc, style, features)?;
     let mut line = view_json(alloc, &editor, view)?;
