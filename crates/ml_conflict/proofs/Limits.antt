@@ -4,7 +4,7 @@ use Rattle.std.proofs.lemmas.Bool.{cases_lt}
 use Rattle.ml_ratio.specs.Fraction.{Fraction, value_of, IsLess, IsAtMost, IsSame}
 use Rattle.ml_cone.specs.Overlap.{Overlap}
 use Rattle.ml_cone.specs.Choice.{IsEnd, Allows, IsLimit, CoversFrom}
-use Rattle.ml_conflict.specs.Begin.{Begins, Clear, Covers, IsBlock}
+use Rattle.ml_conflict.specs.Begin.{Begins, Clear, Covers, IsBlock, SetsNoneUpTo}
 use Rattle.ml_cone.specs.declared.label.Label.{Label}
 use Rattle.ml_ratio.proofs.Fractions.{less_at_most, at_most_less, at_most_trans, middle, middle_above, middle_below, greater_of, scale_above}
 use Rattle.ml_conflict.proofs.Greedy.{Allows-smaller}
@@ -133,3 +133,30 @@ start_from p q a b start both one two s =
 -- the bound itself is the block
 pub block_none : (low high : Label) (u bound : Fraction) → Allows low high u bound → IsBlock low high u bound bound
 block_none low high u bound allowed = record { to = omega arith; limit = λ h. absurd (omega arith); allowed = λ _. allowed }
+
+-- ---- limits up to a bound
+
+-- where the maximum is allowed, there is no limit below it
+pub none_of_allowed : (low high : Label) (u bound : Fraction) → Allows low high u (value_of low.max) → SetsNoneUpTo low high u bound
+none_of_allowed low high u bound allowed f limit below =
+    let range : IsLess (value_of low.min) (value_of low.max) = low.range in
+    let most : IsAtMost (value_of low.max) f = limit.greatest (value_of low.max) (omega arith, omega arith) allowed in
+    absurd (omega arith)
+
+-- where the limit lies above the bound, no limit is up to it
+pub none_of_above : (low high : Label) (u bound g : Fraction) → IsLimit low high u g → IsLess bound g → SetsNoneUpTo low high u bound
+none_of_above low high u bound g limit above f other below =
+    less_at_most bound g f above (other.greatest g limit.is_end limit.allowed)
+
+-- a bound up to which no limit is set is allowed
+pub allowed_up_to : (low high : Label) (u bound : Fraction) → IsAtMost bound (value_of low.max) → SetsNoneUpTo low high u bound → Allows low high u bound
+allowed_up_to low high u bound most none =
+    let g = has_limit low high u in
+    elim (cases_lt (g.0.num * low.max.den) (low.max.num * g.0.den)) [
+      | inl less ↦
+          let above : IsLess bound g.0 = none g.0 g.1 less in
+          Allows-smaller low high u u bound g.0 (omega arith) (omega arith) g.1.allowed
+      | inr more ↦
+          let upto : IsAtMost bound g.0 = at_most_trans bound (value_of low.max) g.0 most more in
+          Allows-smaller low high u u bound g.0 (omega arith) upto g.1.allowed
+    ]

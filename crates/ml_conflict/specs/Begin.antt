@@ -1,4 +1,4 @@
-use Rattle.ml_ratio.specs.Fraction.{Fraction, IsLess, IsAtMost, IsScale}
+use Rattle.ml_ratio.specs.Fraction.{Fraction, value_of, IsLess, IsAtMost, IsScale}
 use Rattle.ml_cone.specs.Choice.{IsLimit, Allows}
 use Rattle.ml_cone.specs.declared.label.Label.{Label}
 
@@ -22,3 +22,7 @@ pub record IsBlock (low high : Label) (u bound f : Fraction) : Type 0 where
   pub to : IsAtMost f bound
   pub limit : IsLess f bound → IsLimit low high u f
   pub allowed : IsAtMost bound f → Allows low high u bound
+
+-- a limit below the maximum that `high`, active until u, sets `low` lies above the bound
+abbrev pub SetsNoneUpTo : Label → Label → Fraction → Fraction → Type 0
+SetsNoneUpTo low high u bound = (f : Fraction) → IsLimit low high u f → IsLess f (value_of low.max) → IsLess bound f

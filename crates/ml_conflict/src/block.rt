@@ -4,7 +4,7 @@ ghost use Rattle.ml_ratio.specs.Fraction.{value_of, IsLess, IsAtMost};
 ghost use Rattle.ml_cone.specs.Choice.{Allows, IsLimit};
 ghost use Rattle.ml_cone.specs.Rivals.{AreRivals};
 ghost use Rattle.ml_conflict.specs.Quotient.{worth};
-ghost use Rattle.ml_conflict.specs.Begin.{IsBlock};
+ghost use Rattle.ml_conflict.specs.Begin.{IsBlock, SetsNoneUpTo};
 
 use crate::begin::begin_all;
 use crate::quotient::Quotient;
@@ -41,6 +41,27 @@ pub fn first_block(low: &Label, high: &Label, until: &Ratio) -> Option<Ratio>
     } else {
         None
     }
+}
+
+/// The limit that `high`, active until `until`, sets `low`, where that is below the maximum of `low`
+/// and at most the bound. It takes no memory, and brings a fraction to lowest terms only where it
+/// answers one.
+///
+/// None exactly where a limit below the maximum lies above the bound, or there is none.
+pub fn limit_up_to(low: &Label, high: &Label, until: &Ratio, bound: &Ratio) -> Option<Ratio>
+    ensures some { IfSome result (λ f. IsLimit low.now high.now (value_of until.now) (value_of f)) }
+    ensures below { IfSome result (λ f. IsLess (value_of f) (value_of low.now.max) × IsAtMost (value_of f) (value_of bound.now)) }
+    ensures none { IfNone result (SetsNoneUpTo low.now high.now (value_of until.now) (value_of bound.now)) }
+{
+    let max = Quotient::of_ratio(&low.max());
+    let first = block(low, high, until, max);
+    if !first.is_less(max) {
+        return None;
+    }
+    if Quotient::of_ratio(bound).is_less(first) {
+        return None;
+    }
+    Some(first.reduced())
 }
 
 /// Whether the two are rivals: at some scale in both selectable ranges they overlap.

@@ -8,6 +8,7 @@ ghost use Rattle.ml_cone.specs.Slots.{Rival, IsOwnSlot, HaveOwnSlots, AreSlots};
 ghost use Rattle.ml_cone.specs.Sound.{IsSound};
 ghost use Rattle.ml_cone.specs.declared.label.Label.{Label};
 ghost use Rattle.ml_cone.specs.declared.slot.Slot.{Slot};
+ghost use Rattle.ml_conflict.specs.Begin.{SetsNoneUpTo};
 ghost use Rattle.ml_conflict.specs.Carried.{holds, AreCarried, AreJoined};
 
 /// A choice in which each label's end is the least of its maximum and the limits that the labels
@@ -63,6 +64,11 @@ pub fn smaller_ends()
 /// A limit is one by value: of the limit, and of the end until which the other label is active.
 pub fn same_limits()
     ensures { (low high : Label) (u v f g : Fraction) → IsSame u v → IsSame f g → IsLimit low high u f → IsLimit low high v g }
+{}
+
+/// A bound in a label's range is allowed by another that sets it no limit up to there.
+pub fn allowed_up_to()
+    ensures { (low high : Label) (u bound : Fraction) → IsAtMost bound (value_of low.max) → SetsNoneUpTo low high u bound → Allows low high u bound }
 {}
 
 /// Two labels are rivals, or the one sets the other no limit even where it is active up to its

@@ -2,7 +2,8 @@
 //!
 //! - `scales`: the open interval of scales at which two boxes overlap ([`interval`]);
 //! - `begin`: where labels begin to overlap; `block`: the limit that one label sets another
-//!   ([`first_block`]), and whether they are rivals ([`are_rivals`]);
+//!   ([`first_block`]), the same where a bound holds it ([`limit_up_to`]), and whether they are
+//!   rivals ([`are_rivals`]);
 //! - [`rivals`]: the list of rivals of a label, and its slot among them ([`evaluate`]);
 //! - `quotient`: fractions that are not reduced, for the comparisons in between;
 //! - [`laws`]: what makes a choice of active ranges the longest.
@@ -15,6 +16,6 @@ mod quotient;
 pub mod rivals;
 mod scales;
 
-pub use block::{are_rivals, first_block};
+pub use block::{are_rivals, first_block, limit_up_to};
 pub use rivals::{RivalList, evaluate};
 pub use scales::interval;

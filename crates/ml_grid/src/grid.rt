@@ -1,19 +1,19 @@
 //! The grid.
-ghost use Rattle.std.specs.Prelude.{◌≡◌, ◌+◌, ◌≤◌, [], max, length, OnOk, OnErr};
+ghost use Rattle.std.specs.Prelude.{ℕ, ◌≡◌, ◌+◌, ◌≤◌, ◌↔◌, [], max, length, Contains, OnOk, OnErr, IfOk};
 ghost use Rattle.std.specs.Ordering.{nat_cmp};
 ghost use Rattle.ml_ratio.specs.RatioOrder.{ratio_cmp};
 ghost use Rattle.ml_spans.specs.Order.{entry_order, IsRising};
 ghost use Rattle.ml_grid.specs.Cell.{cell_cmp};
 ghost use Rattle.ml_grid.specs.Count.{entry_count};
 ghost use Rattle.ml_grid.specs.Entry.{IsEntryOf, Adds, Drops, IsFree, AreEntriesOf};
-ghost use Rattle.ml_grid.specs.Found.{Appends, AppendsFirst, IsInHull, IsSeen};
+ghost use Rattle.ml_grid.specs.Found.{Appends, AppendsFirst, IsInHull, IsInHullFrom, IsNumberOf, IsSeen};
 
 use crate::bands::entries_of;
 use crate::find::{append, append_counted, ascending, find_cells, find_cells_from};
 use crate::keep::{Tree, add_all, drop_all};
 use crate::window::window_cells;
 use ml_cone::{Label, Span, View, hull};
-use ml_ratio::{Seq, Steps};
+use ml_ratio::{Ratio, Seq, Steps};
 use ml_spans::SpanTree;
 use std::alloc::{AllocError, Global};
 use std::marker::Model;
@@ -118,6 +118,26 @@ impl Grid {
         let mut found = out.emptied();
         find_cells(&self.tree, &hull(label, band), &mut found)?;
         append(&ascending(found), out)
+    }
+
+    /// The numbers that have an entry in the band in a cell of the label's hull there, with an end of at
+    /// least the scale, in whatever order and however often. The band is at most 27.
+    ///
+    /// # Errors
+    /// Want of memory.
+    pub fn near_from(
+        &self,
+        alloc: Global,
+        label: &Label,
+        band: u8,
+        scale: &Ratio,
+    ) -> Result<Seq<u32>, AllocError>
+        requires { band ≤ 27 }
+        ensures { IfOk result (λ numbers. (n : ℕ) → Contains numbers n ↔ IsNumberOf (IsInHullFrom label.now band scale.now) self.now.entries n) }
+    {
+        let mut found = Seq::new(alloc);
+        find_cells_from(&self.tree, &hull(label, band), scale, &mut found)?;
+        Ok(found)
     }
 
     /// Appends the numbers that have an entry in the band of the view's scale, in a cell whose square meets

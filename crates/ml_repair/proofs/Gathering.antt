@@ -1,19 +1,25 @@
 -- Places that are gathered band by band.
-use Rattle.std.proofs.Common.{◌≡◌, ℕ, zero, suc, ◌+◌, ◌^◌, ◌<◌, ◌≤◌, Bool, true, List, [], ◌∷◌, length, get_or, take, Contains, ◌⊎◌, inl, inr, refl, sym, subst, arith}
+use Rattle.std.proofs.Common.{◌≡◌, ℕ, zero, suc, ◌+◌, ◌^◌, ◌<◌, ◌≤◌, Bool, true, List, [], ◌∷◌, length, get_or, take, ◌++◌, Contains, ◌⊎◌, inl, inr, refl, sym, ap, subst, arith}
 use Rattle.std.specs.Prelude.{◌↔◌, All}
 use Rattle.std.proofs.Math.Nat.{pow-le-pow_right}
 use Rattle.std.proofs.lemmas.Bool.{cases_lt}
 use Rattle.std.proofs.lemmas.Nat.{mul-le}
 use Rattle.std.proofs.lemmas.List.{take_more, get_or_default}
 use Rattle.std.proofs.lemmas.List.Elements.{Contains-append_left, Contains-push, Contains-push_cases}
-use Rattle.ml_ratio.specs.Fraction.{Fraction, value_of}
+use Rattle.ml_ratio.specs.Fraction.{Fraction, value_of, IsLess, IsAtMost}
 use Rattle.ml_ratio.specs.Band.{IsInBand, MeetsBand}
 use Rattle.ml_ratio.specs.declared.ratio.Ratio.{Ratio}
+use Rattle.ml_ratio.proofs.Fractions.{at_most_less, at_most_trans}
+use Rattle.ml_cone.specs.Choice.{IsLimit}
+use Rattle.ml_cone.specs.Slots.{ends}
 use Rattle.ml_cone.specs.declared.label.Label.{Label}
+use Rattle.ml_cone.specs.declared.slot.Slot.{Slot}
+use Rattle.ml_conflict.specs.Begin.{SetsNoneUpTo}
+use Rattle.ml_store.specs.Rows.{labels_in, slots_in}
 use Rattle.ml_store.specs.declared.row.Row.{Row}
 use Rattle.ml_repair.specs.declared.edit.Moved.{Moved}
-use Rattle.ml_repair.specs.Roster.{AreFound, IsFoundAt}
-use Rattle.ml_repair.specs.Repair.{Stands, IsBoundBy, AreEnough, AreSifted}
+use Rattle.ml_repair.specs.Roster.{IsFoundAt}
+use Rattle.ml_repair.specs.Repair.{Stands, IsBoundBy, ReachesBand, AreReaching, Counts, AreEnough, AreSifted, present_slots}
 
 -- ---- bands
 
@@ -43,54 +49,107 @@ band_from low high k b meets in' =
       | inr more ↦ more
     ]
 
--- ---- places that stand
-
-pub standing_more : (at : ℕ) (comes : Bool) (i : ℕ) (places before out next : List ℕ) (k : ℕ) → k < length places →
-    ((p : ℕ) → Contains out p ↔ (Contains before p ⊎ (Contains (take k places) p × Stands comes true at i p))) →
-    ((p : ℕ) → Contains next p ↔ (Contains out p ⊎ ((p ≡ get_or places k 0) × Stands comes true at i (get_or places k 0)))) →
-    (p : ℕ) → Contains next p ↔ (Contains before p ⊎ (Contains (take (k + 1) places) p × Stands comes true at i p))
-standing_more at comes i places before out next k lt so_far one p =
-    let q : ℕ = get_or places k 0 in
-    let e = take_more places k 0 lt in (
-      λ h. elim ((one p).0 h) [
-        | inl old ↦ elim ((so_far p).0 old) [
-          | inl was ↦ inl was
-          | inr some ↦ inr (rw e (Contains-append_left (take k places) (q ∷ []) p some.0), some.1)
-        ]
-        | inr new ↦ inr (rw (e, new.0) (Contains-push (take k places) q), rw new.0 new.1)
-      ],
-      λ h. elim h [
-        | inl was ↦ (one p).1 (inl ((so_far p).1 (inl was)))
-        | inr some ↦ elim (Contains-push_cases (take k places) q p (rw e at some.0)) [
-          | inl old ↦ (one p).1 (inl ((so_far p).1 (inr (old, some.1))))
-          | inr same ↦ (one p).1 (inr (sym same, rw same some.1))
-        ]
-      ],
-    )
-
-pub sifted : (rows : List Row) (low : Label) (at : ℕ) (comes : Bool) (i k : ℕ) (found before after : List ℕ) → AreFound rows low k [] found →
-    ((p : ℕ) → Contains after p ↔ (Contains before p ⊎ (Contains found p × Stands comes true at i p))) → AreSifted rows low at comes i k before after
-sifted rows low at comes i k found before after are came = record {
-  kept = λ p h. (came p).1 (inl h);
-  sound = λ p h. elim ((came p).0 h) [ inl old ↦ inl old | inr new ↦ inr new.1 ];
-  whole = λ p stands h. (came p).1 (inr (are.whole p h, stands));
-}
-
 -- ---- bounds
 
 pub bound_more : (rows : List Row) (moved : List Moved) (low : Label) (few many : List ℕ) (bound : Ratio) → ((p : ℕ) → Contains few p → Contains many p) → IsBoundBy rows moved low few bound → IsBoundBy rows moved low many bound
 bound_more rows moved low few many bound all h = elim h [ inl most ↦ inl most | inr some ↦ inr (some.0, all some.0 some.1, some.2) ]
 
-pub bound_step : (rows : List Row) (moved : List Moved) (low : Label) (places : List ℕ) (place : ℕ) (old new : Ratio) → Contains places place → IsBoundBy rows moved low places old → (new ≡ old) ⊎ IsBoundBy rows moved low (place ∷ []) new → IsBoundBy rows moved low places new
-bound_step rows moved low places place old new there was h =
-    elim h [
-      | inl same ↦ subst (IsBoundBy rows moved low places) (sym same) was
-      | inr one ↦ bound_more rows moved low (place ∷ []) places new (λ p c. only p c.0 c.1 c.2) one
+-- ---- the scale that is searched from
+
+-- where no label has a new slot, each has its own
+pub present_unmoved : (rows : List Row) → present_slots rows [] ≡ slots_in rows
+present_unmoved [] = refl
+present_unmoved (r ∷ rows) = ap (λ (slots : List Slot). r.slot ∷ slots) (present_unmoved rows)
+
+-- a range that reaches into a band lasts until the scale at which the band starts
+pub reaching_lasts : (k : ℕ) (scale : Ratio) (u : Fraction) → (k ≡ 0 → scale.num ≡ 0) → (0 < k → scale.num ≡ 2 ^ k) → scale.den ≡ 1 → ReachesBand k u → IsAtMost (value_of scale) u
+reaching_lasts k scale u first num den reaches =
+    elim (cases_lt 0 k) [
+      | inl some ↦ let n = num some in let h = reaches some in rw (n, den) (omega arith)
+      | inr none ↦ let n = first (omega arith) in rw (n, den) (omega arith)
     ]
+
+-- ---- places that are sifted
+
+-- the only place of a list of one
+one_only : (q p : ℕ) → Contains (q ∷ []) p → q ≡ p
+one_only q p h = go h.0 h.1 h.2
   where
-    only : (p k : ℕ) → k < length (place ∷ []) → get_or (place ∷ []) k p ≡ p → Contains places p
-    only p zero lt e = subst (Contains places) e there
-    only p (suc k) lt e = absurd (omega arith)
+    go : (k : ℕ) → k < length (q ∷ []) → get_or (q ∷ []) k p ≡ p → q ≡ p
+    go zero lt e = e
+    go (suc k) lt e = absurd (omega arith)
+
+module _ (rows : List Row) (moved : List Moved) (low : Label) where
+  -- what counts goes on to count as more places come in and the bound goes down
+  pub counts_more : (bound next : Ratio) (few many : List ℕ) → ((p : ℕ) → Contains few p → Contains many p) → IsAtMost (value_of next) (value_of bound) → (p : ℕ) → Counts rows moved low bound few p → Counts rows moved low next many p
+  counts_more bound next few many all upto p h =
+      elim h [ inl there ↦ inl (all p there) | inr none ↦ inr (λ d f limit below. at_most_less (value_of next) (value_of bound) f upto (none d f limit below)) ]
+
+  module _ (at : ℕ) (comes : Bool) (i : ℕ) where
+    pub sifted_none : (bound : Ratio) (places : List ℕ) → AreSifted rows moved low at comes i [] bound bound places places
+    sifted_none bound places = record {
+      kept = λ p h. h;
+      sound = λ p h. inl h;
+      bound_is = λ h. h;
+      upto = omega arith;
+      whole = λ p h s. absurd (let lt : h.0 < 0 = h.1 in omega arith);
+    }
+
+    -- one more place
+    pub sifted_more : (found before middle after : List ℕ) (bound mid next : Ratio) (k : ℕ) → k < length found → AreSifted rows moved low at comes i (take k found) bound mid before middle →
+        AreSifted rows moved low at comes i (get_or found k 0 ∷ []) mid next middle after → AreSifted rows moved low at comes i (take (k + 1) found) bound next before after
+    sifted_more found before middle after bound mid next k lt one two' =
+        let q : ℕ = get_or found k 0 in
+        let e = take_more found k 0 lt in
+        record {
+          kept = λ p h. two'.kept p (one.kept p h);
+          sound = λ p h. elim (two'.sound p h) [ inl old ↦ one.sound p old | inr new ↦ inr new ];
+          bound_is = λ h. two'.bound_is (one.bound_is h);
+          upto = at_most_trans (value_of next) (value_of mid) (value_of bound) two'.upto one.upto;
+          whole = λ p h s.
+              elim (Contains-push_cases (take k found) q p (rw e at h)) [
+                | inl old ↦ counts_more mid next middle after two'.kept two'.upto p (one.whole p old s)
+                | inr same ↦ two'.whole p (0, omega arith, same) s
+              ];
+        }
+
+    -- a place that does not stand before i
+    pub sifted_apart : (place : ℕ) (bound : Ratio) (places : List ℕ) → ¬ (Stands comes true at i place) → AreSifted rows moved low at comes i (place ∷ []) bound bound places places
+    sifted_apart place bound places apart = record {
+      kept = λ p h. h;
+      sound = λ p h. inl h;
+      bound_is = λ h. h;
+      upto = omega arith;
+      whole = λ p h s. absurd (apart (subst (Stands comes true at i) (sym (one_only place p h)) s));
+    }
+
+    -- a place whose label sets no limit up to the bound
+    pub sifted_idle : (place : ℕ) (bound : Ratio) (places : List ℕ) → ((d : Label) → SetsNoneUpTo low (get_or (labels_in rows) place d) (ends (present_slots rows moved) place) (value_of bound)) →
+        AreSifted rows moved low at comes i (place ∷ []) bound bound places places
+    sifted_idle place bound places none = record {
+      kept = λ p h. h;
+      sound = λ p h. inl h;
+      bound_is = λ h. h;
+      upto = omega arith;
+      whole = λ p h s. subst (Counts rows moved low bound places) (one_only place p h) (inr none);
+    }
+
+    -- a place whose label sets a limit up to the bound
+    pub sifted_limit : (place : ℕ) (bound limit : Ratio) (before after : List ℕ) → Stands comes true at i place → ((d : Label) → IsLimit low (get_or (labels_in rows) place d) (ends (present_slots rows moved) place) (value_of limit)) →
+        IsAtMost (value_of limit) (value_of bound) → after ≡ before ++ place ∷ [] → AreSifted rows moved low at comes i (place ∷ []) bound limit before after
+    sifted_limit place bound limit before after stands sets upto pushed =
+        let there : Contains after place = subst (λ (xs : List ℕ). Contains xs place) (sym pushed) (Contains-push before place) in
+        record {
+          kept = λ p h. subst (λ (xs : List ℕ). Contains xs p) (sym pushed) (Contains-append_left before (place ∷ []) p h);
+          sound = λ p h.
+              elim (Contains-push_cases before place p (subst (λ (xs : List ℕ). Contains xs p) pushed h)) [
+                | inl old ↦ inl old
+                | inr same ↦ inr (subst (Stands comes true at i) same stands)
+              ];
+          bound_is = λ h. inr (place, there, sets);
+          upto = upto;
+          whole = λ p h s. inl (subst (Contains after) (one_only place p h) there);
+        }
 
 -- ---- all bands up to that of the bound
 
@@ -98,24 +157,26 @@ bound_step rows moved low places place old new there was h =
 pub record GatheredBelow (rows : List Row) (moved : List Moved) (low : Label) (at : ℕ) (comes : Bool) (i first band : ℕ) (bound : Ratio) (places : List ℕ) : Type 0 where
   pub stand : (p : ℕ) → Contains places p → Stands comes true at i p
   pub bound_is : IsBoundBy rows moved low places bound
-  pub whole : (p k : ℕ) → Stands comes true at i p → IsFoundAt rows low k p → first ≤ k → k < band → Contains places p
+  pub whole : (p k : ℕ) → Stands comes true at i p → IsFoundAt rows low k p → ReachesBand k (ends (present_slots rows moved) p) → first ≤ k → k < band → Counts rows moved low bound places p
 
 module _ (rows : List Row) (moved : List Moved) (low : Label) (at : ℕ) (comes : Bool) (i first : ℕ) where
   pub gathered_none : GatheredBelow rows moved low at comes i first first low.max []
   gathered_none = record {
     stand = λ p h. absurd (let lt : h.0 < 0 = h.1 in omega arith);
     bound_is = inl refl;
-    whole = λ p k s f a b. absurd (omega arith);
+    whole = λ p k s f r a b. absurd (omega arith);
   }
 
-  pub gathered_more : (band : ℕ) (bound next : Ratio) (places more : List ℕ) → GatheredBelow rows moved low at comes i first band bound places → AreSifted rows low at comes i band places more → IsBoundBy rows moved low more next →
-      GatheredBelow rows moved low at comes i first (band + 1) next more
-  gathered_more band bound next places more so_far are is = record {
+  pub gathered_more : (band : ℕ) (bound next : Ratio) (places more found : List ℕ) → GatheredBelow rows moved low at comes i first band bound places → AreReaching rows moved low band found →
+      AreSifted rows moved low at comes i found bound next places more → GatheredBelow rows moved low at comes i first (band + 1) next more
+  gathered_more band bound next places more found so_far all are = record {
     stand = λ p h. elim (are.sound p h) [ inl old ↦ so_far.stand p old | inr new ↦ new ];
-    bound_is = is;
-    whole = λ p k s f a b. elim (cases_lt k band) [
-      | inl less ↦ are.kept p (so_far.whole p k s f a less)
-      | inr here ↦ let e : k ≡ band = omega arith in are.whole p s (subst (λ (b : ℕ). IsFoundAt rows low b p) e f)
+    bound_is = are.bound_is so_far.bound_is;
+    whole = λ p k s f r a b. elim (cases_lt k band) [
+      | inl less ↦ counts_more rows moved low bound next places more are.kept are.upto p (so_far.whole p k s f r a less)
+      | inr here ↦
+          let e : k ≡ band = omega arith in
+          are.whole p (all.whole p (subst (λ (b : ℕ). IsFoundAt rows low b p) e f) (subst (λ (b : ℕ). ReachesBand b (ends (present_slots rows moved) p)) e r)) s
     ];
   }
 
@@ -125,12 +186,12 @@ module _ (rows : List Row) (moved : List Moved) (low : Label) (at : ℕ) (comes 
     stand = λ p h. done.stand p ((same p).0 h);
     bound = bound;
     bound_is = bound_more rows moved low places sorted bound (λ p h. (same p).1 h) done.bound_is;
-    whole = λ p k s f meets.
+    whole = λ p k s f meets r.
         let from = band_from (value_of low.min) (value_of bound) k first meets starts in
         let upto = band_up_to (value_of low.min) (value_of bound) k b meets ends' in
         let few : k < 28 = (f.1 low).kept.low in
         let below : k < band = elim stop [ inl h ↦ omega arith | inr h ↦ omega arith ] in
-        (same p).1 (done.whole p k s f from below);
+        counts_more rows moved low bound bound places sorted (λ q h. (same q).1 h) (omega arith) p (done.whole p k s f r from below);
   }
 
 -- the places that stand before i are places of the list

@@ -1,20 +1,24 @@
 -- What a search finds in a list of which one row may go, and into which one may come.
 use Rattle.std.proofs.Common.{◌≡◌, ◌≢◌, ℕ, zero, suc, ◌+◌, ◌-◌, ◌<◌, ◌≤◌, List, [], ◌∷◌, length, get_or, take, Contains, ◌⊎◌, inl, inr, refl, sym, ap, ◌∙◌, subst, arith, Option, Some, None}
-use Rattle.std.specs.Prelude.{insert, All, IfSome, IsSome}
+use Rattle.std.specs.Prelude.{◌↔◌, insert, All, IfSome, IsSome}
 use denote.Ref.{Bor}
 use Rattle.std.proofs.lemmas.Bool.{cases_lt, cases_eq, false≢true}
 use Rattle.std.proofs.lemmas.List.{get_or_default, get_or-map, length-map, take_more, take_all}
 use Rattle.std.proofs.lemmas.List.Edits.{length-insert, get_or-insert_below}
 use Rattle.std.proofs.lemmas.List.Elements.{Contains-append_left, Contains-push, Contains-push_cases}
+use Rattle.ml_ratio.specs.Fraction.{value_of, IsAtMost}
+use Rattle.ml_ratio.specs.declared.ratio.Ratio.{Ratio}
+use Rattle.ml_cone.specs.Slots.{no_slot}
 use Rattle.ml_cone.specs.declared.label.Label.{Label}
-use Rattle.ml_store.specs.Rows.{numbers_in, labels_in, IsFresh, HaveOwnNumbers}
-use Rattle.ml_store.specs.Search.{IsFoundIn, IsNumberWith, Gathers}
+use Rattle.ml_cone.specs.declared.slot.Slot.{Slot}
+use Rattle.ml_store.specs.Rows.{numbers_in, labels_in, slots_in, IsFresh, HaveOwnNumbers}
+use Rattle.ml_store.specs.Search.{IsFoundIn, IsFoundFrom, IsNumberWith, Gathers}
 use Rattle.ml_store.specs.Table.{IsRowAt}
 use Rattle.ml_store.specs.declared.row.Row.{Row}
 use Rattle.ml_store.proofs.Fresh.{differ_inserted, differ_removed}
 use Rattle.ml_store.proofs.Lists.{added_remove, added_insert, added_has, all_longer, all_shorter, map_insert, map_remove}
 use Rattle.ml_store.proofs.Naming.{number_read}
-use Rattle.ml_repair.specs.Roster.{left_rows, joined_rows, AreNumbered, AreFound, PlacesCame}
+use Rattle.ml_repair.specs.Roster.{left_rows, joined_rows, AreNumbered, AreFound, AreFoundFrom, PlacesCame}
 use Rattle.ml_repair.proofs.Rosters.{joined_above, left_most}
 
 pub row_there : (rows : List Row) (j : ℕ) → j < length rows → (r : Row) × (r ≡ get_or rows j r)
@@ -53,34 +57,71 @@ row_from (Some row) at gone rows p in' le lt =
 pub label_read : (rows : List Row) (p : ℕ) (r : Row) (d : Label) → p < length rows → r ≡ get_or rows p r → get_or (labels_in rows) p d ≡ r.label
 label_read rows p r d lt read = get_or-map (λ (t : Row). t.label) rows p r d lt ∙ ap (λ (t : Row). t.label) (sym read)
 
+pub slot_read : (rows : List Row) (p : ℕ) (r : Row) (d : Slot) → p < length rows → r ≡ get_or rows p r → get_or (slots_in rows) p d ≡ r.slot
+slot_read rows p r d lt read = get_or-map (λ (t : Row). t.slot) rows p r d lt ∙ ap (λ (t : Row). t.slot) (sym read)
+
+-- a place that comes is a place of the list
+come_within : (come : Option (Bor Row)) (at : ℕ) (gone : Option ℕ) (rows : List Row) → IfSome come (λ row. at ≤ length (left_rows gone rows)) → IsSome come → at < length (joined_rows come at (left_rows gone rows))
+come_within None at _ rows le some = absurd (false≢true some)
+come_within (Some row) at gone rows le some = let long = length-insert (left_rows gone rows) at row.now le in omega arith
+
+module _ (come : Option (Bor Row)) (at : ℕ) (gone : Option ℕ) (rows : List Row) (Q : Row → Type 0) (numbers before middle after : List ℕ)
+    (in' : IfSome gone (λ g. g < length rows)) (le : IfSome come (λ row. at ≤ length (left_rows gone rows))) (found : (n : ℕ) → Contains numbers n ↔ IsNumberWith Q rows n)
+    (came : PlacesCame (joined_rows come at (left_rows gone rows)) numbers before middle) (last : Gathers (λ p. IsSome come × (p ≡ at)) middle after) where
+  -- what came in are places of the list
+  place_there : (p : ℕ) → Contains after p → Contains before p ⊎ (p < length (joined_rows come at (left_rows gone rows)))
+  place_there p h =
+      elim ((last p).0 h) [
+        | inl m ↦ elim ((came p).0 m) [
+          | inl old ↦ inl old
+          | inr new ↦ inr new.2.0
+        ]
+        | inr one ↦ inr (rw one.1 (come_within come at gone rows le one.0))
+      ]
+
+  -- and the place of each row with the property is among them
+  place_found : (p : ℕ) → p < length (joined_rows come at (left_rows gone rows)) → ((r : Row) → r ≡ get_or (joined_rows come at (left_rows gone rows)) p r → Q r) → Contains after p
+  place_found p lt has =
+      elim (row_from come at gone rows p in' le lt) [
+        | inl one ↦ (last p).1 (inr one)
+        | inr some ↦
+            let r : Row = some.0 in
+            let number = (found r.number).1 (r, some.1, refl, has r some.2) in
+            (last p).1 (inl ((came p).1 (inr (r.number, number, (lt, number_read (joined_rows come at (left_rows gone rows)) p r lt some.2)))))
+      ]
+
 pub near_found : (come : Option (Bor Row)) (at : ℕ) (gone : Option ℕ) (rows : List Row) (a : Label) (k : ℕ) (numbers before middle after : List ℕ) →
     IfSome gone (λ g. g < length rows) → IfSome come (λ row. at ≤ length (left_rows gone rows)) →
     Gathers (IsNumberWith (λ r. IsFoundIn a r.label k) rows) [] numbers → PlacesCame (joined_rows come at (left_rows gone rows)) numbers before middle → Gathers (λ p. IsSome come × (p ≡ at)) middle after →
     AreFound (joined_rows come at (left_rows gone rows)) a k before after
-near_found come at gone rows a k numbers before middle after in' le found came last = record {
-  kept = λ p h. (last p).1 (inl ((came p).1 (inl h)));
-  sound = λ p h. elim ((last p).0 h) [
-    | inl m ↦ elim ((came p).0 m) [
-      | inl old ↦ inl old
-      | inr new ↦ inr new.2.0
-    ]
-    | inr one ↦ inr (rw one.1 (within come at le one.0))
-  ];
-  whole = λ p h.
-      elim (row_from come at gone rows p in' le h.0) [
-        | inl one ↦ (last p).1 (inr one)
-        | inr some ↦
-            let r : Row = some.0 in
-            let all = joined_rows come at (left_rows gone rows) in
-            let label : get_or (labels_in all) p r.label ≡ r.label = label_read all p r r.label h.0 some.2 in
-            let number = (found r.number).1 (inr (r, some.1, refl, subst (λ (b : Label). IsFoundIn a b k) label (h.1 r.label))) in
-            (last p).1 (inl ((came p).1 (inr (r.number, number, (h.0, number_read all p r h.0 some.2)))))
-      ];
-}
-  where
-    within : (come : Option (Bor Row)) (at : ℕ) → IfSome come (λ row. at ≤ length (left_rows gone rows)) → IsSome come → at < length (joined_rows come at (left_rows gone rows))
-    within None at le some = absurd (false≢true some)
-    within (Some row) at le some = let long = length-insert (left_rows gone rows) at row.now le in omega arith
+near_found come at gone rows a k numbers before middle after in' le found came last =
+    let all : List Row = joined_rows come at (left_rows gone rows) in
+    let just : (n : ℕ) → Contains numbers n ↔ IsNumberWith (λ r. IsFoundIn a r.label k) rows n = λ n. (λ h. elim ((found n).0 h) [ inl none ↦ absurd (let lt : none.0 < 0 = none.1 in omega arith) | inr is ↦ is ], λ h. (found n).1 (inr h)) in
+    record {
+      kept = λ p h. (last p).1 (inl ((came p).1 (inl h)));
+      sound = place_there come at gone rows (λ r. IsFoundIn a r.label k) numbers before middle after in' le just came last;
+      whole = λ p h. place_found come at gone rows (λ r. IsFoundIn a r.label k) numbers before middle after in' le just came last p h.0
+          (λ r read. subst (λ (b : Label). IsFoundIn a b k) (label_read all p r r.label h.0 read) (h.1 r.label));
+    }
+
+pub near_from_found : (come : Option (Bor Row)) (at : ℕ) (gone : Option ℕ) (rows : List Row) (a : Label) (k : ℕ) (scale : Ratio) (numbers middle after : List ℕ) →
+    IfSome gone (λ g. g < length rows) → IfSome come (λ row. at ≤ length (left_rows gone rows)) →
+    ((n : ℕ) → Contains numbers n ↔ IsNumberWith (IsFoundFrom a k scale) rows n) → PlacesCame (joined_rows come at (left_rows gone rows)) numbers [] middle → Gathers (λ p. IsSome come × (p ≡ at)) middle after →
+    AreFoundFrom (joined_rows come at (left_rows gone rows)) a k scale after
+near_from_found come at gone rows a k scale numbers middle after in' le found came last =
+    let all : List Row = joined_rows come at (left_rows gone rows) in
+    record {
+      within = λ j d lt.
+          elim (place_there come at gone rows (IsFoundFrom a k scale) numbers [] middle after in' le found came last (get_or after j d) (j, lt, get_or_default after j (get_or after j d) d lt)) [
+            | inl none ↦ absurd (let no : none.0 < 0 = none.1 in omega arith)
+            | inr is ↦ is
+          ];
+      whole = λ p h lasts. place_found come at gone rows (IsFoundFrom a k scale) numbers [] middle after in' le found came last p h.0
+          (λ r read. (
+            subst (λ (b : Label). IsFoundIn a b k) (label_read all p r r.label h.0 read) (h.1 r.label),
+            subst (λ (s : Slot). IsAtMost (value_of scale) (value_of s.until)) (slot_read all p r no_slot h.0 read) lasts,
+          ));
+    }
 
 -- ---- places of numbers, a number at a time
 

@@ -1,6 +1,6 @@
 -- Slots while an edit is planned. The edited label stands in the list, at the place `at`, whether it comes or goes.
-use Rattle.std.specs.Prelude.{ℕ, ◌≡◌, ◌≢◌, ◌<◌, ◌⊎◌, ◌↔◌, Bool, true, false, IsTrue, List, length, slice_index, slice_index_or, Contains, All}
-use Rattle.ml_ratio.specs.Fraction.{value_of}
+use Rattle.std.specs.Prelude.{ℕ, ◌≡◌, ◌≢◌, ◌*◌, ◌^◌, ◌<◌, ◌≤◌, ◌⊎◌, ◌↔◌, Bool, true, false, IsTrue, List, length, slice_index, slice_index_or, Contains, All}
+use Rattle.ml_ratio.specs.Fraction.{Fraction, value_of, IsAtMost}
 use Rattle.ml_ratio.specs.Band.{MeetsBand}
 use Rattle.ml_ratio.specs.declared.ratio.Ratio.{Ratio}
 use Rattle.ml_cone.specs.Choice.{IsLimit}
@@ -8,6 +8,7 @@ use Rattle.ml_cone.specs.Rivals.{AreRivals}
 use Rattle.ml_cone.specs.Slots.{Rival, IsOwnSlot, AreSlots, row, ends, no_slot}
 use Rattle.ml_cone.specs.declared.label.Label.{Label}
 use Rattle.ml_cone.specs.declared.slot.Slot.{Slot}
+use Rattle.ml_conflict.specs.Begin.{SetsNoneUpTo}
 use Rattle.ml_store.specs.Rows.{number_at, labels_in, slots_in}
 use Rattle.ml_store.specs.declared.row.Row.{Row}
 use Rattle.ml_repair.specs.declared.edit.Moved.{Moved}
@@ -38,18 +39,35 @@ abbrev pub IsBoundBy : List Row → List Moved → Label → List ℕ → Ratio 
 IsBoundBy rows moved low places bound =
     (bound ≡ low.max) ⊎ ((p : ℕ) × Contains places p × ((d : Label) → IsLimit low (slice_index_or (labels_in rows) p d) (ends (present_slots rows moved) p) (value_of bound)))
 
--- places before that of the label are enough for its slot: each that a search finds in a band from its minimum up to some bound is among them
+-- an active range with this end reaches into band k
+abbrev pub ReachesBand : ℕ → Fraction → Type 0
+ReachesBand k until = 0 < k → 2 ^ k * until.den ≤ until.num
+
+-- places of the list, among them each that a search for the label in band k finds, and whose present active range reaches into the band
+pub record AreReaching (rows : List Row) (moved : List Moved) (low : Label) (k : ℕ) (places : List ℕ) : Type 0 where
+  pub within : All (λ p. p < length rows) places
+  pub whole : (p : ℕ) → IsFoundAt rows low k p → ReachesBand k (ends (present_slots rows moved) p) → Contains places p
+
+-- a place counts: it is among the places, or its label sets no limit up to the bound
+abbrev pub Counts : List Row → List Moved → Label → Ratio → List ℕ → ℕ → Type 0
+Counts rows moved low bound places p =
+    Contains places p ⊎ ((d : Label) → SetsNoneUpTo low (slice_index_or (labels_in rows) p d) (ends (present_slots rows moved) p) (value_of bound))
+
+-- places before that of the label are enough for its slot: of those that a search finds in a band from its minimum up to some bound, and that reach into the band, each counts
 pub record AreEnough (rows : List Row) (moved : List Moved) (low : Label) (at : ℕ) (comes : Bool) (i : ℕ) (places : List ℕ) : Type 0 where
   pub stand : (p : ℕ) → Contains places p → Stands comes true at i p
   pub bound : Ratio
   pub bound_is : IsBoundBy rows moved low places bound
-  pub whole : (p k : ℕ) → Stands comes true at i p → IsFoundAt rows low k p → MeetsBand k (value_of low.min) (value_of bound) → Contains places p
+  pub whole : (p k : ℕ) → Stands comes true at i p → IsFoundAt rows low k p → MeetsBand k (value_of low.min) (value_of bound) → ReachesBand k (ends (present_slots rows moved) p) →
+      Counts rows moved low bound places p
 
--- places came in: only such as stand before that of the label, and among them each that a search finds in band k
-pub record AreSifted (rows : List Row) (low : Label) (at : ℕ) (comes : Bool) (i k : ℕ) (before after : List ℕ) : Type 0 where
+-- some of the places that were found came in, and the bound went down to their limits: only such as stand before that of the label, and each of these counts from then on
+pub record AreSifted (rows : List Row) (moved : List Moved) (low : Label) (at : ℕ) (comes : Bool) (i : ℕ) (found : List ℕ) (bound next : Ratio) (before after : List ℕ) : Type 0 where
   pub kept : (p : ℕ) → Contains before p → Contains after p
   pub sound : (p : ℕ) → Contains after p → Contains before p ⊎ Stands comes true at i p
-  pub whole : (p : ℕ) → Stands comes true at i p → IsFoundAt rows low k p → Contains after p
+  pub bound_is : IsBoundBy rows moved low before bound → IsBoundBy rows moved low after next
+  pub upto : IsAtMost (value_of next) (value_of bound)
+  pub whole : (p : ℕ) → Contains found p → Stands comes true at i p → Counts rows moved low next after p
 
 -- places of the list, among them those of all rivals of the label
 pub record AreSuspects (rows : List Row) (a : Label) (places : List ℕ) : Type 0 where

@@ -1,7 +1,10 @@
 -- The labels that an edit is planned over: the live ones but one that is passed over, and one that is to come.
 use Rattle.std.specs.Prelude.{ℕ, ◌≡◌, ◌+◌, ◌<◌, ◌≤◌, List, length, All, insert, remove, slice_index_or, Option, Some, None, Contains, ◌⊎◌, ◌↔◌}
 use denote.Ref.{Bor}
-use Rattle.ml_store.specs.Rows.{numbers_in, labels_in, HaveOwnNumbers}
+use Rattle.ml_ratio.specs.Fraction.{value_of, IsAtMost}
+use Rattle.ml_ratio.specs.declared.ratio.Ratio.{Ratio}
+use Rattle.ml_cone.specs.Slots.{ends}
+use Rattle.ml_store.specs.Rows.{numbers_in, labels_in, slots_in, HaveOwnNumbers}
 use Rattle.ml_store.specs.Search.{IsFoundIn}
 use Rattle.ml_store.specs.Table.{IsRowAt}
 use Rattle.ml_cone.specs.declared.label.Label.{Label}
@@ -32,6 +35,11 @@ pub record AreFound (rows : List Row) (a : Label) (k : ℕ) (before after : List
   pub kept : (p : ℕ) → Contains before p → Contains after p
   pub sound : (p : ℕ) → Contains after p → Contains before p ⊎ (p < length rows)
   pub whole : (p : ℕ) → IsFoundAt rows a k p → Contains after p
+
+-- places of the list, among them each that a search for the label in band k finds, and whose own slot ends at the scale at the earliest
+pub record AreFoundFrom (rows : List Row) (a : Label) (k : ℕ) (scale : Ratio) (places : List ℕ) : Type 0 where
+  pub within : All (λ p. p < length rows) places
+  pub whole : (p : ℕ) → IsFoundAt rows a k p → IsAtMost (value_of scale) (ends (slots_in rows) p) → Contains places p
 
 -- the places of the numbers came in, and nothing else changed
 abbrev pub PlacesCame : List Row → List ℕ → List ℕ → List ℕ → Type 0

@@ -1,16 +1,18 @@
 //! The rivals that may bound a label.
-ghost use Rattle.std.specs.Prelude.{ℕ, ◌≡◌, ◌<◌, ◌≤◌, ◌⊎◌, ◌↔◌, true, Bool, IsTrue, List, [], ◌∷◌, length, take, All, Contains, IfOk, slice_index_or};
+ghost use Rattle.std.specs.Prelude.{ℕ, ◌≡◌, ◌^◌, ◌<◌, ◌≤◌, ◌↔◌, true, IsTrue, List, [], ◌∷◌, length, All, Contains, IfOk, slice_index_or};
 ghost use Rattle.std.specs.List.Sorted.{IsStrictlyIncreasing};
-ghost use Rattle.ml_ratio.specs.Fraction.{value_of};
+ghost use Rattle.ml_ratio.specs.Fraction.{value_of, IsAtMost};
+ghost use Rattle.ml_cone.specs.Slots.{ends};
 ghost use Rattle.ml_cone.specs.declared.label.Label.{Label};
-ghost use Rattle.ml_store.specs.Rows.{labels_in};
-ghost use Rattle.ml_repair.specs.Repair.{Stands, IsBoundBy, AreEnough, AreSifted};
+ghost use Rattle.ml_store.specs.Rows.{slots_in};
+ghost use Rattle.ml_store.specs.declared.row.Row.{Row};
+ghost use Rattle.ml_repair.specs.Repair.{Stands, ReachesBand, AreReaching, AreEnough, AreSifted, present_slots};
 
 use crate::chosen::present_slot;
 use crate::moves::Moves;
 use crate::roster::Roster;
 use ml_cone::Label;
-use ml_conflict::first_block;
+use ml_conflict::limit_up_to;
 use ml_ratio::{Ratio, Seq};
 use std::alloc::{AllocError, Global};
 
@@ -32,92 +34,103 @@ fn stands(at: usize, comes: bool, i: usize, place: usize) -> bool
     place < i && (place != at || comes)
 }
 
-// Appends the place if it stands before `i`.
-fn push_standing(
+// The scale 2^band, and 0 for the first band.
+fn start_of(band: u8) -> Ratio
+    requires { band ≤ 27 }
+    ensures first { band ≡ 0 → result.num ≡ 0 }
+    ensures num { 0 < band → result.num ≡ 2 ^ band }
+    ensures den { result.den ≡ 1 }
+{
+    let start = if band == 0 { 0 } else { 1u64 << band };
+    match Ratio::of(start, 1) {
+        Some(scale) => scale,
+        None => unreachable!(),
+    }
+}
+
+// The scale up to which a label's own slot has to last where its present active range reaches into the
+// band: that at which the band starts; and 0 once labels have new slots, of which a search knows nothing.
+fn last_scale(moves: &Moves, band: u8) -> Ratio
+    requires { band ≤ 27 }
+    ensures { (rows : List Row) (p : ℕ) → ReachesBand band (ends (present_slots rows moves.now) p) → IsAtMost (value_of result) (ends (slots_in rows) p) }
+{
+    if moves.is_empty() {
+        start_of(band)
+    } else {
+        start_of(0)
+    }
+}
+
+// Places, among them those that a search for the label finds in the band and that reach into it.
+fn search(
+    alloc: Global,
+    roster: &Roster<'_>,
+    moves: &Moves,
+    low: &Label,
+    band: u8,
+) -> Result<Seq<u32>, AllocError>
+    requires { band ≤ 27 }
+    ensures { IfOk result (AreReaching roster.now moves.now low.now band) }
+{
+    roster.near_from(alloc, low, band, &last_scale(moves, band))
+}
+
+// A place comes in where it stands before `i` and its label sets a limit up to the bound; that limit is
+// the bound from then on.
+fn sift_one(
+    roster: &Roster<'_>,
+    moves: &Moves,
+    low: &Label,
     at: usize,
     comes: bool,
     i: usize,
     place: u32,
+    bound: Ratio,
     out: &mut Seq<u32>,
-) -> Result<(), AllocError>
-    ensures { IfOk result (λ _. (p : ℕ) → Contains out.new p ↔ (Contains out.old p ⊎ ((p ≡ place) × Stands comes true at i place))) }
+) -> Result<Ratio, AllocError>
+    requires { place < length roster.now }
+    ensures { IfOk result (λ next. AreSifted roster.now moves.now low.now at comes i (place ∷ []) bound next out.old out.new) }
 {
     if stands(at, comes, i, place as usize) {
-        out.push(place)?;
+        let row = roster.row(place as usize);
+        let until = present_slot(roster, moves, place as usize).until;
+        match limit_up_to(low, &row.label, &until, &bound) {
+            Some(limit) => {
+                out.push(place)?;
+                Ok(limit)
+            }
+            None => Ok(bound),
+        }
+    } else {
+        Ok(bound)
     }
-    Ok(())
 }
 
-// Appends those of the places that stand before `i`.
-fn push_all_standing(
-    at: usize,
-    comes: bool,
-    i: usize,
-    places: &[u32],
-    out: &mut Seq<u32>,
-) -> Result<(), AllocError>
-    ensures { IfOk result (λ _. (p : ℕ) → Contains out.new p ↔ (Contains out.old p ⊎ (Contains places.now p × Stands comes true at i p))) }
-{
-    for place in places {
-        push_standing(at, comes, i, *place, out)?;
-    }
-    Ok(())
-}
-
-// Appends the places that stand before `i` and that a search for the label finds in the band.
+// Those of the places come in that stand before `i` and may set the label's end.
 fn sift(
-    alloc: Global,
-    roster: &Roster<'_>,
-    low: &Label,
-    at: usize,
-    comes: bool,
-    i: usize,
-    band: u8,
-    out: &mut Seq<u32>,
-) -> Result<(), AllocError>
-    requires { band ≤ 27 }
-    ensures { IfOk result (λ _. AreSifted roster.now low.now at comes i band out.old out.new) }
-{
-    let mut found = Seq::new(alloc);
-    roster.near(alloc, low, band, &mut found)?;
-    push_all_standing(at, comes, i, found.as_slice(), out)
-}
-
-// The lesser of the bound and the limit that the label at the place sets.
-fn lesser(roster: &Roster<'_>, moves: &Moves, low: &Label, place: usize, bound: Ratio) -> Ratio
-    requires { place < length roster.now }
-    ensures { (result ≡ bound) ⊎ IsBoundBy roster.now moves.now low.now (place ∷ []) result }
-{
-    let row = roster.row(place);
-    let until = present_slot(roster, moves, place).until;
-    match first_block(low, &row.label, &until) {
-        Some(limit) => { if limit.is_less(&bound) { limit } else { bound } }
-        None => bound,
-    }
-}
-
-// The least of the bound and the limits that the labels at the places from `from` on set.
-fn least(
     roster: &Roster<'_>,
     moves: &Moves,
     low: &Label,
-    places: &[u32],
-    from: usize,
+    at: usize,
+    comes: bool,
+    i: usize,
+    found: &[u32],
     bound: Ratio,
-) -> Ratio
-    requires in_roster { All (λ p. p < length roster.now) places.now }
-    requires bound { IsBoundBy roster.now moves.now low.now places.now bound }
-    ensures { IsBoundBy roster.now moves.now low.now places.now result }
+    out: &mut Seq<u32>,
+) -> Result<Ratio, AllocError>
+    requires { All (λ p. p < length roster.now) found.now }
+    ensures { IfOk result (λ next. AreSifted roster.now moves.now low.now at comes i found.now bound next out.old out.new) }
 {
-    let mut result = bound;
-    for k in from..places.len() {
-        result = lesser(roster, moves, low, places[k] as usize, result);
+    let mut next = bound;
+    for place in found {
+        next = sift_one(roster, moves, low, at, comes, i, *place, next, out)?;
     }
-    result
+    Ok(next)
 }
 
 /// Places before `i` that are enough for the slot of the label `low` at `i`. Bands are searched upwards
-/// from the label's minimum, up to that of the least limit found so far.
+/// from the label's minimum, up to that of the least limit found so far; a label that sets none up to
+/// there is passed over.
 ///
 /// # Errors
 /// Want of memory.
@@ -138,9 +151,18 @@ pub fn gather(
     let mut bound = low.max();
     let mut band = low.min().band();
     while band <= bound.band() && band < 28 {
-        let from = places.len();
-        sift(alloc, roster, low, at, comes, i, band, &mut places)?;
-        bound = least(roster, moves, low, places.as_slice(), from, bound);
+        let found = search(alloc, roster, moves, low, band)?;
+        bound = sift(
+            roster,
+            moves,
+            low,
+            at,
+            comes,
+            i,
+            found.as_slice(),
+            bound,
+            &mut places,
+        )?;
         band += 1;
     }
     Ok(ascending(places))

@@ -3,10 +3,10 @@ ghost use Rattle.std.specs.Prelude.{ℕ, ◌≡◌, ◌+◌, ◌<◌, ◌≤◌,
 ghost use Rattle.ml_store.specs.Rows.{IsFresh};
 ghost use Rattle.ml_store.specs.Search.{Gathers};
 ghost use Rattle.ml_store.specs.Table.{IsRowAt};
-ghost use Rattle.ml_repair.specs.Roster.{left_rows, joined_rows, AreNumbered, AreFound, PlacesCame, IsPlaceWithout};
+ghost use Rattle.ml_repair.specs.Roster.{left_rows, joined_rows, AreNumbered, AreFound, AreFoundFrom, PlacesCame, IsPlaceWithout};
 
 use ml_cone::Label;
-use ml_ratio::Seq;
+use ml_ratio::{Ratio, Seq};
 use ml_store::{Row, Store};
 use std::alloc::{AllocError, Global};
 use std::marker::Model;
@@ -279,5 +279,26 @@ impl<'a> Roster<'a> {
         self.store.near(label, band, &mut numbers)?;
         push_places(self, numbers.as_slice(), out)?;
         push_come(self.come, self.at, out)
+    }
+    /// Places, among them those of all labels that are kept in a cell of the label's hull in the band, which
+    /// is at most 27, and whose own slots end at the scale at the earliest.
+    ///
+    /// # Errors
+    /// Want of memory.
+    pub fn near_from(
+        &self,
+        alloc: Global,
+        label: &Label,
+        band: u8,
+        scale: &Ratio,
+    ) -> Result<Seq<u32>, AllocError>
+        requires { band ≤ 27 }
+        ensures { IfOk result (AreFoundFrom self.now label.now band scale.now) }
+    {
+        let numbers = self.store.near_from(alloc, label, band, scale)?;
+        let mut places = Seq::new(alloc);
+        push_places(self, numbers.as_slice(), &mut places)?;
+        push_come(self.come, self.at, &mut places)?;
+        Ok(places)
     }
 }

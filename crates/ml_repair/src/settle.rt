@@ -13,7 +13,7 @@ use crate::roster::Roster;
 use ml_cone::Slot;
 use ml_cone::laws::{bound_shares, rivals_share};
 use ml_conflict::evaluate;
-use ml_conflict::laws::{blocking, carried, joined, rivals_or_free, smaller_ends};
+use ml_conflict::laws::{allowed_up_to, blocking, carried, joined, rivals_or_free, smaller_ends};
 use ml_ratio::Steps;
 use std::alloc::{AllocError, Global};
 use std::sync::ledger::Ledger;
@@ -41,6 +41,7 @@ pub fn settle<L: Ledger>(
     carried();
     joined();
     smaller_ends();
+    allowed_up_to();
     rivals_or_free();
     blocking();
     rivals_share();

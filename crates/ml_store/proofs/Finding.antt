@@ -1,9 +1,9 @@
 -- What the grid finds, said of rows.
 use Rattle.std.proofs.Common.{◌≡◌, ℕ, List, [], get_or, Contains, inl, inr, refl, sym, ◌∙◌, subst, arith, Result, Ok, Err}
-use Rattle.std.specs.Prelude.{◌↔◌, All, OnOk}
+use Rattle.std.specs.Prelude.{◌↔◌, All, OnOk, IfOk}
 use Rattle.std.proofs.lemmas.List.Kept.{AllPairs-from_increasing}
 use Rattle.std.proofs.lemmas.List.Elements.{Contains-append_left, Contains-append_right, Contains-append_cases, All-contains}
-use Rattle.ml_ratio.specs.Fraction.{value_of}
+use Rattle.ml_ratio.specs.Fraction.{value_of, IsAtMost}
 use Rattle.ml_ratio.specs.declared.ratio.Ratio.{Ratio}
 use Rattle.ml_spans.specs.Spans.{entry_of}
 use Rattle.ml_cone.specs.Choice.{IsEnd, ActiveUntil}
@@ -13,10 +13,10 @@ use Rattle.ml_cone.specs.declared.label.Label.{Label}
 use Rattle.ml_cone.specs.declared.view.View.{View}
 use Rattle.ml_grid.specs.Cell.{cell_of}
 use Rattle.ml_grid.specs.Entry.{Entry, AreEntriesOf}
-use Rattle.ml_grid.specs.Found.{IsNumberOf, IsInHull, IsSeen, Appends}
+use Rattle.ml_grid.specs.Found.{IsNumberOf, IsInHull, IsInHullFrom, IsSeen, Appends}
 use Rattle.ml_grid.specs.Near.{IsNear}
 use Rattle.ml_store.specs.Rows.{HaveOwnNumbers}
-use Rattle.ml_store.specs.Search.{IsFoundIn, IsNumberWith, Gathers, AreNearNumbers}
+use Rattle.ml_store.specs.Search.{IsFoundIn, IsFoundFrom, IsNumberWith, Gathers, AreNearNumbers}
 use Rattle.ml_store.specs.Store.{IsIndex, IsEntryIn}
 use Rattle.ml_store.specs.declared.row.Row.{Row}
 use Rattle.ml_store.proofs.Lists.{added_remove}
@@ -27,8 +27,21 @@ pub on_ok : {A E : Type 0} (r : Result A E) (P Q : Type 0) → (P → Q) → OnO
 on_ok (Ok a) P Q f h = f h
 on_ok (Err e) P Q f h = h
 
+pub if_ok : {A E : Type 0} (r : Result A E) (P Q : A → Type 0) → ((x : A) → P x → Q x) → IfOk r P → IfOk r Q
+if_ok (Ok x) P Q f h = f x h
+if_ok (Err e) P Q f h = h
+
 pub on_err : {A E : Type 0} (r : Result A E) (e : E) (P : Type 0) → r ≡ Err e → OnOk r P
 on_err r e P is = rw is tt
+
+-- an entry in a label's hull is of a row that a search for the label finds
+found_here : (a : Label) (k : ℕ) (e : Entry) (r : Row) → IsInHull a k e → IsEntryIn r e → IsFoundIn a r.label k
+found_here a k e r in' its = record {
+  x = e.key.x;
+  y = e.key.y;
+  among = in'.1;
+  kept = subst (λ (b : ℕ). IsInCell r.label b e.key.x e.key.y) in'.0 its.in_cell;
+}
 
 module _ (rows : List Row) (entries : List Entry) (kept : IsIndex IsEntryIn rows entries) where
   -- the numbers found in a label's hull are those of rows kept there
@@ -40,12 +53,7 @@ module _ (rows : List Row) (entries : List Entry) (kept : IsIndex IsEntryIn rows
         r,
         some.1,
         sym some.2.its_number ∙ h.2,
-        record {
-          x = e.key.x;
-          y = e.key.y;
-          among = h.3.1;
-          kept = subst (λ (b : ℕ). IsInCell r.label b e.key.x e.key.y) h.3.0 some.2.in_cell;
-        },
+        found_here a k e r h.3 some.2,
       )
 
   row_hull : (a : Label) (k n : ℕ) → IsNumberWith (λ r. IsFoundIn a r.label k) rows n → IsNumberOf (IsInHull a k) entries n
@@ -54,6 +62,21 @@ module _ (rows : List Row) (entries : List Entry) (kept : IsIndex IsEntryIn rows
       let f = h.3 in
       let e = entry_of (cell_of k f.x f.y) r.slot.until r.number in
       (e, (kept e).1 (r, h.1, record { in_cell = f.kept; its_end = refl; its_number = refl }), h.2, (refl, f.among))
+
+  -- the same of those that are active up to a scale
+  pub found_from : (a : Label) (k : ℕ) (scale : Ratio) (n : ℕ) → IsNumberOf (IsInHullFrom a k scale) entries n ↔ IsNumberWith (IsFoundFrom a k scale) rows n
+  found_from a k scale n = (
+    λ h.
+        let e = h.0 in
+        let some = (kept e).0 h.1 in
+        let r : Row = some.0 in
+        (r, some.1, sym some.2.its_number ∙ h.2, (found_here a k e r h.3.0 some.2, subst (λ (u : Ratio). IsAtMost (value_of scale) (value_of u)) some.2.its_end h.3.1)),
+    λ h.
+        let r : Row = h.0 in
+        let f = h.3.0 in
+        let e = entry_of (cell_of k f.x f.y) r.slot.until r.number in
+        (e, (kept e).1 (r, h.1, record { in_cell = f.kept; its_end = refl; its_number = refl }), h.2, ((refl, f.among), h.3.1)),
+  )
 
   pub found_near : (a : Label) (k : ℕ) (before after : List ℕ) → Appends (IsInHull a k) entries before after → Gathers (IsNumberWith (λ r. IsFoundIn a r.label k) rows) before after
   found_near a k before after app n = (

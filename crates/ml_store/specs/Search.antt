@@ -1,5 +1,7 @@
 -- Labels that are found by the grid.
 use Rattle.std.specs.Prelude.{ℕ, ◌≡◌, ◌⊎◌, ◌↔◌, ℤ, List, Contains}
+use Rattle.ml_ratio.specs.Fraction.{value_of, IsAtMost}
+use Rattle.ml_ratio.specs.declared.ratio.Ratio.{Ratio}
 use Rattle.ml_cone.specs.Cells.{IsAmongCells}
 use Rattle.ml_cone.specs.Cell.{IsInCell}
 use Rattle.ml_cone.specs.Hull.{hull_of}
@@ -15,6 +17,10 @@ pub record IsFoundIn (one other : Label) (k : ℕ) : Type 0 where
   pub y : ℤ
   pub among : IsAmongCells (hull_of one k) x y
   pub kept : IsInCell other k x y
+
+-- a search for the label in band k finds the row's, which is active up to the scale at least
+abbrev pub IsFoundFrom : Label → ℕ → Ratio → Row → Type 0
+IsFoundFrom a k scale r = IsFoundIn a r.label k × IsAtMost (value_of scale) (value_of r.slot.until)
 
 -- the number of a row with the property
 abbrev pub IsNumberWith : (Row → Type 0) → List Row → ℕ → Type 0

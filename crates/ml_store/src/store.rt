@@ -6,7 +6,7 @@ ghost use Rattle.ml_cone.specs.Shown.{IsInView};
 ghost use Rattle.ml_grid.specs.Count.{entry_count};
 ghost use Rattle.ml_store.specs.Pairs.{pair_count};
 ghost use Rattle.ml_store.specs.Rows.{numbers_in, labels_in, IsFresh, HasId, HaveOwnNumbers, IsNumberOf};
-ghost use Rattle.ml_store.specs.Search.{IsFoundIn, IsNumberWith, Gathers, AreNearNumbers};
+ghost use Rattle.ml_store.specs.Search.{IsFoundIn, IsFoundFrom, IsNumberWith, Gathers, AreNearNumbers};
 ghost use Rattle.ml_grid.specs.Entry.{IsFree, Adds, Drops, AreEntriesOf};
 ghost use Rattle.ml_store.specs.Store.{IsStored, IsIndex, IsEntryIn, IsPairIn, Pair};
 ghost use Rattle.ml_store.specs.Table.{IsRowAt, with_slot, slot_at};
@@ -19,7 +19,7 @@ use crate::table::Table;
 use ml_cone::{Label, Slot, Span, View};
 use ml_grid::Grid;
 use ml_grid::laws::{seen_are_near, shown_seen};
-use ml_ratio::{Seq, Steps, Text};
+use ml_ratio::{Ratio, Seq, Steps, Text};
 use ml_spans::SpanTree;
 use std::alloc::{AllocError, Global};
 use std::marker::Model;
@@ -152,6 +152,23 @@ fn find_near(
     ensures ok { OnOk result (Gathers (IsNumberWith (λ r. IsFoundIn label.now r.label band) rows.now.rows) out.old out.new) }
 {
     grid.near(label, band, out)
+}
+
+// The numbers of the labels that are kept in a cell of the label's hull in the band and are active up to
+// the scale at least.
+fn find_near_from(
+    alloc: Global,
+    rows: &Table,
+    grid: &Grid,
+    label: &Label,
+    band: u8,
+    scale: &Ratio,
+) -> Result<Seq<u32>, AllocError>
+    requires band { band ≤ 27 }
+    requires kept { IsIndex IsEntryIn rows.now.rows grid.now.entries }
+    ensures { IfOk result (λ numbers. (n : ℕ) → Contains numbers n ↔ IsNumberWith (IsFoundFrom label.now band scale.now) rows.now.rows n) }
+{
+    grid.near_from(alloc, label, band, scale)
 }
 
 // The numbers of the labels near the view, each once.
@@ -323,6 +340,24 @@ impl Store {
         ensures ok { OnOk result (Gathers (IsNumberWith (λ r. IsFoundIn label.now r.label band) self.now.rows) out.old out.new) }
     {
         find_near(&self.table, &self.grid, label, band, out)
+    }
+
+    /// The numbers of the labels that are kept in a cell of the label's hull in the band, which is at most
+    /// 27, and are active up to the scale at least; in whatever order and however often.
+    ///
+    /// # Errors
+    /// Want of memory.
+    pub fn near_from(
+        &self,
+        alloc: Global,
+        label: &Label,
+        band: u8,
+        scale: &Ratio,
+    ) -> Result<Seq<u32>, AllocError>
+        requires { band ≤ 27 }
+        ensures { IfOk result (λ numbers. (n : ℕ) → Contains numbers n ↔ IsNumberWith (IsFoundFrom label.now band scale.now) self.now.rows n) }
+    {
+        find_near_from(alloc, &self.table, &self.grid, label, band, scale)
     }
 
     /// The numbers of the labels near the view, each once: among them all that it shows. It spends a step

@@ -1,5 +1,5 @@
 use Rattle.std.proofs.Common.{◌<◌, ◌≤◌, ◌⊎◌, inl, inr}
-use Rattle.ml_repair.proofs.Gathering.{gathered_none, gathered_more, gathered_enough, bound_more, all_within}
+use Rattle.ml_repair.proofs.Gathering.{gathered_none, gathered_more, gathered_enough}
 use Rattle.ml_repair.proofs.gather.gather.Goals as goal
 use Rattle.ml_repair.proofs.gather.gather.Goals.{then-loop-band-test+else-band-lt28, else-loop-band-test}
 
@@ -10,20 +10,13 @@ loop-band-init c = (
   rw (c.max-bound.ensures, c.new-places.ensures) (gathered_none c.args.roster.now c.args.moves.now c.args.low.now c.args.at c.args.comes c.args.i c.band-band.result),
 )
 
-pub least-bound-requires-clause-in_roster : goal.least-bound-requires-clause-in_roster
-least-bound-requires-clause-in_roster c =
-    let so_far = c.loop-band.invariant.2 in
-    rw c.as_slice.ensures (all_within c.args.roster.now c.args.at c.args.comes c.args.i c.sift.new.out c.requires
-    (λ p h. elim (c.in_ok-sift.ensures.sound p h) [ inl old ↦ so_far.stand p old | inr new ↦ new ]))
-
-pub least-bound-requires-clause-bound : goal.least-bound-requires-clause-bound
-least-bound-requires-clause-bound c =
-    rw c.as_slice.ensures (bound_more c.args.roster.now c.args.moves.now c.args.low.now c.loop-band.places c.sift.new.out c.loop-band.bound c.in_ok-sift.ensures.kept c.loop-band.invariant.2.bound_is)
+pub sift-requires : goal.sift-requires
+sift-requires c = rw c.as_slice.ensures c.in_ok-found.ensures.within
 
 pub loop-band-preserved : goal.loop-band-preserved
 loop-band-preserved c =
     let i = c.loop-band.invariant in
-    (i.0, i.1, gathered_more c.args.roster.now c.args.moves.now c.args.low.now c.args.at c.args.comes c.args.i i.0 c.loop-band.band c.loop-band.bound c.least-bound.result c.loop-band.places c.sift.new.out i.2 c.in_ok-sift.ensures (rw c.as_slice.ensures at c.least-bound.ensures))
+    (i.0, i.1, gathered_more c.args.roster.now c.args.moves.now c.args.low.now c.args.at c.args.comes c.args.i i.0 c.loop-band.band c.loop-band.bound c.in_ok-bound.bound c.loop-band.places c.sift.new.out c.in_ok-found.found i.2 c.in_ok-found.ensures (rw c.as_slice.ensures at c.in_ok-bound.ensures))
 
 pub returns-clause-enough : goal.returns-clause-enough
 returns-clause-enough c =

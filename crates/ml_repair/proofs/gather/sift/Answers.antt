@@ -1,8 +1,14 @@
-use Rattle.ml_repair.proofs.Answered.{if_ok}
-use Rattle.ml_repair.proofs.Gathering.{sifted}
+use Rattle.std.proofs.Common.{arith}
+use Rattle.std.proofs.lemmas.List.{take_all}
+use Rattle.ml_repair.proofs.Gathering.{sifted_none, sifted_more}
 use Rattle.ml_repair.proofs.gather.sift.Goals as goal
 
+pub loop-place-init : goal.loop-place-init
+loop-place-init c = sifted_none c.args.roster.now c.args.moves.now c.args.low.now c.args.at c.args.comes c.args.i c.args.bound c.args.out.now
+
+pub loop-place-preserved : goal.loop-place-preserved
+loop-place-preserved c =
+    sifted_more c.args.roster.now c.args.moves.now c.args.low.now c.args.at c.args.comes c.args.i c.args.found.now c.args.out.now c.loop-place.out c.sift_one.new.out c.args.bound c.loop-place.next c.in_ok-next.next c.loop-place.place-index (omega arith) c.loop-place.invariant c.in_ok-next.ensures
+
 pub returns : goal.returns
-returns c =
-    let found = rw c.new-found.ensures at c.in_ok-near.ensures in
-    if_ok c.push_all_standing.result _ _ (λ _ came. sifted c.args.roster.now c.args.low.now c.args.at c.args.comes c.args.i c.args.band c.near.new.out c.args.out.now c.push_all_standing.new.out found came) (rw c.as_slice.ensures at c.push_all_standing.ensures)
+returns c = rw (take_all c.loop-place.place-index c.args.found.now (omega arith)) at c.loop-place.invariant
