@@ -1,8 +1,7 @@
 //! Runs that follow states, over files and sinks in memory, worked out by hand.
-use crate::run::run;
 use crate::status::Status;
-use crate::tests::{files_of, run_over, told, words_of};
-use ml_io::{MemDoor, MemFiles, MemSink, MemSource};
+use crate::tests::{Outside, Subject, each_holds, outside_of, run_alone, run_told};
+use ml_io::MemSink;
 use ml_watch::{Crowd, MemWatcher};
 use std::alloc::Global;
 use std::test::Fail;
@@ -31,18 +30,21 @@ fn states_of(alloc: Global, written: &str) -> Result<String, Fail> {
 /// What a run of these words prints, behind its exit code; `t` is a file of these states.
 fn followed(alloc: Global, states: &str, words: &str) -> Result<String, Fail> {
     let text = states_of(alloc, states)?;
-    let (status, out) = run_over(alloc, &[("t", text.as_str())], words)?;
-    told(alloc, status, &out)
+    run_told(alloc, &[("t", text.as_str())], words)
+}
+
+/// Runs over states.
+struct OfStates;
+
+impl Subject for OfStates {
+    fn holds(alloc: Global, input: &str, want: &str) -> Result<bool, Fail> {
+        Ok(followed(alloc, input, "follow t")?.as_str() == want)
+    }
 }
 
 #[test]
 fn states_are_followed(rt: HostRuntime) -> Result<(), Fail> {
-    for case in RUNS.lines() {
-        let (states, want) = case.split_once(" => ").ok_or("a case")?;
-        let told = followed(rt.alloc(), states, "follow t")?;
-        assert_eq!(rt; told.as_str(), want, "{case}");
-    }
-    Ok(())
+    each_holds::<OfStates>(&rt, rt.alloc(), RUNS)
 }
 
 /// Words, the exit code and what is printed.
@@ -51,56 +53,60 @@ follow u => 5 file fault¶
 follow => 2 usage: maplabel show, slots, check, view, pipe, serve or gen¶
 follow t t => 2 usage: maplabel show, slots, check, view, pipe, serve or gen¶";
 
+/// Runs of words.
+struct OfWords;
+
+impl Subject for OfWords {
+    fn holds(alloc: Global, input: &str, want: &str) -> Result<bool, Fail> {
+        Ok(followed(alloc, "*", input)?.as_str() == want)
+    }
+}
+
 #[test]
 fn words_that_do_not_follow_states_are_told(rt: HostRuntime) -> Result<(), Fail> {
-    for case in WORDS.lines() {
-        let (words, want) = case.split_once(" => ").ok_or("a case")?;
-        let told = followed(rt.alloc(), "*", words)?;
-        assert_eq!(rt; told.as_str(), want, "{case}");
-    }
-    Ok(())
+    each_holds::<OfWords>(&rt, rt.alloc(), WORDS)
+}
+
+/// Adds a watcher whose listed calls fail.
+fn push_watcher(
+    alloc: Global,
+    watchers: &mut Vec<MemWatcher>,
+    fails: Vec<u64>,
+) -> Result<(), Fail> {
+    let watcher = MemWatcher::new(alloc, 9, fails)?;
+    Ok(watchers.push(watcher)?)
 }
 
 /// A watcher that fails at its first call, and one that does not fail.
 fn two_watchers(alloc: Global) -> Result<Vec<MemWatcher>, Fail> {
     let mut watchers = Vec::new(alloc);
-    watchers.push(MemWatcher::new(alloc, 9, vec![in alloc; 0]?)?)?;
-    watchers.push(MemWatcher::new(alloc, 9, Vec::new(alloc))?)?;
+    push_watcher(alloc, &mut watchers, vec![in alloc; 0]?)?;
+    push_watcher(alloc, &mut watchers, Vec::new(alloc))?;
     Ok(watchers)
 }
 
-/// What following the row of cities comes to before these two, where the listed calls of the output
-/// fail: the status, what is printed, and the watchers.
-fn watched(alloc: Global, fails: Vec<u64>) -> Result<(Status, MemSink, Crowd<MemWatcher>), Fail> {
+/// The row of cities, before these two.
+fn watched(alloc: Global) -> Result<Outside, Fail> {
     let row = states_of(alloc, "*")?;
-    let words = words_of(alloc, "follow t")?;
-    let mut files = MemFiles::new(files_of(alloc, &[("t", row.as_str())])?, Vec::new(alloc));
-    let mut input = MemSource::new(Vec::new(alloc), 1, Vec::new(alloc));
-    let mut out = MemSink::new(alloc, 4096, fails)?;
-    let mut door = MemDoor::new(alloc, Vec::new(alloc), Vec::new(alloc))?;
-    let mut crowd = Crowd::new(two_watchers(alloc)?);
-    let status = run(
-        alloc, &words, &mut files, &mut input, &mut out, &mut door, &mut crowd,
-    );
-    Ok((status, out, crowd))
+    let mut outside = outside_of(alloc, &[("t", row.as_str())])?;
+    outside.crowd = Crowd::new(two_watchers(alloc)?);
+    Ok(outside)
 }
 
 #[test]
 fn watchers_are_told_what_adopted_states_change(rt: HostRuntime) -> Result<(), Fail> {
-    let alloc = rt.alloc();
-    let (status, _out, crowd) = watched(alloc, Vec::new(alloc))?;
-    assert_eq!(rt;
-        (status, crowd.heard(0), crowd.heard(1)),
-        (Status::Done, Some(0), Some(3))
-    );
+    let mut outside = watched(rt.alloc())?;
+    assert!(rt; run_alone(rt.alloc(), &mut outside, "follow t")? == Status::Done);
+    assert!(rt; outside.crowd.heard(0) == Some(0) && outside.crowd.heard(1) == Some(3));
     Ok(())
 }
 
 #[test]
 fn a_state_stays_adopted_where_printing_fails(rt: HostRuntime) -> Result<(), Fail> {
-    let alloc = rt.alloc();
-    let (status, out, crowd) = watched(alloc, vec![in alloc; 1]?)?;
-    assert_eq!(rt; (status, crowd.heard(1)), (Status::WriteFault, Some(3)));
-    assert_eq!(rt; out.bytes(), b"adopted 0 3\n".as_slice());
+    let mut outside = watched(rt.alloc())?;
+    outside.out = MemSink::new(rt.alloc(), 4096, vec![in rt.alloc(); 1]?)?;
+    assert!(rt; run_alone(rt.alloc(), &mut outside, "follow t")? == Status::WriteFault);
+    assert!(rt; outside.crowd.heard(1) == Some(3));
+    assert!(rt; outside.out.bytes() == b"adopted 0 3\n".as_slice());
     Ok(())
 }

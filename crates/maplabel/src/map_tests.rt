@@ -1,6 +1,5 @@
 //! Views of maps over files in memory, worked out by hand.
-use crate::status::Status;
-use crate::tests::run_over;
+use crate::tests::{Subject, each_holds, run_told};
 use ml_style::SAMPLE;
 use std::alloc::Global;
 use std::test::Fail;
@@ -46,269 +45,146 @@ max = "1000"
 margin = 5
 "#;
 
-/// The style `s`, the map `m`, the words, the status, and what is printed.
-const MAP_RUNS: [(&str, &str, &str, Status, &str); 25] = [
+/// Styles and maps by name. Those from `cut` on are no maps.
+const FILES: [(&str, &str); 13] = [
+    ("sample", SAMPLE),
+    ("roomy", ROOMY),
+    ("newer", "version = 3"),
+    ("map", MAP),
+    ("ranked", RANKED),
+    ("three", THREE),
+    ("cut", r#"{"type":"Feature"#),
     (
-        SAMPLE,
-        MAP,
-        "view s m 85416942 473768861 1024 768 100",
-        Status::Done,
-        "{\"labels\":[{\"at\":[85416942,473768861],\"boxes\":[[-27,-10,28,10]],\"id\":\"#0\",\"text\":\"Zürich\",\"until\":\"1000/1\"}],\"scale\":\"100/1\"}\n",
-    ),
-    (
-        SAMPLE,
-        MAP,
-        "view s m 200000 100000 1024 768 1",
-        Status::Done,
-        "{\"labels\":[{\"at\":[200000,100000],\"boxes\":[[-17,-16,-7,4],[-7,-13,-2,7],[-2,-12,8,8],[8,-17,18,3]],\"id\":\"#2\",\"text\":\"Sihl\",\"until\":\"2000/1\"}],\"scale\":\"1/1\"}\n",
-    ),
-    (
-        SAMPLE,
-        MAP,
-        "view s m 30000000 10000000 1024 768 99999",
-        Status::Done,
-        "{\"labels\":[{\"at\":[30000000,10000000],\"boxes\":[[-30,-10,30,10]],\"id\":\"#1\",\"text\":\"Inseln\",\"until\":\"100000/1\"}],\"scale\":\"99999/1\"}\n",
-    ),
-    (
-        SAMPLE,
-        MAP,
-        "view s m 30000000 10000000 1024 768 100000",
-        Status::Done,
-        "{\"labels\":[],\"scale\":\"100000/1\"}\n",
-    ),
-    (
-        SAMPLE,
-        MAP,
-        "view s m 85416942 473768861 1024 768 1000",
-        Status::Done,
-        "{\"labels\":[],\"scale\":\"1000/1\"}\n",
-    ),
-    (
-        SAMPLE,
-        MAP,
-        "view s m 0 0 2 2 1",
-        Status::Done,
-        "{\"labels\":[],\"scale\":\"1/1\"}\n",
-    ),
-    (
-        SAMPLE,
-        RANKED,
-        "view s m 15000 0 4096 4096 20",
-        Status::Done,
-        "{\"labels\":[{\"at\":[30000,0],\"boxes\":[[-5,-10,5,10]],\"id\":\"#3\",\"text\":\"d\",\"until\":\"1000/1\"},{\"at\":[20000,0],\"boxes\":[[-5,-10,5,10]],\"id\":\"#4\",\"text\":\"c\",\"until\":\"1000/1\"},{\"at\":[10000,0],\"boxes\":[[-5,-10,5,10]],\"id\":\"#1\",\"text\":\"b\",\"until\":\"1000/1\"},{\"at\":[0,0],\"boxes\":[[-5,-10,5,10]],\"id\":\"#0\",\"text\":\"a\",\"until\":\"1000/1\"}],\"scale\":\"20/1\"}\n",
-    ),
-    (
-        SAMPLE,
-        THREE,
-        "view s m 0 0 1024 768 19/1",
-        Status::Done,
-        "{\"labels\":[{\"at\":[0,0],\"boxes\":[[-10,-10,10,10]],\"id\":\"#2\",\"text\":\"ab\",\"until\":\"1000/1\"},{\"at\":[400,0],\"boxes\":[[-10,-10,10,10]],\"id\":\"#1\",\"text\":\"ab\",\"until\":\"20/1\"},{\"at\":[800,0],\"boxes\":[[-10,-10,10,10]],\"id\":\"#0\",\"text\":\"ab\",\"until\":\"40/1\"}],\"scale\":\"19/1\"}\n",
-    ),
-    (
-        SAMPLE,
-        THREE,
-        "view s m 0 0 1024 768 20/1",
-        Status::Done,
-        "{\"labels\":[{\"at\":[0,0],\"boxes\":[[-10,-10,10,10]],\"id\":\"#2\",\"text\":\"ab\",\"until\":\"1000/1\"},{\"at\":[800,0],\"boxes\":[[-10,-10,10,10]],\"id\":\"#0\",\"text\":\"ab\",\"until\":\"40/1\"}],\"scale\":\"20/1\"}\n",
-    ),
-    (
-        SAMPLE,
-        THREE,
-        "view s m 0 0 1024 768 40/1",
-        Status::Done,
-        "{\"labels\":[{\"at\":[0,0],\"boxes\":[[-10,-10,10,10]],\"id\":\"#2\",\"text\":\"ab\",\"until\":\"1000/1\"}],\"scale\":\"40/1\"}\n",
-    ),
-    (
-        ROOMY,
-        THREE,
-        "view s m 10 0 2 2 1",
-        Status::Done,
-        "{\"labels\":[{\"at\":[0,0],\"boxes\":[[-10,-10,10,10]],\"id\":\"#2\",\"text\":\"ab\",\"until\":\"1000/1\"}],\"scale\":\"1/1\"}\n",
-    ),
-    (
-        ROOMY,
-        THREE,
-        "view s m 11 0 2 2 1",
-        Status::Done,
-        "{\"labels\":[],\"scale\":\"1/1\"}\n",
-    ),
-    (
-        ROOMY,
-        THREE,
-        "view s m 0 0 1024 768 13/1",
-        Status::Done,
-        "{\"labels\":[{\"at\":[0,0],\"boxes\":[[-10,-10,10,10]],\"id\":\"#2\",\"text\":\"ab\",\"until\":\"1000/1\"},{\"at\":[400,0],\"boxes\":[[-10,-10,10,10]],\"id\":\"#1\",\"text\":\"ab\",\"until\":\"40/3\"},{\"at\":[800,0],\"boxes\":[[-10,-10,10,10]],\"id\":\"#0\",\"text\":\"ab\",\"until\":\"80/3\"}],\"scale\":\"13/1\"}\n",
-    ),
-    (
-        ROOMY,
-        THREE,
-        "view s m 0 0 1024 768 40/3",
-        Status::Done,
-        "{\"labels\":[{\"at\":[0,0],\"boxes\":[[-10,-10,10,10]],\"id\":\"#2\",\"text\":\"ab\",\"until\":\"1000/1\"},{\"at\":[800,0],\"boxes\":[[-10,-10,10,10]],\"id\":\"#0\",\"text\":\"ab\",\"until\":\"80/3\"}],\"scale\":\"40/3\"}\n",
-    ),
-    (
-        ROOMY,
-        THREE,
-        "view s m 0 0 1024 768 80/3",
-        Status::Done,
-        "{\"labels\":[{\"at\":[0,0],\"boxes\":[[-10,-10,10,10]],\"id\":\"#2\",\"text\":\"ab\",\"until\":\"1000/1\"}],\"scale\":\"80/3\"}\n",
-    ),
-    (
-        SAMPLE,
-        MAP,
-        "view x m 0 0 1024 768 1",
-        Status::FileFault,
-        "file fault\n",
-    ),
-    (
-        SAMPLE,
-        MAP,
-        "view s x 0 0 1024 768 1",
-        Status::FileFault,
-        "file fault\n",
-    ),
-    (
-        "version = 3",
-        MAP,
-        "view s m 0 0 1024 768 1",
-        Status::StyleRefused,
-        "style refused: 2 Version\n",
-    ),
-    (
-        SAMPLE,
-        "{\"type\":\"Feature",
-        "view s m 0 0 1024 768 1",
-        Status::InputRefused,
-        "map refused: 1 NotJson 16\n",
-    ),
-    (
-        SAMPLE,
+        "deep",
         "[[[[[[[[[[[[[[[[[[[[[[[[[[[[[[[[[[[[[[[[[[[[[[[[[[[[[[[[[[[[[[[[[",
-        "view s m 0 0 1024 768 1",
-        Status::InputRefused,
-        "map refused: 2 Deep 64\n",
+    ),
+    ("list", "[]"),
+    (
+        "mixed",
+        r#"{"type":"FeatureCollection","features":[{"type":"Feature"},1]}"#,
     ),
     (
-        SAMPLE,
-        "[]",
-        "view s m 0 0 1024 768 1",
-        Status::InputRefused,
-        "map refused: 3 NotCollection\n",
+        "circle",
+        r#"{"type":"Feature","geometry":{"type":"Circle"}}"#,
     ),
     (
-        SAMPLE,
-        "{\"type\":\"FeatureCollection\",\"features\":[{\"type\":\"Feature\"},1]}",
-        "view s m 0 0 1024 768 1",
-        Status::InputRefused,
-        "map refused: 4 NotFeature 1\n",
+        "far",
+        r#"{"type":"Feature","geometry":{"type":"LineString","coordinates":[[201,0],[1]]}}"#,
     ),
     (
-        SAMPLE,
-        "{\"type\":\"Feature\",\"geometry\":{\"type\":\"Circle\"}}",
-        "view s m 0 0 1024 768 1",
-        Status::InputRefused,
-        "map refused: 5 BadGeometry 0\n",
-    ),
-    (
-        SAMPLE,
-        "{\"type\":\"Feature\",\"geometry\":{\"type\":\"LineString\",\"coordinates\":[[201,0],[1]]}}",
-        "view s m 0 0 1024 768 1",
-        Status::InputRefused,
-        "map refused: 6 OutOfRange 0\n",
-    ),
-    (
-        SAMPLE,
-        "{\"type\":\"Feature\",\"geometry\":{\"type\":\"Polygon\",\"coordinates\":[[[0,0],[1,0]],5]}}",
-        "view s m 0 0 1024 768 1",
-        Status::InputRefused,
-        "map refused: 7 ShortRing 0\n",
+        "short",
+        r#"{"type":"Feature","geometry":{"type":"Polygon","coordinates":[[[0,0],[1,0]],5]}}"#,
     ),
 ];
+
+/// Words, the exit code and what is printed, with `¶` for each line feed.
+const VIEWS: &str =
+    r##"view sample map 85416942 473768861 1024 768 100 => 0 {"labels":[{"at":[85416942,473768861],"boxes":[[-27,-10,28,10]],"id":"#0","text":"Zürich","until":"1000/1"}],"scale":"100/1"}¶
+view sample map 200000 100000 1024 768 1 => 0 {"labels":[{"at":[200000,100000],"boxes":[[-17,-16,-7,4],[-7,-13,-2,7],[-2,-12,8,8],[8,-17,18,3]],"id":"#2","text":"Sihl","until":"2000/1"}],"scale":"1/1"}¶
+view sample map 30000000 10000000 1024 768 99999 => 0 {"labels":[{"at":[30000000,10000000],"boxes":[[-30,-10,30,10]],"id":"#1","text":"Inseln","until":"100000/1"}],"scale":"99999/1"}¶
+view sample map 30000000 10000000 1024 768 100000 => 0 {"labels":[],"scale":"100000/1"}¶
+view sample map 85416942 473768861 1024 768 1000 => 0 {"labels":[],"scale":"1000/1"}¶
+view sample map 0 0 2 2 1 => 0 {"labels":[],"scale":"1/1"}¶
+view sample ranked 15000 0 4096 4096 20 => 0 {"labels":[{"at":[30000,0],"boxes":[[-5,-10,5,10]],"id":"#3","text":"d","until":"1000/1"},{"at":[20000,0],"boxes":[[-5,-10,5,10]],"id":"#4","text":"c","until":"1000/1"},{"at":[10000,0],"boxes":[[-5,-10,5,10]],"id":"#1","text":"b","until":"1000/1"},{"at":[0,0],"boxes":[[-5,-10,5,10]],"id":"#0","text":"a","until":"1000/1"}],"scale":"20/1"}¶
+view sample three 0 0 1024 768 19/1 => 0 {"labels":[{"at":[0,0],"boxes":[[-10,-10,10,10]],"id":"#2","text":"ab","until":"1000/1"},{"at":[400,0],"boxes":[[-10,-10,10,10]],"id":"#1","text":"ab","until":"20/1"},{"at":[800,0],"boxes":[[-10,-10,10,10]],"id":"#0","text":"ab","until":"40/1"}],"scale":"19/1"}¶
+view sample three 0 0 1024 768 20/1 => 0 {"labels":[{"at":[0,0],"boxes":[[-10,-10,10,10]],"id":"#2","text":"ab","until":"1000/1"},{"at":[800,0],"boxes":[[-10,-10,10,10]],"id":"#0","text":"ab","until":"40/1"}],"scale":"20/1"}¶
+view sample three 0 0 1024 768 40/1 => 0 {"labels":[{"at":[0,0],"boxes":[[-10,-10,10,10]],"id":"#2","text":"ab","until":"1000/1"}],"scale":"40/1"}¶
+view roomy three 10 0 2 2 1 => 0 {"labels":[{"at":[0,0],"boxes":[[-10,-10,10,10]],"id":"#2","text":"ab","until":"1000/1"}],"scale":"1/1"}¶
+view roomy three 11 0 2 2 1 => 0 {"labels":[],"scale":"1/1"}¶
+view roomy three 0 0 1024 768 13/1 => 0 {"labels":[{"at":[0,0],"boxes":[[-10,-10,10,10]],"id":"#2","text":"ab","until":"1000/1"},{"at":[400,0],"boxes":[[-10,-10,10,10]],"id":"#1","text":"ab","until":"40/3"},{"at":[800,0],"boxes":[[-10,-10,10,10]],"id":"#0","text":"ab","until":"80/3"}],"scale":"13/1"}¶
+view roomy three 0 0 1024 768 40/3 => 0 {"labels":[{"at":[0,0],"boxes":[[-10,-10,10,10]],"id":"#2","text":"ab","until":"1000/1"},{"at":[800,0],"boxes":[[-10,-10,10,10]],"id":"#0","text":"ab","until":"80/3"}],"scale":"40/3"}¶
+view roomy three 0 0 1024 768 80/3 => 0 {"labels":[{"at":[0,0],"boxes":[[-10,-10,10,10]],"id":"#2","text":"ab","until":"1000/1"}],"scale":"80/3"}¶
+view none map 0 0 1024 768 1 => 5 file fault¶
+view sample none 0 0 1024 768 1 => 5 file fault¶
+view newer map 0 0 1024 768 1 => 3 style refused: 2 Version¶
+view sample cut 0 0 1024 768 1 => 4 map refused: 1 NotJson 16¶
+view sample deep 0 0 1024 768 1 => 4 map refused: 2 Deep 64¶
+view sample list 0 0 1024 768 1 => 4 map refused: 3 NotCollection¶
+view sample mixed 0 0 1024 768 1 => 4 map refused: 4 NotFeature 1¶
+view sample circle 0 0 1024 768 1 => 4 map refused: 5 BadGeometry 0¶
+view sample far 0 0 1024 768 1 => 4 map refused: 6 OutOfRange 0¶
+view sample short 0 0 1024 768 1 => 4 map refused: 7 ShortRing 0¶"##;
+
+/// Views of the maps of these names.
+struct OfMap;
+
+impl Subject for OfMap {
+    fn holds(alloc: Global, input: &str, want: &str) -> Result<bool, Fail> {
+        Ok(run_told(alloc, &FILES, input)?.as_str() == want)
+    }
+}
 
 #[test]
 fn maps_are_viewed_or_refused(rt: HostRuntime) -> Result<(), Fail> {
-    for (style, map, line, want, printed) in MAP_RUNS {
-        let (status, out) = run_over(rt.alloc(), &[("s", style), ("m", map)], line)?;
-        assert_eq!(rt; status, want, "{line} of {map}");
-        assert_eq!(rt; out.bytes(), printed.as_bytes(), "{line} of {map}");
-    }
-    Ok(())
+    each_holds::<OfMap>(&rt, rt.alloc(), VIEWS)
 }
 
-/// The lines of a style of one class.
-const LINES: [&str; 12] = [
-    "version = 2",
-    "[fonts.sans]",
-    "units = 1000",
-    "default = 500",
-    "[[class]]",
-    "geometry = \"point\"",
-    "font = \"sans\"",
-    "size = 20",
-    "priority = 1",
-    "min = \"0\"",
-    "max = \"1000\"",
-    "margin = 64",
-];
+/// A style of one class.
+const STYLE: &str = r#"version = 2
+[fonts.sans]
+units = 1000
+default = 500
+[[class]]
+geometry = "point"
+font = "sans"
+size = 20
+priority = 1
+min = "0"
+max = "1000"
+margin = 64
+"#;
 
-/// A place in that style, another line for it, and what is printed.
-const WRONG_LINES: [(usize, &str, &str); 8] = [
-    (2, "units = ", "style refused: 1 NotToml\n"),
-    (2, "units = 0", "style refused: 3 BadFont sans\n"),
-    (7, "size = 20.0", "style refused: 4 BadClass 0 size\n"),
-    (6, "font = \"serif\"", "style refused: 5 UnknownFont 0\n"),
-    (10, "max = \"0/5\"", "style refused: 4 BadClass 0 max\n"),
-    (11, "margin = 65", "style refused: 4 BadClass 0 margin\n"),
-    (11, "margin = \"5\"", "style refused: 4 BadClass 0 margin\n"),
-    (9, "min = \"1000\"", "style refused: 6 EmptyRange 0\n"),
-];
+/// A line of that style, another in its place, and the exit code with what is printed.
+const WRONG_LINES: &str = r#"units = 1000 | units =  => 3 style refused: 1 NotToml¶
+units = 1000 | units = 0 => 3 style refused: 3 BadFont sans¶
+size = 20 | size = 20.0 => 3 style refused: 4 BadClass 0 size¶
+font = "sans" | font = "serif" => 3 style refused: 5 UnknownFont 0¶
+max = "1000" | max = "0/5" => 3 style refused: 4 BadClass 0 max¶
+margin = 64 | margin = 65 => 3 style refused: 4 BadClass 0 margin¶
+margin = 64 | margin = "5" => 3 style refused: 4 BadClass 0 margin¶
+min = "0" | min = "1000" => 3 style refused: 6 EmptyRange 0¶"#;
 
-/// The style of one class with another line at this place.
-fn style_with(alloc: Global, place: usize, line: &str) -> Result<String, Fail> {
-    let mut text = String::new(alloc);
-    for (i, usual) in LINES.iter().enumerate() {
-        text.push_str(if i == place { line } else { usual })?;
-        text.push('\n')?;
+/// Styles with a wrong line, before a map that is none.
+struct OfStyle;
+
+impl Subject for OfStyle {
+    fn holds(alloc: Global, input: &str, want: &str) -> Result<bool, Fail> {
+        let (usual, wrong) = input.split_once(" | ").ok_or("a line")?;
+        let style = STYLE.replace(alloc, usual, wrong)?;
+        let files = [("s", style.as_str()), ("m", "[")];
+        Ok(run_told(alloc, &files, "view s m 0 0 1024 768 1")?.as_str() == want)
     }
-    Ok(text)
 }
 
 #[test]
 fn a_style_is_refused_before_its_map(rt: HostRuntime) -> Result<(), Fail> {
-    for (place, line, want) in WRONG_LINES {
-        let style = style_with(rt.alloc(), place, line)?;
-        let files = [("s", style.as_str()), ("m", "[")];
-        let (status, out) = run_over(rt.alloc(), &files, "view s m 0 0 1024 768 1")?;
-        assert_eq!(rt; status, Status::StyleRefused, "{line}");
-        assert_eq!(rt; out.bytes(), want.as_bytes(), "{line}");
-    }
-    Ok(())
+    each_holds::<OfStyle>(&rt, rt.alloc(), WRONG_LINES)
 }
 
+/// How many features without geometry a map has, and the exit code with what is printed.
+const COUNTS: &str = r#"0 => 0 {"labels":[],"scale":"1/1"}¶
+32768 => 0 {"labels":[],"scale":"1/1"}¶
+32769 => 4 map refused: 9 Full¶"#;
+
 /// A map of so many features without geometry.
-fn many(alloc: Global, n: usize) -> Result<String, Fail> {
-    let mut text = String::from_str(alloc, "{\"type\":\"FeatureCollection\",\"features\":[")?;
-    for i in 0..n {
-        text.push_str(if i == 0 { "" } else { "," })?;
-        text.push_str("{\"type\":\"Feature\"}")?;
+fn many(alloc: Global, count: usize) -> Result<String, Fail> {
+    let features = r#"{"type":"Feature"},"#.repeat(alloc, count)?;
+    let features = features.as_str().strip_suffix(',').unwrap_or("");
+    Ok(format!(in alloc; r#"{{"type":"FeatureCollection","features":[{features}]}}"#)?)
+}
+
+/// Views of maps of many features.
+struct OfMany;
+
+impl Subject for OfMany {
+    fn holds(alloc: Global, input: &str, want: &str) -> Result<bool, Fail> {
+        let map = many(alloc, input.parse::<usize>()?)?;
+        let files = [("s", SAMPLE), ("m", map.as_str())];
+        Ok(run_told(alloc, &files, "view s m 0 0 1024 768 1")?.as_str() == want)
     }
-    text.push_str("]}")?;
-    Ok(text)
 }
 
 #[test]
 fn a_map_has_at_most_32768_features(rt: HostRuntime) -> Result<(), Fail> {
-    let empty = "{\"labels\":[],\"scale\":\"1/1\"}\n";
-    for (n, want, printed) in [
-        (0, Status::Done, empty),
-        (32768, Status::Done, empty),
-        (32769, Status::InputRefused, "map refused: 9 Full\n"),
-    ] {
-        let map = many(rt.alloc(), n)?;
-        let files = [("s", SAMPLE), ("m", map.as_str())];
-        let (status, out) = run_over(rt.alloc(), &files, "view s m 0 0 1024 768 1")?;
-        assert_eq!(rt; status, want, "{n}");
-        assert_eq!(rt; out.bytes(), printed.as_bytes(), "{n}");
-    }
-    Ok(())
+    each_holds::<OfMany>(&rt, rt.alloc(), COUNTS)
 }

@@ -1,10 +1,8 @@
 //! Runs that serve connections, over files, sources, sinks and doors in memory. In the texts `~` stands
 //! for CR LF.
-use crate::run::run;
 use crate::status::Status;
-use crate::tests::{files_of, run_over, words_of};
-use ml_io::{Link, MemDoor, MemFiles, MemLink, MemSink, MemSource};
-use ml_watch::{Crowd, MemWatcher};
+use crate::tests::{Outside, Subject, each_holds, outside_of, run_alone, run_at, run_told, told};
+use ml_io::{Link, MemDoor, MemLink, MemSink, MemSource};
 use std::alloc::{AllocError, Global};
 use std::test::Fail;
 
@@ -70,22 +68,18 @@ const FILES: [(&str, &str); 4] = [
     ("l", "[]"),
 ];
 
-/// The exit code of a run of these words, and what it prints.
-fn run_told(alloc: Global, words: &str) -> Result<String, Fail> {
-    let (status, out) = run_over(alloc, &FILES, words)?;
-    let text = std::str::from_utf8(out.bytes()).ok().ok_or("a text")?;
-    let code = status.code();
-    Ok(format!(in alloc; "{code} {text}")?)
+/// Runs that print a line.
+struct OfLine;
+
+impl Subject for OfLine {
+    fn holds(alloc: Global, input: &str, want: &str) -> Result<bool, Fail> {
+        Ok(run_told(alloc, &FILES, input)?.as_str().strip_suffix('¶') == Some(want))
+    }
 }
 
 #[test]
 fn what_is_printed_alone_is_told(rt: HostRuntime) -> Result<(), Fail> {
-    for line in PRINTED_ALONE.lines() {
-        let (words, want) = line.split_once(" => ").ok_or("a case")?;
-        let told = run_told(rt.alloc(), words)?;
-        assert_eq!(rt; told.trim_end(), want, "{line}");
-    }
-    Ok(())
+    each_holds::<OfLine>(&rt, rt.alloc(), PRINTED_ALONE)
 }
 
 /// The text with CR LF for each `~`.
@@ -93,80 +87,101 @@ fn wire(alloc: Global, text: &str) -> Result<String, AllocError> {
     text.replace(alloc, "~", "\r\n")
 }
 
-/// A connection that brings the edits, in pieces of seven bytes.
-fn link(alloc: Global) -> Result<MemLink, AllocError> {
-    let edits = wire(alloc, EDITS)?;
-    Ok(Link {
-        source: MemSource::new(edits.into_bytes(), 7, Vec::new(alloc)),
-        sink: MemSink::new(alloc, 4096, Vec::new(alloc))?,
-    })
+/// The edits in pieces of seven bytes, where listed calls fail.
+fn edits(alloc: Global, fails: Vec<u64>) -> Result<MemSource, AllocError> {
+    let text = wire(alloc, EDITS)?;
+    let bytes = Vec::from_slice(alloc, text.as_bytes())?;
+    Ok(MemSource::new(bytes, 7, fails))
 }
 
-/// What serving the edits from the input to the output comes to, where listed calls fail.
-fn piped(alloc: Global, reads: Vec<u64>, writes: Vec<u64>) -> Result<(Status, MemSink), Fail> {
-    let words = words_of(alloc, "pipe s e")?;
-    let mut files = MemFiles::new(files_of(alloc, &FILES)?, Vec::new(alloc));
-    let mut input = MemSource::new(wire(alloc, EDITS)?.into_bytes(), 7, reads);
-    let mut out = MemSink::new(alloc, 4096, writes)?;
-    let mut door = MemDoor::new(alloc, Vec::new(alloc), Vec::new(alloc))?;
-    let mut crowd: Crowd<MemWatcher> = Crowd::new(Vec::new(alloc));
-    let status = run(
-        alloc, &words, &mut files, &mut input, &mut out, &mut door, &mut crowd,
-    );
-    Ok((status, out))
+/// A connection that brings the edits.
+fn link(alloc: Global) -> Result<MemLink, AllocError> {
+    let source = edits(alloc, Vec::new(alloc))?;
+    let sink = MemSink::new(alloc, 4096, Vec::new(alloc))?;
+    Ok(Link { source, sink })
+}
+
+/// The edits as input, where listed calls of the input and of the output fail.
+fn piping(alloc: Global, reads: Vec<u64>, writes: Vec<u64>) -> Result<Outside, Fail> {
+    let mut outside = outside_of(alloc, &FILES)?;
+    outside.input = edits(alloc, reads)?;
+    outside.out = MemSink::new(alloc, 4096, writes)?;
+    Ok(outside)
 }
 
 #[test]
 fn one_connection_is_piped(rt: HostRuntime) -> Result<(), Fail> {
-    let alloc = rt.alloc();
-    let want = wire(alloc, REPLIES)?;
-    let (status, out) = piped(alloc, Vec::new(alloc), Vec::new(alloc))?;
-    assert_eq!(rt; status, Status::Done);
-    assert_eq!(rt; out.bytes(), want.as_bytes());
-    let (read, _out) = piped(alloc, vec![in alloc; 0]?, Vec::new(alloc))?;
-    let (write, _out) = piped(alloc, Vec::new(alloc), vec![in alloc; 0]?)?;
-    assert_eq!(rt; (read, write), (Status::ReadFault, Status::WriteFault));
+    let mut outside = piping(rt.alloc(), Vec::new(rt.alloc()), Vec::new(rt.alloc()))?;
+    assert!(rt; run_alone(rt.alloc(), &mut outside, "pipe s e")? == Status::Done);
+    assert!(rt; outside.out.bytes() == wire(rt.alloc(), REPLIES)?.as_bytes());
     Ok(())
 }
 
-/// What serving two connections at a door comes to, where listed calls of the door fail.
-fn served(alloc: Global, fails: Vec<u64>) -> Result<(Status, String), Fail> {
-    let words = words_of(alloc, "serve s e 80 2")?;
-    let mut files = MemFiles::new(files_of(alloc, &FILES)?, Vec::new(alloc));
-    let mut input = MemSource::new(Vec::new(alloc), 1, Vec::new(alloc));
-    let mut out = MemSink::new(alloc, 4096, Vec::new(alloc))?;
-    let mut links = Vec::new(alloc);
-    links.push(link(alloc)?)?;
-    links.push(link(alloc)?)?;
-    let mut door = MemDoor::new(alloc, links, fails)?;
-    let mut crowd: Crowd<MemWatcher> = Crowd::new(Vec::new(alloc));
-    let status = run(
-        alloc, &words, &mut files, &mut input, &mut out, &mut door, &mut crowd,
-    );
-    let told = told(alloc, out.bytes(), door.links_done())?;
-    Ok((status, told))
+/// How piping the edits ends, where listed calls of the input and of the output fail.
+fn pipe_status(alloc: Global, reads: Vec<u64>, writes: Vec<u64>) -> Result<Status, Fail> {
+    let mut outside = piping(alloc, reads, writes)?;
+    run_alone(alloc, &mut outside, "pipe s e")
 }
 
-/// What was printed, and then what each connection got.
-fn told(alloc: Global, out: &[u8], links: &[MemLink]) -> Result<String, Fail> {
-    let printed = std::str::from_utf8(out).ok().ok_or("a text")?;
-    let mut told = String::from_str(alloc, printed)?;
-    for link in links {
-        told.push_str(std::str::from_utf8(link.sink.bytes()).ok().ok_or("a text")?)?;
+#[test]
+fn a_connection_may_fail(rt: HostRuntime) -> Result<(), Fail> {
+    let alloc = rt.alloc();
+    let read = pipe_status(alloc, vec![in alloc; 0]?, Vec::new(alloc))?;
+    assert!(rt; read == Status::ReadFault);
+    let write = pipe_status(alloc, Vec::new(alloc), vec![in alloc; 0]?)?;
+    assert!(rt; write == Status::WriteFault);
+    Ok(())
+}
+
+/// Two connections that bring the edits.
+fn two_links(alloc: Global) -> Result<Vec<MemLink>, AllocError> {
+    let mut links = Vec::new(alloc);
+    for _link in 0..2 {
+        links.push(link(alloc)?)?;
     }
-    Ok(told)
+    Ok(links)
+}
+
+/// What serving two connections at a door prints, behind the exit code, and then what each connection
+/// got, where listed calls of the door fail.
+fn served_told(alloc: Global, fails: Vec<u64>) -> Result<String, Fail> {
+    let mut outside = outside_of(alloc, &FILES)?;
+    let mut door = MemDoor::new(alloc, two_links(alloc)?, fails)?;
+    let status = run_at(alloc, &mut outside, &mut door, "serve s e 80 2")?;
+    let mut all = told(alloc, status, &outside.out)?;
+    push_replies(&mut all, door.links_done())?;
+    Ok(all)
+}
+
+/// Adds what each connection got.
+fn push_replies(all: &mut String, links: &[MemLink]) -> Result<(), Fail> {
+    for link in links {
+        all.push_str(std::str::from_utf8(link.sink.bytes())?)?;
+    }
+    Ok(())
+}
+
+/// Whether serving two connections at a door, where listed calls of the door fail, prints this, behind
+/// the exit code, and the connections get these replies.
+fn is_served(alloc: Global, fails: Vec<u64>, printed: &str, replies: &str) -> Result<bool, Fail> {
+    let told = served_told(alloc, fails)?;
+    let replies = wire(alloc, replies)?;
+    Ok(told.as_str().strip_prefix(printed) == Some(replies.as_str()))
 }
 
 #[test]
 fn connections_of_a_door_are_served(rt: HostRuntime) -> Result<(), Fail> {
     let alloc = rt.alloc();
-    let (first, second) = (wire(alloc, REPLIES)?, wire(alloc, LATER)?);
-    let (first, second) = (first.as_str(), second.as_str());
-    let (status, all) = served(alloc, Vec::new(alloc))?;
-    let want = format!(in alloc; "ready\nserved 2\n{first}{second}")?;
-    assert_eq!(rt; (status, all.as_str()), (Status::Done, want.as_str()));
-    let (status, one) = served(alloc, vec![in alloc; 1]?)?;
-    let want = format!(in alloc; "ready\ndoor fault\n{first}")?;
-    assert_eq!(rt; (status, one.as_str()), (Status::DoorFault, want.as_str()));
+    let mut both = String::from_str(alloc, REPLIES)?;
+    both.push_str(LATER)?;
+    assert!(rt; is_served(alloc, Vec::new(alloc), "0 ready¶served 2¶", both.as_str())?);
+    Ok(())
+}
+
+#[test]
+fn a_door_that_fails_is_told(rt: HostRuntime) -> Result<(), Fail> {
+    let alloc = rt.alloc();
+    let fails = vec![in alloc; 1]?;
+    assert!(rt; is_served(alloc, fails, "8 ready¶door fault¶", REPLIES)?);
     Ok(())
 }

@@ -1,15 +1,42 @@
-//! Runs of the top call over files and sinks in memory, worked out by hand. A case is a row: the
-//! bytes of the files, the words, the exit code and what is printed.
+//! Runs of the top call over files and sinks in memory, worked out by hand. A case is a line
+//! `input => answer`: what the files hold and the words, and the exit code with what is printed.
+ghost use Rattle.std.specs.Prelude.{◌≡◌, None, false};
+
 use crate::run::run;
 use crate::status::Status;
-use ml_io::{CalmFiles, CalmSink, Files, MemDoor, MemFiles, MemSink, MemSource, Sink};
+use ml_io::{CalmFiles, CalmSink, Door, Files, MemDoor, MemFiles, MemSink, MemSource, Sink};
 use ml_ratio::Text;
 use ml_watch::{Crowd, MemWatcher};
-use std::alloc::{AllocError, Global};
+use std::alloc::Global;
+use std::process::Abort;
 use std::test::Fail;
 
+/// What a table of cases is about.
+pub(crate) trait Subject {
+    /// Whether an input has the answer that is wanted.
+    fn holds(alloc: Global, input: &str, want: &str) -> Result<bool, Fail>;
+}
+
+/// Whether a case holds, a line `input => answer`.
+fn case_holds<S: Subject>(alloc: Global, line: &str) -> Result<bool, Fail> {
+    let (input, want) = line.split_once(" => ").ok_or("a case")?;
+    S::holds(alloc, input, want)
+}
+
+/// Each case of a table holds.
+pub(crate) fn each_holds<S: Subject>(
+    rt: &impl Abort,
+    alloc: Global,
+    table: &str,
+) -> Result<(), Fail> {
+    for line in table.lines() {
+        assert!(rt; case_holds::<S>(alloc, line)?, "{line}");
+    }
+    Ok(())
+}
+
 /// The words of a line, cut at its spaces.
-pub(crate) fn words_of(alloc: Global, line: &str) -> Result<Vec<String>, Fail> {
+fn words_of(alloc: Global, line: &str) -> Result<Vec<String>, Fail> {
     let mut words = Vec::new(alloc);
     for word in line.split(' ') {
         words.push(String::from_str(alloc, word)?)?;
@@ -18,10 +45,7 @@ pub(crate) fn words_of(alloc: Global, line: &str) -> Result<Vec<String>, Fail> {
 }
 
 /// Names with bytes.
-pub(crate) fn files_of(
-    alloc: Global,
-    texts: &[(&str, &str)],
-) -> Result<Vec<(Text, Vec<u8>)>, Fail> {
+fn files_of(alloc: Global, texts: &[(&str, &str)]) -> Result<Vec<(Text, Vec<u8>)>, Fail> {
     let mut files = Vec::new(alloc);
     for (name, text) in texts {
         let bytes = Vec::from_slice(alloc, text.as_bytes())?;
@@ -30,30 +54,71 @@ pub(crate) fn files_of(
     Ok(files)
 }
 
-/// A run without input, connections and watchers.
-pub(crate) fn run_alone<F: Files, K: Sink>(
-    alloc: Global,
-    words: &[String],
-    files: &mut F,
-    out: &mut K,
-) -> Result<Status, AllocError> {
-    let mut input = MemSource::new(Vec::new(alloc), 1, Vec::new(alloc));
-    let mut door = MemDoor::new(alloc, Vec::new(alloc), Vec::new(alloc))?;
-    let mut crowd: Crowd<MemWatcher> = Crowd::new(Vec::new(alloc));
-    Ok(run(alloc, words, files, &mut input, out, &mut door, &mut crowd))
+/// What a run reads and writes, and who is told what changes.
+#[derive(Drop)]
+pub(crate) struct Outside {
+    pub(crate) files: MemFiles,
+    pub(crate) input: MemSource,
+    pub(crate) out: MemSink,
+    pub(crate) crowd: Crowd<MemWatcher>,
 }
 
-/// What a run over these files prints, and its status.
-pub(crate) fn run_over(
+/// These files, of which the listed loads fail, no input, room for what is printed, and no watchers.
+fn failing_files(alloc: Global, texts: &[(&str, &str)], fails: Vec<u64>) -> Result<Outside, Fail> {
+    Ok(Outside {
+        files: MemFiles::new(files_of(alloc, texts)?, fails),
+        input: MemSource::new(Vec::new(alloc), 1, Vec::new(alloc)),
+        out: MemSink::new(alloc, 65536, Vec::new(alloc))?,
+        crowd: Crowd::new(Vec::new(alloc)),
+    })
+}
+
+/// These files, none of whose loads fail.
+pub(crate) fn outside_of(alloc: Global, texts: &[(&str, &str)]) -> Result<Outside, Fail> {
+    failing_files(alloc, texts, Vec::new(alloc))
+}
+
+/// Runs the words of a line at a door.
+pub(crate) fn run_at<D: Door>(
     alloc: Global,
-    texts: &[(&str, &str)],
+    outside: &mut Outside,
+    door: &mut D,
     line: &str,
-) -> Result<(Status, MemSink), Fail> {
+) -> Result<Status, Fail>
+    requires fresh { D.at_port door.old ≡ None }
+    requires out { D.is_out door.old ≡ false }
+{
     let words = words_of(alloc, line)?;
-    let mut files = MemFiles::new(files_of(alloc, texts)?, Vec::new(alloc));
-    let mut out = MemSink::new(alloc, 65536, Vec::new(alloc))?;
-    let status = run_alone(alloc, &words, &mut files, &mut out)?;
-    Ok((status, out))
+    Ok(run(
+        alloc,
+        &words,
+        &mut outside.files,
+        &mut outside.input,
+        &mut outside.out,
+        door,
+        &mut outside.crowd,
+    ))
+}
+
+/// Runs the words of a line at a door to which no connection comes.
+pub(crate) fn run_alone(alloc: Global, outside: &mut Outside, line: &str) -> Result<Status, Fail> {
+    let mut door = MemDoor::new(alloc, Vec::new(alloc), Vec::new(alloc))?;
+    run_at(alloc, outside, &mut door, line)
+}
+
+/// What was printed, with `¶` for each line feed, behind the exit code.
+pub(crate) fn told(alloc: Global, status: Status, out: &MemSink) -> Result<String, Fail> {
+    let printed = std::str::from_utf8(out.bytes())?;
+    let printed = printed.replace(alloc, "\n", "¶")?;
+    let code = status.code();
+    Ok(format!(in alloc; "{code} {printed}")?)
+}
+
+/// What a run over these files prints, with `¶` for each line feed, behind its exit code.
+pub(crate) fn run_told(alloc: Global, texts: &[(&str, &str)], line: &str) -> Result<String, Fail> {
+    let mut outside = outside_of(alloc, texts)?;
+    let status = run_alone(alloc, &mut outside, line)?;
+    told(alloc, status, &outside.out)
 }
 
 const TWO: &str = "A 0 0 0 1000 -10,-5,10,5\nB 400 0 0 1000 -10,-5,10,5\n";
@@ -111,31 +176,28 @@ fn text_of(alloc: Global, written: &str) -> Result<String, Fail> {
     Ok(lines.replace(alloc, "↵", "\r")?)
 }
 
-/// What a run prints, with `¶` for each line feed, behind its exit code.
-pub(crate) fn told(alloc: Global, status: Status, out: &MemSink) -> Result<String, Fail> {
-    let printed = std::str::from_utf8(out.bytes()).ok().ok_or("a text")?;
-    let printed = printed.replace(alloc, "\n", "¶")?;
-    let code = status.code();
-    Ok(format!(in alloc; "{code} {printed}")?)
+/// What the run of a table, of slots and of words prints, behind its exit code.
+fn table_told(alloc: Global, table: &str, slots: &str, line: &str) -> Result<String, Fail> {
+    let table = text_of(alloc, table)?;
+    let slots = text_of(alloc, slots)?;
+    let files = [("t", table.as_str()), ("s", slots.as_str())];
+    run_told(alloc, &files, line)
 }
 
-/// What the run of a table, of slots and of words prints, behind its exit code.
-fn table_run(alloc: Global, input: &str) -> Result<String, Fail> {
-    let (table, rest) = input.split_once("|").ok_or("a table")?;
-    let (slots, line) = rest.split_once("|").ok_or("slots")?;
-    let (table, slots) = (text_of(alloc, table)?, text_of(alloc, slots)?);
-    let files = [("t", table.as_str()), ("s", slots.as_str())];
-    let (status, out) = run_over(alloc, &files, line)?;
-    told(alloc, status, &out)
+/// Runs over tables.
+struct OverTable;
+
+impl Subject for OverTable {
+    fn holds(alloc: Global, input: &str, want: &str) -> Result<bool, Fail> {
+        let (table, rest) = input.split_once("|").ok_or("a table")?;
+        let (slots, line) = rest.split_once("|").ok_or("slots")?;
+        Ok(table_told(alloc, table, slots, line)?.as_str() == want)
+    }
 }
 
 #[test]
 fn tables_are_shown_chosen_and_judged(rt: HostRuntime) -> Result<(), Fail> {
-    for case in TABLE_RUNS.lines() {
-        let (input, want) = case.split_once(" => ").ok_or("a case")?;
-        assert_eq!(rt; table_run(rt.alloc(), input)?.as_str(), want, "{case}");
-    }
-    Ok(())
+    each_holds::<OverTable>(&rt, rt.alloc(), TABLE_RUNS)
 }
 
 /// Words that have none of the forms.
@@ -173,91 +235,128 @@ zoom s m 0 0 101 100
 zoom s m 2000000001 0 100 100
 zoom";
 
+/// What is printed of these, behind the exit code.
+const USAGE: &str = "2 usage: maplabel show, slots, check, view, pipe, serve or gen¶";
+
 #[test]
 fn words_of_no_form_are_told_so(rt: HostRuntime) -> Result<(), Fail> {
-    let usage = "usage: maplabel show, slots, check, view, pipe, serve or gen\n";
     for line in NO_FORMS.lines() {
-        let (status, out) = run_over(rt.alloc(), &[("t", TWO)], line)?;
-        assert_eq!(rt; status, Status::Usage, "{line}");
-        assert_eq!(rt; out.bytes(), usage.as_bytes(), "{line}");
+        let told = run_told(rt.alloc(), &[("t", TWO)], line)?;
+        assert!(rt; told.as_str() == USAGE, "{line}");
     }
     Ok(())
 }
 
-#[test]
-fn a_table_is_full(rt: HostRuntime) -> Result<(), Fail> {
-    let alloc = rt.alloc();
+/// A table of one label more than a table may hold.
+fn long_table(alloc: Global) -> Result<String, Fail> {
     let mut table = String::new(alloc);
     for i in 0..32_769 {
         table.push_str(format!(in alloc; "L{i} 0 0 0 1 0,0,1,1\n")?.as_str())?;
     }
-    let (status, out) = run_over(alloc, &[("t", table.as_str())], "slots t")?;
-    assert_eq!(rt; status, Status::InputRefused);
-    assert_eq!(rt; out.bytes(), b"table refused: 3 Full\n".as_slice());
+    Ok(table)
+}
+
+#[test]
+fn a_table_is_full(rt: HostRuntime) -> Result<(), Fail> {
+    let table = long_table(rt.alloc())?;
+    let told = run_told(rt.alloc(), &[("t", table.as_str())], "slots t")?;
+    assert!(rt; told.as_str() == "4 table refused: 3 Full¶");
     Ok(())
 }
 
-/// The status of `slots t` and of `view t m ..` over a file `t` of so many bytes, where the first load
-/// fails or none does.
-fn status_over(alloc: Global, line: &str, count: usize, fails: Vec<u64>) -> Result<Status, Fail> {
+/// A file `t` of so many line feeds.
+fn line_feeds(alloc: Global, count: usize) -> Result<Vec<(Text, Vec<u8>)>, Fail> {
     let mut files = Vec::new(alloc);
-    files.push((Text::of(alloc, "t")?, vec![in alloc; b'\n'; count]?))?;
-    let mut files = MemFiles::new(files, fails);
-    let mut out = MemSink::new(alloc, 100, Vec::new(alloc))?;
-    Ok(run_alone(alloc, &words_of(alloc, line)?, &mut files, &mut out)?)
+    let bytes = vec![in alloc; b'\n'; count]?;
+    files.push((Text::of(alloc, "t")?, bytes))?;
+    Ok(files)
+}
+
+/// The status of a run over a file of so many line feeds.
+fn status_over(alloc: Global, count: usize, line: &str) -> Result<Status, Fail> {
+    let mut outside = outside_of(alloc, &[])?;
+    outside.files = MemFiles::new(line_feeds(alloc, count)?, Vec::new(alloc));
+    run_alone(alloc, &mut outside, line)
+}
+
+/// The status of a run over an empty file, whose first load fails.
+fn status_of_fault(alloc: Global, line: &str) -> Result<Status, Fail> {
+    let mut outside = failing_files(alloc, &[("t", "")], vec![in alloc; 0]?)?;
+    run_alone(alloc, &mut outside, line)
 }
 
 #[test]
 fn files_that_fail_or_are_too_long(rt: HostRuntime) -> Result<(), Fail> {
-    let alloc = rt.alloc();
     for line in ["slots t", "view t m 0 0 1024 768 1"] {
-        let long = status_over(alloc, line, 67_108_865, Vec::new(alloc))?;
-        assert_eq!(rt; long, Status::TooLong, "{line}");
-        let failed = status_over(alloc, line, 0, vec![in alloc; 0]?)?;
-        assert_eq!(rt; failed, Status::FileFault, "{line}");
+        assert!(rt;
+            status_over(rt.alloc(), 67_108_865, line)? == Status::TooLong,
+            "{line}"
+        );
+        assert!(rt;
+            status_of_fault(rt.alloc(), line)? == Status::FileFault,
+            "{line}"
+        );
     }
     Ok(())
+}
+
+/// Whether a run to a sink whose first call fails ends so, with nothing printed.
+fn is_unprinted(alloc: Global, line: &str) -> Result<bool, Fail> {
+    let mut outside = outside_of(alloc, &[("t", TWO)])?;
+    outside.out = MemSink::new(alloc, 1000, vec![in alloc; 0]?)?;
+    let status = run_alone(alloc, &mut outside, line)?;
+    Ok(status == Status::WriteFault && outside.out.bytes().is_empty())
 }
 
 #[test]
 fn sinks_that_fail(rt: HostRuntime) -> Result<(), Fail> {
-    let alloc = rt.alloc();
     for line in ["show t 0 0 1024 768 1/1", "slots t", "slots u", "none"] {
-        let mut files = MemFiles::new(files_of(alloc, &[("t", TWO)])?, Vec::new(alloc));
-        let mut out = MemSink::new(alloc, 1000, vec![in alloc; 0]?)?;
-        let status = run_alone(alloc, &words_of(alloc, line)?, &mut files, &mut out)?;
-        assert_eq!(rt; status, Status::WriteFault, "{line}");
-        assert_eq!(rt; out.bytes(), b"".as_slice(), "{line}");
+        assert!(rt; is_unprinted(rt.alloc(), line)?, "{line}");
     }
     Ok(())
 }
 
-#[test]
-fn calm_things_do_not_fail(rt: HostRuntime) -> Result<(), Fail> {
-    let alloc = rt.alloc();
-    let mut files = CalmFiles::new(files_of(alloc, &[("t", TWO)])?);
-    let mut out = CalmSink::new();
-    let status = run_alone(alloc, &words_of(alloc, "slots t")?, &mut files, &mut out)?;
-    assert_eq!(rt; (status, out.count()), (Status::Done, 20));
-    Ok(())
+/// The status of `slots t` over files and a sink.
+fn slots_status<F: Files, K: Sink>(
+    alloc: Global,
+    files: &mut F,
+    out: &mut K,
+) -> Result<Status, Fail> {
+    let words = words_of(alloc, "slots t")?;
+    let mut input = MemSource::new(Vec::new(alloc), 1, Vec::new(alloc));
+    let mut door = MemDoor::new(alloc, Vec::new(alloc), Vec::new(alloc))?;
+    let mut crowd: Crowd<MemWatcher> = Crowd::new(Vec::new(alloc));
+    Ok(run(alloc, &words, files, &mut input, out, &mut door, &mut crowd))
 }
 
 #[test]
+fn calm_things_do_not_fail(rt: HostRuntime) -> Result<(), Fail> {
+    let mut files = CalmFiles::new(files_of(rt.alloc(), &[("t", TWO)])?);
+    let mut out = CalmSink::new();
+    assert!(rt; slots_status(rt.alloc(), &mut files, &mut out)? == Status::Done);
+    assert!(rt; out.count() == 20);
+    Ok(())
+}
+
+/// Each status with its code.
+const CODES: [(Status, u8); 12] = [
+    (Status::Done, 0),
+    (Status::NotBest, 1),
+    (Status::Usage, 2),
+    (Status::StyleRefused, 3),
+    (Status::InputRefused, 4),
+    (Status::FileFault, 5),
+    (Status::ReadFault, 6),
+    (Status::WriteFault, 7),
+    (Status::DoorFault, 8),
+    (Status::Memory, 9),
+    (Status::TooLong, 10),
+    (Status::NotAdopted, 11),
+];
+
+#[test]
 fn statuses_have_these_codes(rt: HostRuntime) {
-    for (status, code) in [
-        (Status::Done, 0),
-        (Status::NotBest, 1),
-        (Status::Usage, 2),
-        (Status::StyleRefused, 3),
-        (Status::InputRefused, 4),
-        (Status::FileFault, 5),
-        (Status::ReadFault, 6),
-        (Status::WriteFault, 7),
-        (Status::DoorFault, 8),
-        (Status::Memory, 9),
-        (Status::TooLong, 10),
-        (Status::NotAdopted, 11),
-    ] {
-        assert_eq!(rt; status.code(), code, "{status:?}");
+    for (status, code) in CODES {
+        assert!(rt; status.code() == code, "{status:?}");
     }
 }

@@ -1,6 +1,5 @@
 //! Zoom timelines of maps over files in memory, worked out by hand.
-use crate::status::Status;
-use crate::tests::run_over;
+use crate::tests::{Subject, each_holds, run_told};
 use ml_style::SAMPLE;
 use std::alloc::Global;
 use std::test::Fail;
@@ -14,17 +13,17 @@ const WEST: &str =
     r#"{"type":"Feature","id":"A b","geometry":{"type":"Point","coordinates":[-0.0001,0]},"properties":{"name":"ab","place":"city"}}"#;
 
 /// What stands in the style in place of `min = "0"`, what stands behind the city's key, the words
-/// behind style and map, and what is printed, with `¶` for each line feed.
+/// behind style and map, and the exit code with what is printed, with `¶` for each line feed.
 const ABC_ZOOMS: &str =
-    r#"min = "0" |  | 0 0 100 100 => A (0/1,1000/1)¶B (20/3,20/1)¶C (40/3,40/1)¶peak 3 after 40/3¶
-min = "0" |  | 0 0 2 2 => A (0/1,1000/1)¶peak 1 after 0/1¶
-min = "10" |  | 0 0 2 2 => A [10/1,1000/1)¶peak 1 at 10/1¶
-min = "0" |  | 2000000000 0 2 2 => peak 0 after 0/1¶"#;
+    r#"min = "0" |  | 0 0 100 100 => 0 A (0/1,1000/1)¶B (20/3,20/1)¶C (40/3,40/1)¶peak 3 after 40/3¶
+min = "0" |  | 0 0 2 2 => 0 A (0/1,1000/1)¶peak 1 after 0/1¶
+min = "10" |  | 0 0 2 2 => 0 A [10/1,1000/1)¶peak 1 at 10/1¶
+min = "0" |  | 2000000000 0 2 2 => 0 peak 0 after 0/1¶"#;
 
 /// The same of the city to the west.
 const WEST_ZOOMS: &str =
-    r#"min = "0" | dx = 100 | 0 0 2 2 => A%20b (1000/111,1000/89)¶peak 1 after 1000/111¶
-min = "0" |  | -1000 0 2 2 => A%20b (0/1,1000/1)¶peak 1 after 0/1¶"#;
+    r#"min = "0" | dx = 100 | 0 0 2 2 => 0 A%20b (1000/111,1000/89)¶peak 1 after 1000/111¶
+min = "0" |  | -1000 0 2 2 => 0 A%20b (0/1,1000/1)¶peak 1 after 0/1¶"#;
 
 /// The style with another minimum and a further line in the class of cities.
 fn style_with(alloc: Global, min: &str, line: &str) -> Result<String, Fail> {
@@ -33,35 +32,36 @@ fn style_with(alloc: Global, min: &str, line: &str) -> Result<String, Fail> {
     Ok(style.replace(alloc, "value = \"city\"", city.as_str())?)
 }
 
-/// What is printed of a map for a case.
-fn printed(alloc: Global, map: &str, input: &str) -> Result<String, Fail> {
+/// What is printed of the map of this name for a case, behind the exit code.
+fn zoom_told(alloc: Global, map: &str, input: &str) -> Result<String, Fail> {
     let (min, rest) = input.split_once(" | ").ok_or("a minimum")?;
     let (line, words) = rest.split_once(" | ").ok_or("a line")?;
     let style = style_with(alloc, min, line)?;
-    let words = format!(in alloc; "zoom s m {words}")?;
-    let map = String::from_str(alloc, map)?;
-    let files = [("s", style.as_str()), ("m", map.as_str())];
-    let (status, out) = run_over(alloc, &files, words.as_str())?;
-    if status != Status::Done {
-        return Err(Fail::from("a timeline"));
-    }
-    let text = str::from_utf8(out.bytes())?;
-    Ok(text.replace(alloc, "\n", "¶")?)
+    let words = format!(in alloc; "zoom s {map} {words}")?;
+    let files = [("s", style.as_str()), ("abc", ABC), ("west", WEST)];
+    run_told(alloc, &files, words.as_str())
 }
 
-/// Whether each case of a map is printed so.
-fn all_printed(alloc: Global, map: &str, cases: &str) -> Result<bool, Fail> {
-    let mut right = true;
-    for line in cases.lines() {
-        let (input, want) = line.split_once(" => ").ok_or("a case")?;
-        right = right && printed(alloc, map, input)?.as_str() == want;
+/// Timelines of three cities.
+struct OfThree;
+
+impl Subject for OfThree {
+    fn holds(alloc: Global, input: &str, want: &str) -> Result<bool, Fail> {
+        Ok(zoom_told(alloc, "abc", input)?.as_str() == want)
     }
-    Ok(right)
+}
+
+/// Timelines of the city to the west.
+struct OfWest;
+
+impl Subject for OfWest {
+    fn holds(alloc: Global, input: &str, want: &str) -> Result<bool, Fail> {
+        Ok(zoom_told(alloc, "west", input)?.as_str() == want)
+    }
 }
 
 #[test]
 fn timelines_are_printed(rt: HostRuntime) -> Result<(), Fail> {
-    assert!(rt; all_printed(rt.alloc(), ABC, ABC_ZOOMS)?);
-    assert!(rt; all_printed(rt.alloc(), WEST, WEST_ZOOMS)?);
-    Ok(())
+    each_holds::<OfThree>(&rt, rt.alloc(), ABC_ZOOMS)?;
+    each_holds::<OfWest>(&rt, rt.alloc(), WEST_ZOOMS)
 }

@@ -1,14 +1,20 @@
 //! Labels, views and their tests at a scale.
-use crate::cases::{case, count, first, fraction, good_label, label_of, view_of};
+use crate::cases::{
+    OfLabel, OfPair, Table, both_told, count, fraction, fraction_at, good_label, good_view, hold,
+    is_rising, label_of, label_told, number, pieces_of, told_of_label, told_of_pair, view_of,
+    view_told, word,
+};
 use ml_cone::{BoxPx, Label, Order, Span, active, meets, overlaps};
 use ml_ratio::lines::parts_of;
 use ml_ratio::{Seq, Text};
 use std::alloc::Global;
-use std::cmp::Ordering;
 use std::test::Fail;
 
 /// Parts of a label, and whether they make one.
-const LABELS: &str = "\
+struct Parts;
+
+impl Table for Parts {
+    const LINES: &'static str = "\
 2000000000 -2000000000 0 1000 0 1 -10,-5,10,5 => true
 -2000000000 2000000000 0 1000 0 1 -10,-5,10,5 => true
 2000000001 0 0 1000 0 1 -10,-5,10,5 => false
@@ -46,85 +52,86 @@ const LABELS: &str = "\
 0 0 0 1000 65 1 -512,-512,512,512 => false
 0 0 0 1000 4294967295 1 -10,-5,10,5 => false";
 
-#[test]
-fn labels_have_parts_within_bounds(rt: HostRuntime) -> Result<(), Fail> {
-    for line in LABELS.lines() {
-        let (text, good) = case(line)?;
-        let label = label_of(rt.alloc(), text)?;
-        assert_eq!(rt; label.is_some(), good == "true", "{line}");
+    fn told(alloc: Global, input: &str) -> Result<String, Fail> {
+        Ok(label_of(alloc, input)?.is_some().to_string(alloc)?)
     }
-    Ok(())
 }
 
-/// Numbers of boxes and of pieces, and whether a label may have so many.
-const COUNTS: [(usize, usize, bool); 4] = [
-    (64, 64, true),
-    (65, 65, false),
-    (64, 63, false),
-    (64, 65, false),
-];
+#[test]
+fn labels_have_parts_within_bounds(rt: HostRuntime) -> Result<(), Fail> {
+    hold::<Parts>(rt.alloc())
+}
 
 /// A label with so many boxes and pieces, if there is one.
-fn label_with(alloc: Global, boxes: usize, pieces: usize) -> Result<Option<Label>, Fail> {
+fn label_with(alloc: Global, boxes: u32, pieces: u32) -> Result<Option<Label>, Fail> {
     let usual = BoxPx {
         l: -10,
         b: -5,
         r: 10,
         t: 5,
     };
-    let boxes = Seq::of_vec(vec![in alloc; usual; boxes]?);
-    let mut texts = Seq::new(alloc);
-    for _piece in 0..pieces {
-        texts.push(Text::of(alloc, "a")?)?;
-    }
+    let boxes = Seq::of_vec(vec![in alloc; usual; boxes as usize]?);
+    let pieces = pieces_of(alloc, pieces)?;
     let order = order_of(alloc, "0 0 A")?;
-    let (min, max) = (fraction("0")?, fraction("1000")?);
-    Ok(Label::of(order, 0, 0, boxes, texts, min, max, 0))
+    let min = fraction("0")?;
+    let max = fraction("1000")?;
+    Ok(Label::of(order, 0, 0, boxes, pieces, min, max, 0))
+}
+
+/// Numbers of boxes and of pieces, and whether a label may have so many.
+struct Counts;
+
+impl Table for Counts {
+    const LINES: &'static str = "\
+64 64 => true
+65 65 => false
+64 63 => false
+64 65 => false";
+
+    fn told(alloc: Global, input: &str) -> Result<String, Fail> {
+        let words = parts_of(alloc, input, ' ')?;
+        let label = label_with(alloc, count(&words, 0)?, count(&words, 1)?)?;
+        Ok(label.is_some().to_string(alloc)?)
+    }
 }
 
 #[test]
 fn labels_have_1_to_64_boxes_with_a_piece_each(rt: HostRuntime) -> Result<(), Fail> {
-    for (boxes, pieces, good) in COUNTS {
-        let label = label_with(rt.alloc(), boxes, pieces)?;
-        assert_eq!(rt; label.is_some(), good, "{boxes} boxes, {pieces} pieces");
+    hold::<Counts>(rt.alloc())
+}
+
+/// The parts of a copy of a label.
+fn copy_told(alloc: Global, label: &Label) -> Result<String, Fail> {
+    label_told(alloc, &label.copy()?)
+}
+
+/// Parts of a label, and the parts of the label and of a copy.
+struct Copies;
+
+impl Table for Copies {
+    const LINES: &'static str = "\
+-7 9 1/2 7/3 5 2 -30,-7,4,8 4,-6,33,9 => 0 0 A -7 9 1/2 7/3 5 -30,-7,4,8:a 4,-6,33,9:a, copied 0 0 A -7 9 1/2 7/3 5 -30,-7,4,8:a 4,-6,33,9:a";
+
+    fn told(alloc: Global, input: &str) -> Result<String, Fail> {
+        let mut told = label_told(alloc, &good_label(alloc, input)?)?;
+        told.push_str(", copied ")?;
+        told.push_str(&copy_told(alloc, &good_label(alloc, input)?)?)?;
+        Ok(told)
     }
-    Ok(())
 }
 
 #[test]
 fn a_label_and_its_copy_have_its_parts(rt: HostRuntime) -> Result<(), Fail> {
-    let alloc = rt.alloc();
-    let label = good_label(alloc, "-7 9 1/2 7/3 5 2 -30,-7,4,8 4,-6,33,9")?;
-    let copy = label.copy()?;
-    for one in [&label, &copy] {
-        let px = one.boxes().get(1).copied().ok_or("two boxes")?;
-        assert_eq!(rt; (one.x(), one.y(), one.margin()), (-7, 9, 5));
-        assert_eq!(rt; (px.l, px.b, px.r, px.t), (4, -6, 33, 9));
-        assert_eq!(rt; (one.boxes().len(), one.pieces().len()), (2, 2));
-        assert_eq!(rt;
-            (one.min(), one.max()),
-            (fraction("1/2")?, fraction("7/3")?)
-        );
-        assert_eq!(rt; one.id().as_str(), "A");
-    }
-    Ok(())
+    hold::<Copies>(rt.alloc())
 }
 
 /// The order that a text writes, as `CLASS RANK ID`.
 fn order_of(alloc: Global, text: &str) -> Result<Order, Fail> {
-    let fields = parts_of(alloc, text, ' ')?;
-    match fields.as_slice() {
-        [class, rank, id] => {
-            let rank = rank.parse::<u64>().ok().ok_or("a rank")?;
-            let id = Text::of(alloc, id)?;
-            Ok(Order {
-                class: count(class)?,
-                rank,
-                id,
-            })
-        }
-        _ => Err(Fail::from("three words")),
-    }
+    let words = parts_of(alloc, text, ' ')?;
+    let class = count(&words, 0)?;
+    let rank = number(&words, 1)?;
+    let id = Text::of(alloc, word(&words, 2)?)?;
+    Ok(Order { class, rank, id })
 }
 
 /// Each stands before the next.
@@ -140,24 +147,21 @@ const ORDERS: &str = "\
 
 #[test]
 fn priority_goes_by_class_then_rank_downwards_then_id(rt: HostRuntime) -> Result<(), Fail> {
-    let alloc = rt.alloc();
-    let mut orders = Vec::new(alloc);
+    let mut orders = Vec::new(rt.alloc());
     for line in ORDERS.lines() {
-        orders.push(order_of(alloc, line)?)?;
+        let order = order_of(rt.alloc(), line)?;
+        assert!(rt; order.copy()? == order, "{line}");
+        orders.push(order)?;
     }
-    for i in 0..orders.len() {
-        for j in 0..orders.len() {
-            let want = i.cmp(&j);
-            assert_eq!(rt; orders[i].cmp(&orders[j]), want, "{i} and {j}");
-            assert_eq!(rt; orders[i] == orders[j], i == j, "{i} and {j}");
-        }
-        assert_eq!(rt; orders[i].copy()?.cmp(&orders[i]), Ordering::Equal);
-    }
+    assert!(rt; is_rising(&orders));
     Ok(())
 }
 
 /// Parts of a view, and whether they make one.
-const VIEWS: &str = "\
+struct Views;
+
+impl Table for Views {
+    const LINES: &'static str = "\
 2000000000 -2000000000 2 2 1 => true
 2000000001 0 2 2 1 => false
 0 -2000000001 2 2 1 => false
@@ -174,21 +178,38 @@ const VIEWS: &str = "\
 5 -6 2 2 268435456 => false
 5 -6 2 2 4294967295/16 => true";
 
+    fn told(alloc: Global, input: &str) -> Result<String, Fail> {
+        Ok(view_of(alloc, input)?.is_some().to_string(alloc)?)
+    }
+}
+
 #[test]
 fn views_have_even_sides_and_a_scale(rt: HostRuntime) -> Result<(), Fail> {
-    for line in VIEWS.lines() {
-        let (text, good) = case(line)?;
-        let view = view_of(rt.alloc(), text)?;
-        assert_eq!(rt; view.is_some(), good == "true", "{line}");
+    hold::<Views>(rt.alloc())
+}
+
+/// Parts of a view, and the words of the view.
+struct ViewParts;
+
+impl Table for ViewParts {
+    const LINES: &'static str = "\
+5 -6 4096 2 38/4 => 5 -6 4096 2 19/2";
+
+    fn told(alloc: Global, input: &str) -> Result<String, Fail> {
+        view_told(alloc, &good_view(alloc, input)?)
     }
-    let view = view_of(rt.alloc(), "5 -6 4096 2 38/4")?.ok_or("a view")?;
-    assert_eq!(rt; (view.cx, view.cy, view.w, view.h), (5, -6, 4096, 2));
-    assert_eq!(rt; view.scale, fraction("19/2")?);
-    Ok(())
+}
+
+#[test]
+fn a_view_has_its_parts(rt: HostRuntime) -> Result<(), Fail> {
+    hold::<ViewParts>(rt.alloc())
 }
 
 /// A range, a scale, and whether a label with the range is active there.
-const RANGES: &str = "\
+struct Ranges;
+
+impl Table for Ranges {
+    const LINES: &'static str = "\
 1/2 7/3 1/65536 => false
 1/2 7/3 499/1000 => false
 1/2 7/3 1/2 => true
@@ -198,23 +219,26 @@ const RANGES: &str = "\
 1/2 7/3 8/3 => false
 5 5 5 => false";
 
+    fn told(alloc: Global, input: &str) -> Result<String, Fail> {
+        let words = parts_of(alloc, input, ' ')?;
+        let min = fraction_at(&words, 0)?;
+        let until = fraction_at(&words, 1)?;
+        let scale = fraction_at(&words, 2)?;
+        Ok(active(&Span { min, until }, &scale).to_string(alloc)?)
+    }
+}
+
 #[test]
 fn a_range_has_its_beginning_and_not_its_end(rt: HostRuntime) -> Result<(), Fail> {
-    for line in RANGES.lines() {
-        let (text, want) = case(line)?;
-        let words = parts_of(rt.alloc(), text, ' ')?;
-        if let [min, until, scale] = words.as_slice() {
-            let (min, until) = (fraction(min)?, fraction(until)?);
-            let span = Span { min, until };
-            assert_eq!(rt; active(&span, &fraction(scale)?), want == "true", "{line}");
-        }
-    }
-    Ok(())
+    hold::<Ranges>(rt.alloc())
 }
 
 /// Two labels, a scale, and whether they overlap there. The first pair covers 10s..30s and
 /// 100 - 5s..100 + 5s, which meet where 100 < 35s and 5s < 100.
-const OVERLAPS: &str = "\
+struct Meetings;
+
+impl Table for Meetings {
+    const LINES: &'static str = "\
 0 0 0 1000 0 1 10,-5,30,5 | 100 0 0 1000 0 1 -5,-5,5,5 | 1 => false
 0 0 0 1000 0 1 10,-5,30,5 | 100 0 0 1000 0 1 -5,-5,5,5 | 20/7 => false
 0 0 0 1000 0 1 10,-5,30,5 | 100 0 0 1000 0 1 -5,-5,5,5 | 2857/1000 => false
@@ -258,23 +282,29 @@ const OVERLAPS: &str = "\
 -2000000000 0 0 1 64 1 -512,-512,512,512 | 2000000000 0 0 1 64 1 -512,-512,512,512 | 31250000/9 => false
 -2000000000 0 0 1 64 1 -512,-512,512,512 | 2000000000 0 0 1 64 1 -512,-512,512,512 | 31250001/9 => true";
 
+    fn told(alloc: Global, input: &str) -> Result<String, Fail> {
+        told_of_pair::<Meetings>(alloc, input)
+    }
+}
+
+impl OfPair for Meetings {
+    fn told_of(alloc: Global, a: &Label, b: &Label, scale: &str) -> Result<String, Fail> {
+        let scale = fraction(scale)?;
+        both_told(alloc, overlaps(a, b, &scale), overlaps(b, a, &scale))
+    }
+}
+
 #[test]
 fn boxes_overlap_in_an_open_interval_of_scales(rt: HostRuntime) -> Result<(), Fail> {
-    for line in OVERLAPS.lines() {
-        let (text, want) = case(line)?;
-        let (a, rest) = first(text)?;
-        let (b, scale) = first(rest)?;
-        let (a, b) = (good_label(rt.alloc(), a)?, good_label(rt.alloc(), b)?);
-        let scale = fraction(scale)?;
-        let both = (overlaps(&a, &b, &scale), overlaps(&b, &a, &scale));
-        assert_eq!(rt; both, (want == "true", want == "true"), "{line}");
-    }
-    Ok(())
+    hold::<Meetings>(rt.alloc())
 }
 
 /// A label, a view, and whether a box of the label meets it. At scale 1 the first box covers -10..10
 /// by -5..5, and a window of 2 reaches one unit to either hand; a margin widens no box here.
-const WINDOWS: &str = "\
+struct Windows;
+
+impl Table for Windows {
+    const LINES: &'static str = "\
 0 0 0 1000 0 1 -10,-5,10,5 | 10 0 2 2 1 => true
 0 0 0 1000 0 1 -10,-5,10,5 | 11 0 2 2 1 => false
 0 0 0 1000 5 1 -10,-5,10,5 | 10 0 2 2 1 => true
@@ -302,14 +332,19 @@ const WINDOWS: &str = "\
 -2000000000 0 0 1000 0 1 -512,-5,512,5 | 2000000000 0 4096 4096 1/65536 => false
 -2000000000 0 0 1000 0 1 -512,-5,512,5 | -2000000000 0 4096 4096 1/65536 => true";
 
+    fn told(alloc: Global, input: &str) -> Result<String, Fail> {
+        told_of_label::<Windows>(alloc, input)
+    }
+}
+
+impl OfLabel for Windows {
+    fn told_of(alloc: Global, label: &Label, view: &str) -> Result<String, Fail> {
+        let view = good_view(alloc, view)?;
+        Ok(meets(label, &view).to_string(alloc)?)
+    }
+}
+
 #[test]
 fn a_label_that_touches_the_window_is_outside(rt: HostRuntime) -> Result<(), Fail> {
-    for line in WINDOWS.lines() {
-        let (text, want) = case(line)?;
-        let (label, view) = first(text)?;
-        let label = good_label(rt.alloc(), label)?;
-        let view = view_of(rt.alloc(), view)?.ok_or("a view")?;
-        assert_eq!(rt; meets(&label, &view), want == "true", "{line}");
-    }
-    Ok(())
+    hold::<Windows>(rt.alloc())
 }

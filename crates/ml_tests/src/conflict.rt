@@ -1,7 +1,10 @@
 //! Intervals, limits and slots among rivals.
 ghost use Rattle.std.specs.Prelude.{◌≡◌, ◌<◌};
 
-use crate::cases::{case, count, first, fraction, good_label, told};
+use crate::cases::{
+    OfPair, Table, both_told, count, first, fraction, fraction_at, good_label, hold, ratio_told,
+    told_of_pair, word,
+};
 use ml_cone::{Label, Slot};
 use ml_conflict::{RivalList, are_rivals, evaluate, first_block, interval};
 use ml_ratio::lines::parts_of;
@@ -11,9 +14,19 @@ use std::marker::Brand;
 use std::sync::ledger::{Blank, Ledger};
 use std::test::Fail;
 
+/// The ends of an interval, with `-` where it has no end.
+fn ends_told(alloc: Global, low: Ratio, end: Option<Ratio>) -> Result<String, Fail> {
+    let low = ratio_told(alloc, Some(low))?;
+    let end = ratio_told(alloc, end)?;
+    Ok(format!(in alloc; "{low} {end}")?)
+}
+
 /// Two labels of one box, and the ends of the interval of scales at which the boxes overlap. The
 /// first pair covers 10s..30s and 100 - 5s..100 + 5s, which meet where 100 < 35s and 5s < 100.
-const INTERVALS: &str = "\
+struct Intervals;
+
+impl Table for Intervals {
+    const LINES: &'static str = "\
 0 0 0 1 0 1 10,-5,30,5 | 100 0 0 1 0 1 -5,-5,5,5 => 20/7 20/1
 0 0 0 1 0 1 10,-5,30,5 | 100 30 0 1 0 1 -5,-5,5,5 => 3/1 20/1
 0 0 0 1 0 1 10,-5,30,5 | 100 200 0 1 0 1 -5,-5,5,5 => none
@@ -33,31 +46,30 @@ const INTERVALS: &str = "\
 -2000000000 0 0 1 64 1 -512,-512,512,512 | 2000000000 0 0 1 64 1 -512,-512,512,512 => 31250000/9 -
 -2000000000 0 0 1 64 1 -512,-1,512,1 | 1999999999 0 0 1 63 1 -512,-1,512,1 => 3999999999/1151 -";
 
-/// The ends of the interval in which the first boxes of the two overlap.
-fn ends_of(alloc: Global, a: &Label, b: &Label) -> Result<String, Fail> {
-    match interval(a, 0, b, 0) {
-        Some((low, end)) => {
-            let (low, end) = (told(alloc, Some(low))?, told(alloc, end)?);
-            let (low, end) = (low.as_str(), end.as_str());
-            Ok(format!(in alloc; "{low} {end}")?)
+    fn told(alloc: Global, input: &str) -> Result<String, Fail> {
+        told_of_pair::<Intervals>(alloc, input)
+    }
+}
+
+impl OfPair for Intervals {
+    fn told_of(alloc: Global, a: &Label, b: &Label, _rest: &str) -> Result<String, Fail> {
+        match interval(a, 0, b, 0) {
+            Some((low, end)) => ends_told(alloc, low, end),
+            None => Ok("none".to_string(alloc)?),
         }
-        None => Ok(format!(in alloc; "none")?),
     }
 }
 
 #[test]
 fn boxes_overlap_in_these_intervals(rt: HostRuntime) -> Result<(), Fail> {
-    for line in INTERVALS.lines() {
-        let (text, want) = case(line)?;
-        let (a, b) = first(text)?;
-        let (a, b) = (good_label(rt.alloc(), a)?, good_label(rt.alloc(), b)?);
-        assert_eq!(rt; ends_of(rt.alloc(), &a, &b)?.as_str(), want, "{line}");
-    }
-    Ok(())
+    hold::<Intervals>(rt.alloc())
 }
 
 /// A label, an earlier one, until where that is active, and the limit that it sets.
-const LIMITS: &str = "\
+struct Limits;
+
+impl Table for Limits {
+    const LINES: &'static str = "\
 100 0 0 1000 0 1 -5,-5,5,5 | 0 0 0 1000 0 1 10,-5,30,5 | 1000 => 20/7
 100 0 20/7 1000 0 1 -5,-5,5,5 | 0 0 0 1000 0 1 10,-5,30,5 | 1000 => 20/7
 100 0 10 1000 0 1 -5,-5,5,5 | 0 0 0 1000 0 1 10,-5,30,5 | 1000 => 10/1
@@ -98,21 +110,28 @@ const LIMITS: &str = "\
 400 0 0 1000 5 1 -10,-5,10,5 | 0 0 0 1000 0 1 -10,-5,10,5 | 1000 => 16/1
 400 0 0 1000 0 1 -10,-5,10,5 | 0 0 0 1000 5 1 -10,-5,10,5 | 1000 => 16/1";
 
+    fn told(alloc: Global, input: &str) -> Result<String, Fail> {
+        told_of_pair::<Limits>(alloc, input)
+    }
+}
+
+impl OfPair for Limits {
+    fn told_of(alloc: Global, low: &Label, high: &Label, until: &str) -> Result<String, Fail> {
+        let until = fraction(until)?;
+        ratio_told(alloc, first_block(low, high, &until))
+    }
+}
+
 #[test]
 fn a_limit_is_where_overlap_begins_in_both_ranges(rt: HostRuntime) -> Result<(), Fail> {
-    for line in LIMITS.lines() {
-        let (text, want) = case(line)?;
-        let (low, rest) = first(text)?;
-        let (high, until) = first(rest)?;
-        let (low, high) = (good_label(rt.alloc(), low)?, good_label(rt.alloc(), high)?);
-        let limit = first_block(&low, &high, &fraction(until)?);
-        assert_eq!(rt; told(rt.alloc(), limit)?.as_str(), want, "{line}");
-    }
-    Ok(())
+    hold::<Limits>(rt.alloc())
 }
 
 /// Two labels, and whether they are rivals.
-const RIVALS: &str = "\
+struct Rivals;
+
+impl Table for Rivals {
+    const LINES: &'static str = "\
 400 0 0 1000 0 1 -10,-5,10,5 | 0 0 0 1000 0 1 -10,-5,10,5 => true
 400 0 0 20 0 1 -10,-5,10,5 | 0 0 0 1000 0 1 -10,-5,10,5 => false
 400 0 0 41/2 0 1 -10,-5,10,5 | 0 0 0 1000 0 1 -10,-5,10,5 => true
@@ -122,16 +141,20 @@ const RIVALS: &str = "\
 19999 0 0 2000 0 1 -10,-5,10,5 | 0 0 0 1000 0 1 -10,-5,10,5 => true
 20000 0 0 2000 0 1 -10,-5,10,5 | 0 0 0 1000 1 1 -10,-5,10,5 => true";
 
+    fn told(alloc: Global, input: &str) -> Result<String, Fail> {
+        told_of_pair::<Rivals>(alloc, input)
+    }
+}
+
+impl OfPair for Rivals {
+    fn told_of(alloc: Global, a: &Label, b: &Label, _rest: &str) -> Result<String, Fail> {
+        both_told(alloc, are_rivals(a, b), are_rivals(b, a))
+    }
+}
+
 #[test]
 fn rivals_overlap_at_a_scale_in_both_ranges(rt: HostRuntime) -> Result<(), Fail> {
-    for line in RIVALS.lines() {
-        let (text, want) = case(line)?;
-        let (a, b) = first(text)?;
-        let (a, b) = (good_label(rt.alloc(), a)?, good_label(rt.alloc(), b)?);
-        let both = (are_rivals(&a, &b), are_rivals(&b, &a));
-        assert_eq!(rt; both, (want == "true", want == "true"), "{line}");
-    }
-    Ok(())
+    hold::<Rivals>(rt.alloc())
 }
 
 /// A rival: its number, its label and its end.
@@ -180,32 +203,54 @@ fn slot_counted<L: Ledger>(low: &Label, rivals: &Others, blank: Blank) -> Slot
 
 /// A label with a box of 20 by 10 pixels that may be shown from `min` until 1000.
 fn usual(alloc: Global, x: &str, min: &str) -> Result<Label, Fail> {
-    good_label(
-        alloc,
-        &format!(in alloc; "{x} 0 {min} 1000 0 1 -10,-5,10,5")?,
-    )
+    let text = format!(in alloc; "{x} 0 {min} 1000 0 1 -10,-5,10,5")?;
+    good_label(alloc, &text)
 }
 
 /// The rival that a text writes, as `NUMBER X END`.
 fn rival_of(alloc: Global, text: &str) -> Result<Other, Fail> {
-    let fields = parts_of(alloc, text, ' ')?;
-    match fields.as_slice() {
-        [number, x, until] => {
-            let label = usual(alloc, x, "0")?;
-            let number = count(number)?;
-            Ok(Other {
-                number,
-                label,
-                until: fraction(until)?,
-            })
+    let words = parts_of(alloc, text, ' ')?;
+    let number = count(&words, 0)?;
+    let label = usual(alloc, word(&words, 1)?, "0")?;
+    let until = fraction_at(&words, 2)?;
+    Ok(Other {
+        number,
+        label,
+        until,
+    })
+}
+
+/// The rivals that a text writes, or none.
+fn rivals_of(alloc: Global, text: &str) -> Result<Others, Fail> {
+    let mut list = Vec::new(alloc);
+    if text != "none" {
+        for part in text.split(';') {
+            list.push(rival_of(alloc, part)?)?;
         }
-        _ => Err(Fail::from("three words")),
     }
+    Ok(Others { list })
+}
+
+/// The end and the blocker of a slot.
+fn slot_told(alloc: Global, slot: &Slot) -> Result<String, Fail> {
+    let until = ratio_told(alloc, Some(slot.until))?;
+    match slot.blocker {
+        Some(number) => Ok(format!(in alloc; "{until} {number}")?),
+        None => Ok(format!(in alloc; "{until} -")?),
+    }
+}
+
+/// The slot of a label among rivals.
+fn slot_of(low: &Label, rivals: &Others) -> Slot {
+    slot_counted::<Brand>(low, rivals, Blank::new(1))
 }
 
 /// The end of a label at 0, shown from a scale on, among rivals, and the number of its blocker. A
 /// rival at x overlaps the label from x/20 on, to either side.
-const SLOTS: &str = "\
+struct Slots;
+
+impl Table for Slots {
+    const LINES: &'static str = "\
 0 | none => 1000/1 -
 0 | 7 400 1000 => 20/1 7
 0 | 7 0 1000 => 0/1 7
@@ -220,34 +265,15 @@ const SLOTS: &str = "\
 25 | 0 400 1000;5 800 1000 => 25/1 0
 30 | 0 400 30;5 800 40 => 1000/1 -";
 
-/// The end and the blocker of a label at 0 among rivals.
-fn slot_told(alloc: Global, min: &str, rivals: &str) -> Result<String, Fail> {
-    let mut list = Vec::new(alloc);
-    if rivals != "none" {
-        for text in rivals.split(';') {
-            list.push(rival_of(alloc, text)?)?;
-        }
-    }
-    let low = usual(alloc, "0", min)?;
-    let slot = slot_counted::<Brand>(&low, &Others { list }, Blank::new(1));
-    let until = told(alloc, Some(slot.until))?;
-    let until = until.as_str();
-    match slot.blocker {
-        Some(number) => Ok(format!(in alloc; "{until} {number}")?),
-        None => Ok(format!(in alloc; "{until} -")?),
+    fn told(alloc: Global, input: &str) -> Result<String, Fail> {
+        let (min, rivals) = first(input)?;
+        let low = usual(alloc, "0", min)?;
+        let rivals = rivals_of(alloc, rivals)?;
+        slot_told(alloc, &slot_of(&low, &rivals))
     }
 }
 
 #[test]
 fn the_first_rival_that_sets_the_least_limit_blocks(rt: HostRuntime) -> Result<(), Fail> {
-    for line in SLOTS.lines() {
-        let (text, want) = case(line)?;
-        let (min, rivals) = first(text)?;
-        assert_eq!(rt;
-            slot_told(rt.alloc(), min, rivals)?.as_str(),
-            want,
-            "{line}"
-        );
-    }
-    Ok(())
+    hold::<Slots>(rt.alloc())
 }

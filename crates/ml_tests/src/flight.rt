@@ -2,7 +2,7 @@
 ghost use Rattle.std.specs.Prelude.{All, IfOk};
 ghost use Rattle.ml_flight.specs.Stay.{AreApart};
 
-use crate::cases::{case, count, first, lines_of, whole};
+use crate::cases::{Table, count, first, hold, rows_of, whole};
 use ml_cone::{Label, Span};
 use ml_flight::{Peak, Stay, Window, peak, stays};
 use ml_pass::read_table;
@@ -11,9 +11,111 @@ use ml_ratio::lines::parts_of;
 use std::alloc::Global;
 use std::test::Fail;
 
+/// The window that a text writes, as `CX CY W H`, if it makes one.
+fn window_of(alloc: Global, text: &str) -> Result<Option<Window>, Fail> {
+    let words = parts_of(alloc, text, ' ')?;
+    let cx = whole(&words, 0)?;
+    let cy = whole(&words, 1)?;
+    Ok(Window::of(cx, cy, count(&words, 2)?, count(&words, 3)?))
+}
+
+/// Four words, and whether they make a window.
+struct Windows;
+
+impl Table for Windows {
+    const LINES: &'static str = "\
+0 0 2 2 => yes
+2000000000 -2000000000 4096 4096 => yes
+2000000001 0 2 2 => no
+0 -2000000001 2 2 => no
+0 0 1 2 => no
+0 0 2 3 => no
+0 0 0 2 => no
+0 0 2 4098 => no";
+
+    fn told(alloc: Global, input: &str) -> Result<String, Fail> {
+        let made = window_of(alloc, input)?.is_some();
+        Ok(if made { "yes" } else { "no" }.to_string(alloc)?)
+    }
+}
+
+#[test]
+fn a_window_is_a_view_without_its_scale(rt: HostRuntime) -> Result<(), Fail> {
+    hold::<Windows>(rt.alloc())
+}
+
+/// The stays of each label.
+fn timelines(alloc: Global, labels: &[Label], at: &Window) -> Result<Seq<Seq<Stay>>, Fail>
+    ensures { IfOk result (All AreApart) }
+{
+    let mut all = Seq::new(alloc);
+    for label in labels {
+        let span = Span {
+            min: label.min(),
+            until: label.max(),
+        };
+        all.push(stays(alloc, label, &span, at)?)?;
+    }
+    Ok(all)
+}
+
+/// A stay as it is printed.
+fn stay_told(alloc: Global, stay: &Stay) -> Result<String, Fail> {
+    let open = if stay.from_in { "[" } else { "(" };
+    let from = stay.from.text(alloc)?;
+    let to = stay.to.text(alloc)?;
+    Ok(format!(in alloc; "{open}{},{})", from.as_str(), to.as_str())?)
+}
+
+/// The stays of a label as they are printed, each with a space before it.
+fn stays_told(alloc: Global, stays: &Seq<Stay>) -> Result<String, Fail> {
+    let mut told = String::new(alloc);
+    for stay in stays.as_slice() {
+        told.push_str(" ")?;
+        told.push_str(&stay_told(alloc, stay)?)?;
+    }
+    Ok(told)
+}
+
+/// A peak as it is printed.
+fn peak_told(alloc: Global, peak: &Peak) -> Result<String, Fail> {
+    let place = if peak.after { "after" } else { "at" };
+    let mark = peak.mark.text(alloc)?;
+    let many = peak.count;
+    Ok(format!(in alloc; "peak {many} {place} {}", mark.as_str())?)
+}
+
+/// The peak of the stays of a few labels.
+fn peak_of(alloc: Global, all: &Seq<Seq<Stay>>) -> Result<String, Fail>
+    requires { All AreApart all.now }
+{
+    if all.len() > 32768 {
+        return Err(Fail::new("at most 32768 labels"));
+    }
+    peak_told(alloc, &peak(alloc, all)?)
+}
+
+/// The stays of the labels that have some, and the peak.
+fn timeline_told(alloc: Global, labels: &[Label], at: &Window) -> Result<String, Fail> {
+    let all = timelines(alloc, labels, at)?;
+    let mut told = String::new(alloc);
+    for (label, stays) in labels.iter().zip(all.as_slice()) {
+        if stays.len() > 0 {
+            told.push_str(label.id().as_str())?;
+            told.push_str(&stays_told(alloc, stays)?)?;
+            told.push_str(", ")?;
+        }
+    }
+    told.push_str(&peak_of(alloc, &all)?)?;
+    Ok(told)
+}
+
 /// A window, and labels as lines of a table, each active from its minimum to its maximum; then the
 /// stays of each label that has some, and the peak.
-const TIMELINES: &str = "\
+struct LabelStays;
+
+impl Table for LabelStays {
+    const LINES: &'static str = "\
 0 0 100 100 | A 0 0 0/1 1000/1 -10,-5,10,5 / B 400 0 0/1 20/1 -10,-5,10,5 / C 800 0 0/1 40/1 -10,-5,10,5 => A (0/1,1000/1), B (20/3,20/1), C (40/3,40/1), peak 3 after 40/3
 0 0 2 2 | A 0 0 0/1 1000/1 -10,-5,10,5 / B 400 0 0/1 20/1 -10,-5,10,5 / C 800 0 0/1 40/1 -10,-5,10,5 => A (0/1,1000/1), peak 1 after 0/1
 0 0 2 2 | A 0 0 10/1 1000/1 -10,-5,10,5 => A [10/1,1000/1), peak 1 at 10/1
@@ -41,113 +143,16 @@ const TIMELINES: &str = "\
 0 0 10 10 | A -794 0 10/1 153/1 -15,-20,9,20 -11,-20,-10,20 32,-512,89,512 4,-20,20,20 -16,-20,-6,20 / B 293 354 1/1 34/7 0,-4,1,4 / C -1753 0 22/1 9770/1 -4,-4,0,4 => A [10/1,794/27) (794/25,153/1), C (1753/5,9770/1), peak 1 at 10/1
 -29 0 4 10 | A 21 -9 363/2 79725/1 9,-6,16,20 / B 7 0 0/1 1/1 -2,-20,15,20 / C 3 20 0/1 18/7 -2,-4,3,4 / D 5 7 1/1 284/3 -2,-3,1,0 -3,-4,3,4 -4,-4,-1,4 -5,-20,-2,20 -15,-20,-9,20 => D (2/1,34/7) (34/7,284/3), peak 1 after 2/1";
 
-/// Four words, and whether they make a window.
-const WINDOWS: &str = "\
-0 0 2 2 => yes
-2000000000 -2000000000 4096 4096 => yes
-2000000001 0 2 2 => no
-0 -2000000001 2 2 => no
-0 0 1 2 => no
-0 0 2 3 => no
-0 0 0 2 => no
-0 0 2 4098 => no";
-
-/// The window that a text writes, as `CX CY W H`, if it makes one.
-fn window_of(alloc: Global, text: &str) -> Result<Option<Window>, Fail> {
-    let words = parts_of(alloc, text, ' ')?;
-    match words.as_slice() {
-        [cx, cy, w, h] => Ok(Window::of(whole(cx)?, whole(cy)?, count(w)?, count(h)?)),
-        _ => Err(Fail::from("four words")),
+    fn told(alloc: Global, input: &str) -> Result<String, Fail> {
+        let (words, rows) = first(input)?;
+        let at = window_of(alloc, words)?.ok_or("a window")?;
+        let table = rows_of(alloc, rows)?;
+        let labels = read_table(alloc, table.as_bytes())?;
+        timeline_told(alloc, labels.as_slice(), &at)
     }
-}
-
-/// The stays of each label.
-fn timelines(alloc: Global, labels: &[Label], at: &Window) -> Result<Seq<Seq<Stay>>, Fail>
-    ensures { IfOk result (All AreApart) }
-{
-    let mut all = Seq::new(alloc);
-    for label in labels {
-        let span = Span {
-            min: label.min(),
-            until: label.max(),
-        };
-        all.push(stays(alloc, label, &span, at)?)?;
-    }
-    Ok(all)
-}
-
-/// A stay as it is printed.
-fn stay_told(alloc: Global, stay: &Stay) -> Result<String, Fail> {
-    let from = stay.from.text(alloc)?;
-    let to = stay.to.text(alloc)?;
-    let (from, to) = (from.as_str(), to.as_str());
-    if stay.from_in {
-        Ok(format!(in alloc; "[{from},{to})")?)
-    } else {
-        Ok(format!(in alloc; "({from},{to})")?)
-    }
-}
-
-/// The stays of a label as they are printed, each with a space before it.
-fn stays_told(alloc: Global, stays: &Seq<Stay>) -> Result<String, Fail> {
-    let mut told = String::new(alloc);
-    for stay in stays.as_slice() {
-        told.push_str(" ")?;
-        told.push_str(stay_told(alloc, stay)?.as_str())?;
-    }
-    Ok(told)
-}
-
-/// A peak as it is printed.
-fn peak_told(alloc: Global, peak: &Peak) -> Result<String, Fail> {
-    let mark = peak.mark.text(alloc)?;
-    let (mark, many) = (mark.as_str(), peak.count);
-    if peak.after {
-        Ok(format!(in alloc; "peak {many} after {mark}")?)
-    } else {
-        Ok(format!(in alloc; "peak {many} at {mark}")?)
-    }
-}
-
-/// The stays of the labels that have some, and the peak.
-fn timeline_told(alloc: Global, at: &Window, table: &str) -> Result<String, Fail> {
-    let labels = read_table(alloc, table.as_bytes())?;
-    let all = timelines(alloc, labels.as_slice(), at)?;
-    let mut told = String::new(alloc);
-    for (label, stays) in labels.as_slice().iter().zip(all.as_slice()) {
-        if stays.len() > 0 {
-            told.push_str(label.id().as_str())?;
-            told.push_str(stays_told(alloc, stays)?.as_str())?;
-            told.push_str(", ")?;
-        }
-    }
-    if all.len() > 32768 {
-        return Err(Fail::from("at most 32768 labels"));
-    }
-    told.push_str(peak_told(alloc, &peak(alloc, &all)?)?.as_str())?;
-    Ok(told)
 }
 
 #[test]
 fn stays_are_the_intervals_in_which_a_label_is_shown(rt: HostRuntime) -> Result<(), Fail> {
-    for line in TIMELINES.lines() {
-        let (input, want) = case(line)?;
-        let (words, rows) = first(input)?;
-        let at = window_of(rt.alloc(), words)?.ok_or("a window")?;
-        let table = lines_of(rt.alloc(), rows)?;
-        let told = timeline_told(rt.alloc(), &at, table.as_str())?;
-        assert_eq!(rt; told.as_str(), want, "{line}");
-    }
-    Ok(())
-}
-
-#[test]
-fn a_window_is_a_view_without_its_scale(rt: HostRuntime) -> Result<(), Fail> {
-    for line in WINDOWS.lines() {
-        let (words, want) = case(line)?;
-        let window = window_of(rt.alloc(), words)?;
-        let told = if window.is_some() { "yes" } else { "no" };
-        assert_eq!(rt; told, want, "{line}");
-    }
-    Ok(())
+    hold::<LabelStays>(rt.alloc())
 }

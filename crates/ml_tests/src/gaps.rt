@@ -1,15 +1,36 @@
 //! Longest free gaps, and the views that they give.
-use crate::cases::{case, first, fraction, lines_of, whole};
-use ml_cone::View;
+use crate::cases::{Table, first, fraction_at, good_view, hold, numbers_told, range_told, rows_of};
+use ml_cone::{Label, View};
 use ml_gaps::{Gap, Piece, blocked, gaps, shown_gaps};
 use ml_pass::read_table;
+use ml_ratio::Seq;
 use ml_ratio::lines::parts_of;
-use ml_ratio::{Ratio, Seq};
 use std::alloc::Global;
 use std::test::Fail;
 
+/// A label with its gap.
+fn gap_told(alloc: Global, label: &Label, gap: &Gap) -> Result<String, Fail> {
+    let range = range_told(alloc, &gap.from, &gap.until)?;
+    Ok(format!(in alloc; "{} {range}", label.id().as_str())?)
+}
+
+/// Each label with its gap.
+fn gaps_told(alloc: Global, labels: &[Label], gaps: &[Gap]) -> Result<String, Fail> {
+    let mut told = String::new(alloc);
+    for (label, gap) in labels.iter().zip(gaps) {
+        if !told.is_empty() {
+            told.push_str(", ")?;
+        }
+        told.push_str(&gap_told(alloc, label, gap)?)?;
+    }
+    Ok(told)
+}
+
 /// Labels as lines of a table, and the gap of each.
-const GAPS: &str = "\
+struct LongestGaps;
+
+impl Table for LongestGaps {
+    const LINES: &'static str = "\
 A 0 0 0/1 1000/1 -10,-5,10,5 / B 400 0 0/1 1000/1 -10,-5,10,5 => A 0/1 1000/1, B 0/1 20/1
 A 0 0 0/1 1000/1 -10,-5,10,5 / B 400 0 0/1 2000/1 -10,-5,10,5 => A 0/1 1000/1, B 1000/1 2000/1
 A 0 0 0/1 1000/1 10,-5,30,5 / B 100 0 0/1 1000/1 -5,-5,5,5 => A 0/1 1000/1, B 20/1 1000/1
@@ -30,9 +51,35 @@ A -26 0 13/3 71/2 -1,-4,0,4 / B -10 0 0/1 32/3 -12,-20,10,20 -64,-46,-47,45 2,-2
 A -129 260 597/7 514/3 -2,-4,0,4 -20,-20,14,20 0,-1,3,1 / B 154 107 0/1 1837/1 -8,-20,12,20 / C 223 0 29/7 781/1 -4,-4,-1,4 => A 597/7 514/3, B 514/3 1837/1, C 29/7 597/7
 A 12 0 370/7 1761/1 -4,-3,-1,4 0,-2,4,1 19,-100,61,100 / B -3 0 1/1 217/1 -1,-1,0,2 / C -13 0 0/1 14/1 3,-4,4,4 => A 370/7 1761/1, B 1/1 370/7, C 10/3 14/1";
 
+    fn told(alloc: Global, input: &str) -> Result<String, Fail> {
+        let table = rows_of(alloc, input)?;
+        let labels = read_table(alloc, table.as_bytes())?;
+        let found = gaps(alloc, labels.as_slice())?;
+        gaps_told(alloc, labels.as_slice(), found.as_slice())
+    }
+}
+
+#[test]
+fn each_label_has_its_longest_free_gap(rt: HostRuntime) -> Result<(), Fail> {
+    hold::<LongestGaps>(rt.alloc())
+}
+
+/// The places of the labels that a view shows under their gaps, or `none`.
+fn places_told(alloc: Global, labels: &[Label], view: &View) -> Result<String, Fail> {
+    let found = gaps(alloc, labels)?;
+    if found.len() != labels.len() || labels.len() > 9 {
+        return Err(Fail::new("a gap for each of a few labels"));
+    }
+    let places = shown_gaps(alloc, labels, found.as_slice(), view)?;
+    numbers_told(alloc, places.as_slice())
+}
+
 /// The words of a view and labels as lines of a table, and the places of the labels that the view
 /// shows under their gaps.
-const VIEWS: &str = "\
+struct GapViews;
+
+impl Table for GapViews {
+    const LINES: &'static str = "\
 100 0 100 100 10/1 | A 0 0 0/1 1000/1 10,-5,30,5 / B 100 0 0/1 1000/1 -5,-5,5,5 => 0
 100 0 100 100 20/1 | A 0 0 0/1 1000/1 10,-5,30,5 / B 100 0 0/1 1000/1 -5,-5,5,5 => 0 1
 54 0 4096 2 665/1 | A 23 0 1/1 190/3 18,-20,19,20 / B 10 0 87/1 665/1 -4,-4,-3,4 -15,-20,4,20 -1,-4,2,4 / C -16 0 1/1 1462/1 -11,-20,20,20 / D 27 0 12/1 392/1 -12,-20,-2,20 => 2
@@ -44,9 +91,62 @@ const VIEWS: &str = "\
 -256 0 100 2 308/1 | A 13 -30 0/1 1314/1 -18,-19,-9,16 / B 25 -9 0/1 1/7 20,-100,38,100 -74,57,-29,95 => 0
 179 0 2 2 147/1 | A -3 0 147/1 193/1 1,-4,2,4 -3,-4,0,2 -32,-100,67,100 / B -10 5 28/3 397/1 -4,-3,2,-1 / C 8 8 0/1 316/7 -46,-100,88,100 -2,-2,4,4 -2,-2,0,0 / D 5 0 1/1 629/1 -18,-19,5,-4 -4,-4,0,4 => 0";
 
+    fn told(alloc: Global, input: &str) -> Result<String, Fail> {
+        let (words, rows) = first(input)?;
+        let view = good_view(alloc, words)?;
+        let table = rows_of(alloc, rows)?;
+        let labels = read_table(alloc, table.as_bytes())?;
+        places_told(alloc, labels.as_slice(), &view)
+    }
+}
+
+#[test]
+fn a_view_shows_labels_under_their_gaps(rt: HostRuntime) -> Result<(), Fail> {
+    hold::<GapViews>(rt.alloc())
+}
+
+/// A piece as it is printed.
+fn piece_told(alloc: Global, piece: &Piece) -> Result<String, Fail> {
+    let open = if piece.from_in { "[" } else { "(" };
+    let range = range_told(alloc, &piece.from, &piece.to)?;
+    Ok(format!(in alloc; "{open}{range})")?)
+}
+
+/// Pieces as they are printed, or `none`.
+fn pieces_told(alloc: Global, pieces: &[Piece]) -> Result<String, Fail> {
+    if pieces.is_empty() {
+        return Ok("none".to_string(alloc)?);
+    }
+    let mut told = String::new(alloc);
+    for piece in pieces {
+        told.push_str(&piece_told(alloc, piece)?)?;
+    }
+    Ok(told)
+}
+
+/// The gap that a text writes, as `FROM UNTIL`.
+fn gap_of(alloc: Global, text: &str) -> Result<Gap, Fail> {
+    let words = parts_of(alloc, text, ' ')?;
+    let from = fraction_at(&words, 0)?;
+    let until = fraction_at(&words, 1)?;
+    Ok(Gap { from, until })
+}
+
+/// The pieces at which the second of two labels, with this gap, blocks the first.
+fn blocked_told(alloc: Global, labels: &[Label], gap: &Gap) -> Result<String, Fail> {
+    let low = labels.first().ok_or("a label")?;
+    let high = labels.get(1).ok_or("two labels")?;
+    let mut pieces = Seq::new(alloc);
+    blocked(low, high, gap, &mut pieces)?;
+    pieces_told(alloc, pieces.as_slice())
+}
+
 /// The gap of the second label, and two labels as lines of a table; the pieces at which the second
 /// blocks the first.
-const PIECES: &str = "\
+struct BlockedPieces;
+
+impl Table for BlockedPieces {
+    const LINES: &'static str = "\
 0/1 1000/1 | B 100 0 0/1 1000/1 -5,-5,5,5 / A 0 0 0/1 1000/1 10,-5,30,5 => (20/7 20/1)
 5/1 15/1 | B 100 0 0/1 1000/1 -5,-5,5,5 / A 0 0 0/1 1000/1 10,-5,30,5 => [5/1 15/1)
 0/1 0/1 | B 100 0 0/1 1000/1 -5,-5,5,5 / A 0 0 0/1 1000/1 10,-5,30,5 => none
@@ -55,135 +155,16 @@ const PIECES: &str = "\
 0/1 1000/1 | A 0 0 0/1 1000/1 -10,-5,10,5 / B 0 0 0/1 1000/1 -10,-5,10,5 => (0/1 1000/1)
 0/1 1000/1 | A 0 0 3/1 7/1 -10,-5,10,5 / B 0 0 0/1 1000/1 -10,-5,10,5 => [3/1 7/1)";
 
-/// The ends of a range as they are printed.
-fn ends_told(alloc: Global, from: &Ratio, to: &Ratio) -> Result<String, Fail> {
-    let from = from.text(alloc)?;
-    let to = to.text(alloc)?;
-    let (from, to) = (from.as_str(), to.as_str());
-    Ok(format!(in alloc; "{from} {to}")?)
-}
-
-/// Each label with its gap.
-fn gaps_told(alloc: Global, table: &str) -> Result<String, Fail> {
-    let labels = read_table(alloc, table.as_bytes())?;
-    let found = gaps(alloc, labels.as_slice())?;
-    let mut told = String::new(alloc);
-    for (label, gap) in labels.as_slice().iter().zip(found.as_slice()) {
-        if told.len() > 0 {
-            told.push_str(", ")?;
-        }
-        told.push_str(label.id().as_str())?;
-        told.push_str(" ")?;
-        told.push_str(ends_told(alloc, &gap.from, &gap.until)?.as_str())?;
+    fn told(alloc: Global, input: &str) -> Result<String, Fail> {
+        let (gap, rows) = first(input)?;
+        let gap = gap_of(alloc, gap)?;
+        let table = rows_of(alloc, rows)?;
+        let labels = read_table(alloc, table.as_bytes())?;
+        blocked_told(alloc, labels.as_slice(), &gap)
     }
-    Ok(told)
-}
-
-/// The view that a text writes, as `CX CY W H SCALE`.
-fn view_of(alloc: Global, text: &str) -> Result<View, Fail> {
-    let words = parts_of(alloc, text, ' ')?;
-    match words.as_slice() {
-        [cx, cy, w, h, scale] => {
-            let (w, h) = (whole(w)?, whole(h)?);
-            if w < 0 || h < 0 || w > 4096 || h > 4096 {
-                return Err(Fail::from("the sides of a window"));
-            }
-            let view = View::of(whole(cx)?, whole(cy)?, w as u32, h as u32, fraction(scale)?);
-            Ok(view.ok_or("a view")?)
-        }
-        _ => Err(Fail::from("five words")),
-    }
-}
-
-/// The places of the labels that the view shows under their gaps.
-fn places_told(alloc: Global, view: &View, table: &str) -> Result<String, Fail> {
-    let labels = read_table(alloc, table.as_bytes())?;
-    let found = gaps(alloc, labels.as_slice())?;
-    if found.len() != labels.len() || labels.len() > 9 {
-        return Err(Fail::from("a gap for each of a few labels"));
-    }
-    let places = shown_gaps(alloc, labels.as_slice(), found.as_slice(), view)?;
-    let mut told = String::new(alloc);
-    for place in places.as_slice() {
-        if told.len() > 0 {
-            told.push_str(" ")?;
-        }
-        told.push_str(format!(in alloc; "{place}")?.as_str())?;
-    }
-    Ok(told)
-}
-
-/// Pieces as they are printed.
-fn pieces_told(alloc: Global, pieces: &Seq<Piece>) -> Result<String, Fail> {
-    let mut told = String::new(alloc);
-    for piece in pieces.as_slice() {
-        told.push_str(if piece.from_in { "[" } else { "(" })?;
-        told.push_str(ends_told(alloc, &piece.from, &piece.to)?.as_str())?;
-        told.push_str(")")?;
-    }
-    Ok(told)
-}
-
-/// The pieces at which the second label, with this gap, blocks the first.
-fn blocked_told(alloc: Global, gap: &str, table: &str) -> Result<String, Fail> {
-    let labels = read_table(alloc, table.as_bytes())?;
-    let ends = parts_of(alloc, gap, ' ')?;
-    match (labels.as_slice(), ends.as_slice()) {
-        ([low, high], [from, until]) => {
-            let gap = Gap {
-                from: fraction(from)?,
-                until: fraction(until)?,
-            };
-            let mut pieces = Seq::new(alloc);
-            blocked(low, high, &gap, &mut pieces)?;
-            pieces_told(alloc, &pieces)
-        }
-        _ => Err(Fail::from("two labels and two ends")),
-    }
-}
-
-#[test]
-fn each_label_has_its_longest_free_gap(rt: HostRuntime) -> Result<(), Fail> {
-    for line in GAPS.lines() {
-        let (rows, want) = case(line)?;
-        let table = lines_of(rt.alloc(), rows)?;
-        let told = gaps_told(rt.alloc(), table.as_str())?;
-        assert_eq!(rt; told.as_str(), want, "{line}");
-    }
-    Ok(())
-}
-
-#[test]
-fn a_view_shows_labels_under_their_gaps(rt: HostRuntime) -> Result<(), Fail> {
-    for line in VIEWS.lines() {
-        let (input, want) = case(line)?;
-        let (words, rows) = first(input)?;
-        let view = view_of(rt.alloc(), words)?;
-        let table = lines_of(rt.alloc(), rows)?;
-        let told = places_told(rt.alloc(), &view, table.as_str())?;
-        let told = if told.len() > 0 {
-            told.as_str()
-        } else {
-            "none"
-        };
-        assert_eq!(rt; told, want, "{line}");
-    }
-    Ok(())
 }
 
 #[test]
 fn pieces_are_where_one_label_blocks_another(rt: HostRuntime) -> Result<(), Fail> {
-    for line in PIECES.lines() {
-        let (input, want) = case(line)?;
-        let (gap, rows) = first(input)?;
-        let table = lines_of(rt.alloc(), rows)?;
-        let told = blocked_told(rt.alloc(), gap, table.as_str())?;
-        let told = if told.len() > 0 {
-            told.as_str()
-        } else {
-            "none"
-        };
-        assert_eq!(rt; told, want, "{line}");
-    }
-    Ok(())
+    hold::<BlockedPieces>(rt.alloc())
 }

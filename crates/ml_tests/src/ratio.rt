@@ -1,39 +1,47 @@
 //! Fractions, numbers, texts, sequences and features.
 ghost use Rattle.std.specs.Prelude.{◌≡◌, ◌<◌};
 
-use crate::cases::{case, fraction, told};
+use crate::cases::{Table, fraction, hold, is_rising, number, ratio_told};
 use ml_geojson::{read_feature, write_feature};
 use ml_ratio::lines::parts_of;
-use ml_ratio::{Ratio, Seq, Steps, Text, read_whole};
+use ml_ratio::{Feature, Ratio, Seq, Steps, Text, read_whole};
+use std::alloc::Global;
 use std::collections::HashSet;
 use std::marker::Brand;
 use std::sync::ledger::{Blank, Ledger};
 use std::test::Fail;
 
 /// Numerators and denominators, and the fraction in lowest terms.
-const FRACTIONS: [(u64, u64, &str); 9] = [
-    (38, 4, "19/2"),
-    (0, 7, "0/1"),
-    (20, 1, "20/1"),
-    (4294967296, 65536, "65536/1"),
-    (4294967296, 1, "4294967296/1"),
-    (1, 0, "-"),
-    (1, 65537, "-"),
-    (4294967297, 1, "-"),
-    (4294967298, 2, "-"),
-];
+struct Fractions;
+
+impl Table for Fractions {
+    const LINES: &'static str = "\
+38 4 => 19/2
+0 7 => 0/1
+20 1 => 20/1
+4294967296 65536 => 65536/1
+4294967296 1 => 4294967296/1
+1 0 => -
+1 65537 => -
+4294967297 1 => -
+4294967298 2 => -";
+
+    fn told(alloc: Global, input: &str) -> Result<String, Fail> {
+        let words = parts_of(alloc, input, ' ')?;
+        ratio_told(alloc, Ratio::of(number(&words, 0)?, number(&words, 1)?))
+    }
+}
 
 #[test]
 fn fractions_are_reduced_and_bounded(rt: HostRuntime) -> Result<(), Fail> {
-    for (n, d, want) in FRACTIONS {
-        let text = told(rt.alloc(), Ratio::of(n, d))?;
-        assert_eq!(rt; text.as_str(), want, "{n}/{d}");
-    }
-    Ok(())
+    hold::<Fractions>(rt.alloc())
 }
 
 /// Texts, and the fraction that each reads as.
-const TEXTS: &str = "\
+struct FractionTexts;
+
+impl Table for FractionTexts {
+    const LINES: &'static str = "\
 19 => 19/1
 38/4 => 19/2
 0 => 0/1
@@ -56,18 +64,21 @@ const TEXTS: &str = "\
 1/00000000001 => -
 ١ => -";
 
+    fn told(alloc: Global, input: &str) -> Result<String, Fail> {
+        ratio_told(alloc, Ratio::read(input))
+    }
+}
+
 #[test]
 fn fractions_read_and_write_their_texts(rt: HostRuntime) -> Result<(), Fail> {
-    for line in TEXTS.lines() {
-        let (text, want) = case(line)?;
-        let read = told(rt.alloc(), Ratio::read(text))?;
-        assert_eq!(rt; read.as_str(), want, "{line}");
-    }
-    Ok(())
+    hold::<FractionTexts>(rt.alloc())
 }
 
 /// Fractions, and whether each is a scale.
-const SCALES: &str = "\
+struct Scales;
+
+impl Table for Scales {
+    const LINES: &'static str = "\
 0 => false
 1/65536 => true
 268435455 => true
@@ -75,48 +86,98 @@ const SCALES: &str = "\
 4294967295/16 => true
 4294967296/16 => false";
 
+    fn told(alloc: Global, input: &str) -> Result<String, Fail> {
+        Ok(fraction(input)?.is_scale().to_string(alloc)?)
+    }
+}
+
 #[test]
 fn scales_lie_above_zero_and_below_two_to_the_28(rt: HostRuntime) -> Result<(), Fail> {
-    for line in SCALES.lines() {
-        let (text, want) = case(line)?;
-        let ratio = fraction(text)?;
-        assert_eq!(rt; ratio.is_scale(), want == "true", "{line}");
-    }
-    Ok(())
+    hold::<Scales>(rt.alloc())
 }
 
 /// Fractions, each less than the next.
 const ORDER: &str = "0 1/65536 1/3 1/2 2/3 1 65537/65536 4294967296";
 
-#[test]
-fn fractions_are_ordered_by_value(rt: HostRuntime) -> Result<(), Fail> {
-    let words = parts_of(rt.alloc(), ORDER, ' ')?;
-    for (i, one) in words.iter().enumerate() {
-        for (j, other) in words.iter().enumerate() {
-            let (one, other) = (fraction(one)?, fraction(other)?);
-            assert_eq!(rt; one.cmp(&other), i.cmp(&j), "{i} and {j}");
-            assert_eq!(rt; (one == other, one.is_less(&other)), (i == j, i < j));
+/// The fractions that a text writes, with spaces between.
+fn fractions_of(alloc: Global, text: &str) -> Result<Vec<Ratio>, Fail> {
+    let mut fractions = Vec::new(alloc);
+    for word in text.split(' ') {
+        fractions.push(fraction(word)?)?;
+    }
+    Ok(fractions)
+}
+
+/// Whether each of the fractions says that it is less than just those after it.
+fn are_less(fractions: &[Ratio]) -> bool {
+    for (i, one) in fractions.iter().enumerate() {
+        for (j, other) in fractions.iter().enumerate() {
+            if one.is_less(other) != (i < j) {
+                return false;
+            }
         }
     }
-    Ok(())
+    true
 }
 
 #[test]
-fn equal_fractions_and_texts_have_one_hash(rt: HostRuntime) -> Result<(), Fail> {
-    let mut fractions = HashSet::new(rt.alloc());
-    for (text, new) in [("1/2", true), ("2/4", false), ("1/3", true)] {
-        assert_eq!(rt; fractions.insert(fraction(text)?)?, new, "{text}");
-    }
-    let mut texts = HashSet::new(rt.alloc());
-    for (text, new) in [("Zürich", true), ("Zürich", false), ("Z", true)] {
-        let text = Text::of(rt.alloc(), text)?;
-        assert_eq!(rt; texts.insert(text)?, new);
-    }
+fn fractions_are_ordered_by_value(rt: HostRuntime) -> Result<(), Fail> {
+    let fractions = fractions_of(rt.alloc(), ORDER)?;
+    assert!(rt; is_rising(&fractions) && are_less(&fractions));
     Ok(())
+}
+
+/// Fractions that come into a set, and whether each is new there.
+struct FractionSets;
+
+impl Table for FractionSets {
+    const LINES: &'static str = "\
+1/2 2/4 1/3 => true, false, true, ";
+
+    fn told(alloc: Global, input: &str) -> Result<String, Fail> {
+        let mut set = HashSet::new(alloc);
+        let mut told = String::new(alloc);
+        for word in input.split(' ') {
+            let new = set.insert(fraction(word)?)?;
+            told.push_str(if new { "true, " } else { "false, " })?;
+        }
+        Ok(told)
+    }
+}
+
+#[test]
+fn equal_fractions_have_one_hash(rt: HostRuntime) -> Result<(), Fail> {
+    hold::<FractionSets>(rt.alloc())
+}
+
+/// Texts that come into a set, and whether each is new there.
+struct TextSets;
+
+impl Table for TextSets {
+    const LINES: &'static str = "\
+Zürich Zürich Z => true, false, true, ";
+
+    fn told(alloc: Global, input: &str) -> Result<String, Fail> {
+        let mut set = HashSet::new(alloc);
+        let mut told = String::new(alloc);
+        for word in input.split(' ') {
+            let new = set.insert(Text::of(alloc, word)?)?;
+            told.push_str(if new { "true, " } else { "false, " })?;
+        }
+        Ok(told)
+    }
+}
+
+#[test]
+fn equal_texts_have_one_hash(rt: HostRuntime) -> Result<(), Fail> {
+    hold::<TextSets>(rt.alloc())
 }
 
 /// Texts, and the whole number that each reads as.
-const WHOLE: &str = "\
+struct WholeNumbers;
+
+impl Table for WholeNumbers {
+    const LINES: &'static str = "\
 0 => 0
 -0 => 0
 12 => 12
@@ -135,30 +196,42 @@ const WHOLE: &str = "\
 1.0 => none
 −1 => none";
 
+    fn told(alloc: Global, input: &str) -> Result<String, Fail> {
+        match read_whole(input) {
+            Some(read) => Ok(read.to_string(alloc)?),
+            None => Ok("none".to_string(alloc)?),
+        }
+    }
+}
+
 #[test]
 fn whole_numbers_have_an_optional_minus_and_ten_digits(rt: HostRuntime) -> Result<(), Fail> {
-    for line in WHOLE.lines() {
-        let (text, want) = case(line)?;
-        let wanted = want.parse::<i64>().ok();
-        assert!(rt; read_whole(text) == wanted, "{line}");
-    }
-    Ok(())
+    hold::<WholeNumbers>(rt.alloc())
 }
 
 /// Texts, each before the next.
 const BYTES: &str = "A AA Z Zürich a";
 
+/// The words of a text.
+fn texts_of(alloc: Global, text: &str) -> Result<Vec<Text>, Fail> {
+    let mut texts = Vec::new(alloc);
+    for word in text.split(' ') {
+        texts.push(Text::of(alloc, word)?)?;
+    }
+    Ok(texts)
+}
+
 #[test]
 fn texts_are_compared_by_bytes(rt: HostRuntime) -> Result<(), Fail> {
-    let words = parts_of(rt.alloc(), BYTES, ' ')?;
-    for (i, one) in words.iter().enumerate() {
-        for (j, other) in words.iter().enumerate() {
-            let (one, other) = (Text::of(rt.alloc(), one)?, Text::of(rt.alloc(), other)?);
-            assert_eq!(rt; (one.cmp(&other), one == other), (i.cmp(&j), i == j));
-        }
-    }
+    let texts = texts_of(rt.alloc(), BYTES)?;
+    assert!(rt; is_rising(&texts));
+    Ok(())
+}
+
+#[test]
+fn a_copy_of_a_text_has_its_bytes(rt: HostRuntime) -> Result<(), Fail> {
     let text = Text::of_string("ab".to_string(rt.alloc())?);
-    assert_eq!(rt; text.copy()?.as_str(), "ab");
+    assert!(rt; text.copy()?.as_str() == "ab");
     Ok(())
 }
 
@@ -167,10 +240,10 @@ fn sequences_keep_their_items_in_order(rt: HostRuntime) -> Result<(), Fail> {
     let mut items: Seq<u8> = Seq::new(rt.alloc());
     items.push(5)?;
     items.push(7)?;
-    assert_eq!(rt; (items.len(), items.as_slice()), (2, [5, 7].as_slice()));
+    assert!(rt; items.len() == 2 && items.as_slice() == [5, 7].as_slice());
     assert!(rt; items.get(1).copied() == Some(7) && items.get(2).is_none());
     let again = Seq::of_vec(items.into_vec());
-    assert_eq!(rt; (again.len(), again.emptied().len()), (2, 0));
+    assert!(rt; again.len() == 2 && again.emptied().len() == 0);
     Ok(())
 }
 
@@ -184,13 +257,23 @@ const FEATURES: &str =
 {"type":"Feature","id":"f","geometry":{"type":"MultiPolygon","coordinates":[[[[0.0000000,0.0000000],[4.0000000,0.0000000],[4.0000000,4.0000000],[0.0000000,0.0000000]]],[[[5.0000000,5.0000000],[6.0000000,5.0000000],[6.0000000,6.0000000],[5.0000000,5.0000000]]]]},"properties":{"a":"","b":7,"c":true,"d":null}}
 {"type":"Feature","id":"","geometry":null,"properties":{"":""}}"#;
 
+/// The text of a copy of a feature.
+fn copy_told(alloc: Global, feature: &Feature) -> Result<String, Fail> {
+    let copy = feature.copy()?;
+    let text = write_feature(alloc, &copy)?;
+    Ok(String::from_utf8(text.into_vec()).ok().ok_or("a text")?)
+}
+
+/// The text of a copy of the feature that a text writes.
+fn copied(alloc: Global, text: &str) -> Result<String, Fail> {
+    let feature = read_feature(alloc, text.as_bytes())?;
+    copy_told(alloc, &feature)
+}
+
 #[test]
 fn a_copy_of_a_feature_has_its_text(rt: HostRuntime) -> Result<(), Fail> {
     for line in FEATURES.lines() {
-        let feature = read_feature(rt.alloc(), line.as_bytes())?;
-        let copy = feature.copy()?;
-        let text = write_feature(rt.alloc(), &copy)?;
-        assert_eq!(rt; text.as_slice(), line.as_bytes());
+        assert!(rt; copied(rt.alloc(), line)?.as_str() == line, "{line}");
     }
     Ok(())
 }

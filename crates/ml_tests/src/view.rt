@@ -1,6 +1,6 @@
 //! Views from words, and the labels that they show.
-use crate::cases::{case, fraction};
-use ml_cone::Slot;
+use crate::cases::{Table, fraction, hold, numbers_told, view_told, word};
+use ml_cone::{Label, Slot, View};
 use ml_pass::read_table;
 use ml_ratio::lines::parts_of;
 use ml_view::{read_view, shown};
@@ -10,8 +10,37 @@ use std::test::Fail;
 /// Two labels, the one active until 1000, the other until 20.
 const TABLE: &str = "A 0 0 0 1000 -10,-5,10,5\nB 400 0 0 1000 -10,-5,10,5\n";
 
+/// The view of five words, or the place of the wrong word.
+fn view_of(alloc: Global, text: &str) -> Result<Result<View, usize>, Fail> {
+    let words = parts_of(alloc, text, ' ')?;
+    let cx = word(&words, 0)?;
+    let cy = word(&words, 1)?;
+    let w = word(&words, 2)?;
+    let h = word(&words, 3)?;
+    Ok(read_view(cx, cy, w, h, word(&words, 4)?))
+}
+
+/// The slot until a scale.
+fn slot_until(scale: &str, blocker: Option<u32>) -> Result<Slot, Fail> {
+    let until = fraction(scale)?;
+    Ok(Slot { until, blocker })
+}
+
+/// The places of the two labels that a view shows.
+fn places_told(alloc: Global, labels: &[Label], view: &View) -> Result<String, Fail> {
+    let slots = [slot_until("1000", None)?, slot_until("20", Some(0))?];
+    if labels.len() != 2 {
+        return Err(Fail::new("two labels"));
+    }
+    let places = shown(alloc, labels, &slots, view)?;
+    numbers_told(alloc, places.as_slice())
+}
+
 /// Five words, and the places of the labels that the view shows, or the place of the wrong word.
-const VIEWS: &str = "\
+struct Views;
+
+impl Table for Views {
+    const LINES: &'static str = "\
 200 0 1024 768 19/1 => 0 1
 200 0 1024 768 39/2 => 0 1
 200 0 1024 768 20/1 => 0
@@ -33,54 +62,35 @@ x x x x x => wrong 0
 0 0 2 2 268435456 => wrong 4
 0 0 2 2  => wrong 4";
 
-/// What a view of five words shows, or which word is wrong.
-fn view_told(alloc: Global, words: &str) -> Result<String, Fail> {
-    let words = parts_of(alloc, words, ' ')?;
-    match words.as_slice() {
-        [cx, cy, w, h, scale] => match read_view(cx, cy, w, h, scale) {
-            Ok(view) => places_told(alloc, &view),
+    fn told(alloc: Global, input: &str) -> Result<String, Fail> {
+        match view_of(alloc, input)? {
+            Ok(view) => {
+                let labels = read_table(alloc, TABLE.as_bytes())?;
+                places_told(alloc, labels.as_slice(), &view)
+            }
             Err(place) => Ok(format!(in alloc; "wrong {place}")?),
-        },
-        _ => Err(Fail::from("five words")),
-    }
-}
-
-/// The places of the labels that a view shows.
-fn places_told(alloc: Global, view: &ml_cone::View) -> Result<String, Fail> {
-    let labels = read_table(alloc, TABLE.as_bytes())?;
-    let (until, later) = (fraction("1000")?, fraction("20")?);
-    let first = Slot {
-        until,
-        blocker: None,
-    };
-    let second = Slot {
-        until: later,
-        blocker: Some(0),
-    };
-    if labels.len() != 2 {
-        return Err(Fail::from("two labels"));
-    }
-    let places = shown(alloc, labels.as_slice(), &[first, second], view)?;
-    match places.as_slice() {
-        [] => Ok(format!(in alloc; "none")?),
-        [one] => Ok(format!(in alloc; "{one}")?),
-        [one, other] => Ok(format!(in alloc; "{one} {other}")?),
-        _ => Err(Fail::from("two places at most")),
+        }
     }
 }
 
 #[test]
 fn a_view_shows_what_is_active_and_meets_its_window(rt: HostRuntime) -> Result<(), Fail> {
-    for line in VIEWS.lines() {
-        let (words, want) = case(line)?;
-        assert_eq!(rt; view_told(rt.alloc(), words)?.as_str(), want, "{line}");
+    hold::<Views>(rt.alloc())
+}
+
+/// Five words, and the parts of the view.
+struct ViewParts;
+
+impl Table for ViewParts {
+    const LINES: &'static str = "\
+-7 2000000000 4096 2 38/4 => -7 2000000000 4096 2 19/2";
+
+    fn told(alloc: Global, input: &str) -> Result<String, Fail> {
+        view_told(alloc, &view_of(alloc, input)?.ok().ok_or("a view")?)
     }
-    let view = read_view("-7", "2000000000", "4096", "2", "38/4").ok();
-    let view = view.ok_or("a view")?;
-    assert_eq!(rt;
-        (view.cx, view.cy, view.w, view.h),
-        (-7, 2000000000, 4096, 2)
-    );
-    assert_eq!(rt; view.scale, fraction("19/2")?);
-    Ok(())
+}
+
+#[test]
+fn a_view_has_the_parts_that_its_words_write(rt: HostRuntime) -> Result<(), Fail> {
+    hold::<ViewParts>(rt.alloc())
 }

@@ -3,11 +3,10 @@
 ghost use Rattle.std.specs.Prelude.{◌↔◌, IsTrue, IfOk};
 ghost use Rattle.ml_ratio.specs.Geometry.{IsRing, IsGeometry};
 
-use crate::cases::{case, feature_of};
+use crate::cases::{Subject, each_holds, feature_of};
 use ml_anchor::{area_anchor, point_anchor};
 use ml_ratio::{Geometry, Pos, Seq};
 use std::alloc::Global;
-use std::process::Abort;
 use std::test::Fail;
 
 /// The position's numbers, and `-` for none.
@@ -21,26 +20,40 @@ fn place_told(alloc: Global, place: Option<Pos>) -> Result<String, Fail> {
     }
 }
 
-/// The anchors of a shape.
-fn anchors_told(alloc: Global, input: &str) -> Result<String, Fail> {
-    let (_name, shape) = input.split_once(": ").ok_or("a name")?;
-    let feature = feature_of(alloc, shape)?;
-    let Some(shape) = &feature.geometry else {
-        return Err(Fail::from("a shape"));
-    };
-    let point = place_told(alloc, point_anchor(shape))?;
-    let area = place_told(alloc, area_anchor(alloc, shape)?)?;
-    let (point, area) = (point.as_str(), area.as_str());
-    Ok(format!(in alloc; "{point} {area}")?)
+/// The anchor of an area.
+fn area_told(alloc: Global, shape: &Geometry) -> Result<String, Fail>
+    requires { IsGeometry shape.now }
+{
+    place_told(alloc, area_anchor(alloc, shape)?)
 }
 
-/// Each case has its anchors.
-fn each_has_its_anchors(rt: &impl Abort, alloc: Global, cases: &str) -> Result<(), Fail> {
-    for line in cases.lines() {
-        let (input, want) = case(line)?;
-        assert_eq!(rt; anchors_told(alloc, input)?.as_str(), want, "{line}");
+/// The anchors of a shape.
+fn anchors_told(alloc: Global, shape: &Geometry) -> Result<String, Fail>
+    requires { IsGeometry shape.now }
+{
+    let mut told = place_told(alloc, point_anchor(shape))?;
+    told.push(' ')?;
+    told.push_str(area_told(alloc, shape)?.as_str())?;
+    Ok(told)
+}
+
+/// The anchors of the shape of a case.
+fn case_told(alloc: Global, input: &str) -> Result<String, Fail> {
+    let (_name, shape) = input.split_once(": ").ok_or("a name")?;
+    let feature = feature_of(alloc, shape)?;
+    match &feature.geometry {
+        Some(shape) => anchors_told(alloc, shape),
+        None => Err(Fail::from("a shape")),
     }
-    Ok(())
+}
+
+/// The anchors of shapes.
+struct Anchored;
+
+impl Subject for Anchored {
+    fn holds(alloc: Global, input: &str, want: &str) -> Result<bool, Fail> {
+        Ok(case_told(alloc, input)?.as_str() == want)
+    }
 }
 
 /// A polygon is anchored in its widest stretch.
@@ -53,11 +66,6 @@ a first ring within the second (the second ring is larger, but the first gives t
 a ring that crosses itself (0..2 and 2..4, which tie): Polygon [[[0,0],[4,4],[4,0],[0,4],[0,0]]] => - 1,2
 a ring that doubles back (the same way there and back, 0..0 and 4..4): Polygon [[[0,0],[4,4],[4,4],[0,0],[0,0]]] => - 2,2";
 
-#[test]
-fn a_polygon_is_anchored_in_its_widest_stretch(rt: HostRuntime) -> Result<(), Fail> {
-    each_has_its_anchors(&rt, rt.alloc(), WIDEST)
-}
-
 /// Level edges and lower ends count once.
 const ONCE: &str = "\
 a step on the line (the step at the height 2 gives its inner end only, 0..2): Polygon [[[0,0],[4,0],[4,2],[2,2],[2,4],[0,4],[0,0]]] => - 1,2
@@ -65,11 +73,6 @@ a step below the line (upside down the step is passed below, 0..4): Polygon [[[0
 a notch from above (a corner that touches the line from above counts twice, from below not at all): Polygon [[[0,0],[6,0],[6,4],[4,4],[2,2],[1,4],[0,4],[0,0]]] => - 4,2
 a notch from below: Polygon [[[0,0],[1,0],[2,2],[4,0],[6,0],[6,4],[0,4],[0,0]]] => - 3,2
 a diamond: Polygon [[[0,2],[3,0],[6,2],[3,4],[0,2]]] => - 3,2";
-
-#[test]
-fn level_edges_and_lower_ends_count_once(rt: HostRuntime) -> Result<(), Fail> {
-    each_has_its_anchors(&rt, rt.alloc(), ONCE)
-}
 
 /// Halves are rounded down.
 const ROUNDED: &str = "\
@@ -80,22 +83,12 @@ no height, below zero: Polygon [[[-4,-5],[3,-5],[1,-5],[-4,-5]]] => - -1,-5
 no height and no width: Polygon [[[9,9],[9,9],[9,9],[9,9]]] => - 9,9
 no width: Polygon [[[9,0],[9,3],[9,1],[9,0]]] => - 9,1";
 
-#[test]
-fn halves_are_rounded_down(rt: HostRuntime) -> Result<(), Fail> {
-    each_has_its_anchors(&rt, rt.alloc(), ROUNDED)
-}
-
 /// Shapes as large as the world.
 const WORLD: &str = "\
 all of it: Polygon [[[-2000000000,-2000000000],[2000000000,-2000000000],[2000000000,2000000000],[-2000000000,2000000000],[-2000000000,-2000000000]]] => - 0,0
 half of it (the slope is crossed at 0): Polygon [[[-2000000000,-2000000000],[2000000000,-2000000000],[2000000000,2000000000],[-2000000000,-2000000000]]] => - 1000000000,0
 its eastern rim (crossed half way between 1999999999 and 2000000000, which rounds down to the west end): Polygon [[[2000000000,-2000000000],[2000000000,2000000000],[1999999999,2000000000],[2000000000,-2000000000]]] => - 1999999999,0
 its western rim: Polygon [[[-2000000000,-2000000000],[-2000000000,2000000000],[-1999999999,2000000000],[-2000000000,-2000000000]]] => - -2000000000,0";
-
-#[test]
-fn the_whole_world_has_an_anchor(rt: HostRuntime) -> Result<(), Fail> {
-    each_has_its_anchors(&rt, rt.alloc(), WORLD)
-}
 
 /// Of several polygons the greatest box counts.
 const PARTS: &str = "\
@@ -105,22 +98,12 @@ a wide one and a large one: MultiPolygon [[[[0,0],[10,0],[10,1],[0,1],[0,0]]],[[
 a high one and a large one: MultiPolygon [[[[0,0],[1,0],[1,10],[0,10],[0,0]]],[[[20,0],[24,0],[24,4],[20,4],[20,0]]]] => - 22,2
 the box, not the shape (a triangle has half the area of its box): MultiPolygon [[[[0,0],[5,0],[0,5],[0,0]]],[[[20,0],[24,0],[24,4],[20,4],[20,0]]]] => - 1,2";
 
-#[test]
-fn of_several_polygons_the_greatest_box_counts(rt: HostRuntime) -> Result<(), Fail> {
-    each_has_its_anchors(&rt, rt.alloc(), PARTS)
-}
-
 /// Only the outer rings are compared.
 const OUTER: &str = "\
 the outer ring (a second ring does not count): MultiPolygon [[[[0,0],[3,0],[3,3],[0,3],[0,0]],[[0,0],[90,0],[90,90],[0,90],[0,0]]],[[[20,0],[24,0],[24,4],[20,4],[20,0]]]] => - 22,2
 one without height and a small one: MultiPolygon [[[[0,7],[90,7],[50,7],[0,7]]],[[[0,0],[1,0],[1,1],[0,0]]]] => - 0,0
 only ones without height: MultiPolygon [[[[5,7],[90,7],[50,7],[5,7]]],[[[0,0],[0,3],[0,2],[0,0]]]] => - 47,7
 two of the whole world: MultiPolygon [[[[-2000000000,-2000000000],[2000000000,-2000000000],[2000000000,2000000000],[-2000000000,-2000000000]]],[[[-2000000000,-2000000000],[2000000000,-2000000000],[2000000000,2000000000],[-2000000000,2000000000],[-2000000000,-2000000000]]]] => - 1000000000,0";
-
-#[test]
-fn only_the_outer_rings_are_compared(rt: HostRuntime) -> Result<(), Fail> {
-    each_has_its_anchors(&rt, rt.alloc(), OUTER)
-}
 
 /// Each kind of shape: its anchor as a point, and as an area.
 const OTHERS: &str = "\
@@ -132,8 +115,24 @@ an area: Polygon [[[0,0],[4,0],[4,4],[0,0]]] => - 3,2
 an area of one part: MultiPolygon [[[[0,0],[4,0],[4,4],[0,0]]]] => - 3,2";
 
 #[test]
+fn an_area_is_anchored_in_its_widest_stretch(rt: HostRuntime) -> Result<(), Fail> {
+    for table in [WIDEST, ONCE, ROUNDED, WORLD] {
+        each_holds::<Anchored>(&rt, rt.alloc(), table)?;
+    }
+    Ok(())
+}
+
+#[test]
+fn of_several_polygons_the_greatest_box_counts(rt: HostRuntime) -> Result<(), Fail> {
+    for table in [PARTS, OUTER] {
+        each_holds::<Anchored>(&rt, rt.alloc(), table)?;
+    }
+    Ok(())
+}
+
+#[test]
 fn points_and_areas_have_anchors_of_their_own(rt: HostRuntime) -> Result<(), Fail> {
-    each_has_its_anchors(&rt, rt.alloc(), OTHERS)
+    each_holds::<Anchored>(&rt, rt.alloc(), OTHERS)
 }
 
 /// The position, which has to lie in the world.
@@ -145,15 +144,21 @@ fn place(x: i64, y: i64) -> Result<Pos, Fail> {
     }
 }
 
+/// Adds a position.
+fn push_place(all: &mut Seq<Pos>, x: i64, y: i64) -> Result<(), Fail> {
+    let place = place(x, y)?;
+    Ok(all.push(place)?)
+}
+
 /// A million positions: teeth 4,000 wide, from the height 0 up to 10.
 fn saw(alloc: Global) -> Result<Seq<Pos>, Fail> {
     let mut all = Seq::new(alloc);
     for i in 0..999998u32 {
         let i = i64::from(i);
-        all.push(place(2000 * i - 1000000000, 10 * (i % 2))?)?;
+        push_place(&mut all, 2000 * i - 1000000000, 10 * (i % 2))?;
     }
-    all.push(place(999994000, -10)?)?;
-    all.push(place(-1000000000, 0)?)?;
+    push_place(&mut all, 999994000, -10)?;
+    push_place(&mut all, -1000000000, 0)?;
     Ok(all)
 }
 
@@ -180,10 +185,15 @@ fn polygon(alloc: Global, ring: Seq<Pos>) -> Result<Geometry, Fail>
     Ok(Geometry::Polygon(rings))
 }
 
+/// The anchor of the polygon of a million positions.
+fn saw_told(alloc: Global) -> Result<String, Fail> {
+    let ring = saw(alloc)?;
+    let shape = polygon(alloc, ring)?;
+    area_told(alloc, &shape)
+}
+
 #[test]
 fn a_million_positions_have_an_anchor(rt: HostRuntime) -> Result<(), Fail> {
-    let shape = polygon(rt.alloc(), saw(rt.alloc())?)?;
-    let anchor = place_told(rt.alloc(), area_anchor(rt.alloc(), &shape)?)?;
-    assert_eq!(rt; anchor.as_str(), "-999998000,0");
+    assert!(rt; saw_told(rt.alloc())?.as_str() == "-999998000,0");
     Ok(())
 }

@@ -1,12 +1,28 @@
-//! Reads the parts of a case.
+//! Tables of cases, and the parts of a case.
 use ml_geojson::read_feature;
 use ml_ratio::Feature;
 use std::alloc::Global;
+use std::process::Abort;
 use std::test::Fail;
 
-/// The input of a case and the answer that is wanted.
-pub fn case(line: &str) -> Result<(&str, &str), Fail> {
-    Ok(line.split_once(" => ").ok_or("a case")?)
+/// What a table of cases is about.
+pub trait Subject {
+    /// Whether an input has the answer that is wanted.
+    fn holds(alloc: Global, input: &str, want: &str) -> Result<bool, Fail>;
+}
+
+/// Whether a case holds, a line `input => answer`.
+fn case_holds<S: Subject>(alloc: Global, line: &str) -> Result<bool, Fail> {
+    let (input, want) = line.split_once(" => ").ok_or("a case")?;
+    S::holds(alloc, input, want)
+}
+
+/// Each case of a table holds.
+pub fn each_holds<S: Subject>(rt: &impl Abort, alloc: Global, table: &str) -> Result<(), Fail> {
+    for line in table.lines() {
+        assert!(rt; case_holds::<S>(alloc, line)?, "{line}");
+    }
+    Ok(())
 }
 
 /// The text with another word for each of one word.
@@ -32,15 +48,18 @@ fn degrees(alloc: Global, units: &str) -> Result<String, Fail> {
     replaced(alloc, &text, "]e-7", "]")
 }
 
-/// The feature whose shape a text writes, as `LineString [[0,5],[7,5]]` in world units.
-pub fn feature_of(alloc: Global, text: &str) -> Result<Feature, Fail> {
+/// The JSON text of the feature whose shape a text writes.
+fn json_of(alloc: Global, text: &str) -> Result<String, Fail> {
     let (kind, units) = text.split_once(' ').ok_or("a kind")?;
     let degrees = degrees(alloc, units)?;
     let degrees = degrees.as_str();
-    let shape = format!(in alloc; r#"{{"type":"{kind}","coordinates":{degrees}}}"#)?;
-    let shape = shape.as_str();
-    let json = format!(in alloc;
-        r#"{{"type":"Feature","id":"a","geometry":{shape},"properties":{{}}}}"#
-    )?;
+    Ok(format!(in alloc;
+        r#"{{"type":"Feature","id":"a","geometry":{{"type":"{kind}","coordinates":{degrees}}},"properties":{{}}}}"#
+    )?)
+}
+
+/// The feature whose shape a text writes, as `LineString [[0,5],[7,5]]` in world units.
+pub fn feature_of(alloc: Global, text: &str) -> Result<Feature, Fail> {
+    let json = json_of(alloc, text)?;
     Ok(read_feature(alloc, json.as_bytes())?)
 }

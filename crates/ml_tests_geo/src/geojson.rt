@@ -1,8 +1,8 @@
 //! Map files: worked files and odd ones, and that calls succeed where memory is ample.
 //! A case is a line, what is given before the arrow and what is wanted behind it.
-use crate::cases::case;
+use crate::cases::{Subject, each_holds};
 use ml_geojson::{GeoFault, read_collection, read_feature, write_collection, write_feature};
-use ml_ratio::{Feature, Geometry, Scalar};
+use ml_ratio::{Feature, Geometry, Prop, Scalar};
 use std::alloc::Global;
 use std::test::Fail;
 
@@ -148,6 +148,11 @@ fn rewritten(alloc: Global, text: &str) -> Result<Vec<u8>, Fail> {
     Ok(write_collection(alloc, &features)?.into_vec())
 }
 
+/// Whether the map file, read and written again, is the other text.
+fn is_rewritten(alloc: Global, text: &str, want: &str) -> Result<bool, Fail> {
+    Ok(rewritten(alloc, text)?.as_slice() == want.as_bytes())
+}
+
 /// Why the map file is refused.
 fn refusal(alloc: Global, text: &str) -> Option<GeoFault> {
     read_collection(alloc, text.as_bytes()).err()
@@ -161,26 +166,34 @@ fn with_geometry(alloc: Global, geometry: &str) -> Result<String, Fail> {
 #[test]
 fn a_map_file_is_rewritten_as_canonical_text(rt: HostRuntime) -> Result<(), Fail> {
     for text in [SAMPLE, CANONICAL] {
-        assert_eq!(rt;
-            rewritten(rt.alloc(), text)?.as_slice(),
-            CANONICAL.as_bytes()
-        );
+        assert!(rt; is_rewritten(rt.alloc(), text, CANONICAL)?);
     }
     Ok(())
+}
+
+/// Whether the feature lies at this point.
+fn lies_at(feature: &Feature, x: i64, y: i64) -> bool {
+    match &feature.geometry {
+        Some(Geometry::Point(place)) => place.x == x && place.y == y,
+        _ => false,
+    }
+}
+
+/// Whether the property is this number.
+fn is_number(prop: &Prop, number: &str) -> bool {
+    match &prop.value {
+        Scalar::Num(text) => text.as_str() == number,
+        _ => false,
+    }
 }
 
 #[test]
 fn a_point_has_its_place_and_its_properties(rt: HostRuntime) -> Result<(), Fail> {
     let features = read_collection(rt.alloc(), SAMPLE.as_bytes())?;
     let zurich = features.get(0).ok_or("a feature")?;
-    match &zurich.geometry {
-        Some(Geometry::Point(place)) => assert_eq!(rt; (place.x, place.y), (85416942, 473768861)),
-        _ => return Err(Fail::from("a point")),
-    }
-    match &zurich.props.get(2).ok_or("a property")?.value {
-        Scalar::Num(number) => assert_eq!(rt; number.as_str(), "402762"),
-        _ => return Err(Fail::from("a number")),
-    }
+    assert!(rt; lies_at(zurich, 85416942, 473768861));
+    let population = zurich.props.get(2).ok_or("a property")?;
+    assert!(rt; is_number(population, "402762"));
     Ok(())
 }
 
@@ -204,14 +217,14 @@ fn ids_of(alloc: Global, text: &str) -> Result<String, Fail> {
     Ok(ids)
 }
 
-#[test]
-fn features_get_different_ids(rt: HostRuntime) -> Result<(), Fail> {
-    for line in IDS.lines() {
-        let (members, want) = case(line)?;
-        let text = of_three(rt.alloc(), members)?;
-        assert_eq!(rt; ids_of(rt.alloc(), text.as_str())?.as_str(), want, "{line}");
+/// The ids of three features.
+struct OfIds;
+
+impl Subject for OfIds {
+    fn holds(alloc: Global, input: &str, want: &str) -> Result<bool, Fail> {
+        let text = of_three(alloc, input)?;
+        Ok(ids_of(alloc, text.as_str())?.as_str() == want)
     }
-    Ok(())
 }
 
 /// The text of a map file of one feature with this geometry and the id that it gets.
@@ -221,52 +234,43 @@ fn written(alloc: Global, geometry: &str) -> Result<String, Fail> {
     )?)
 }
 
-#[test]
-fn geometries_are_read_by_the_rules(rt: HostRuntime) -> Result<(), Fail> {
-    for line in GEOMETRIES.lines() {
-        let (geometry, want) = case(line)?;
-        let text = with_geometry(rt.alloc(), geometry)?;
-        let found = rewritten(rt.alloc(), text.as_str())?;
-        let wanted = written(rt.alloc(), want)?;
-        assert_eq!(rt; found.as_slice(), wanted.as_bytes(), "{line}");
+/// How geometries are written again.
+struct OfGeometry;
+
+impl Subject for OfGeometry {
+    fn holds(alloc: Global, input: &str, want: &str) -> Result<bool, Fail> {
+        let text = with_geometry(alloc, input)?;
+        let want = written(alloc, want)?;
+        is_rewritten(alloc, text.as_str(), want.as_str())
     }
-    Ok(())
 }
 
-#[test]
-fn the_first_fault_of_a_geometry_decides(rt: HostRuntime) -> Result<(), Fail> {
-    for line in BAD_GEOMETRIES.lines() {
-        let (geometry, want) = case(line)?;
-        let text = with_geometry(rt.alloc(), geometry)?;
-        assert_eq!(rt;
-            refusal(rt.alloc(), text.as_str()),
-            Some(fault(want)?),
-            "{line}"
-        );
+/// The faults of geometries.
+struct OfBadGeometry;
+
+impl Subject for OfBadGeometry {
+    fn holds(alloc: Global, input: &str, want: &str) -> Result<bool, Fail> {
+        let text = with_geometry(alloc, input)?;
+        Ok(refusal(alloc, text.as_str()) == Some(fault(want)?))
     }
-    Ok(())
 }
 
-#[test]
-fn the_first_fault_of_a_file_decides(rt: HostRuntime) -> Result<(), Fail> {
-    for line in BAD_MAPS.lines() {
-        let (text, want) = case(line)?;
-        assert_eq!(rt; refusal(rt.alloc(), text), Some(fault(want)?), "{line}");
+/// The faults of map files.
+struct OfBadMap;
+
+impl Subject for OfBadMap {
+    fn holds(alloc: Global, input: &str, want: &str) -> Result<bool, Fail> {
+        Ok(refusal(alloc, input) == Some(fault(want)?))
     }
-    Ok(())
 }
 
-#[test]
-fn files_that_stand_at_the_edge_are_accepted(rt: HostRuntime) -> Result<(), Fail> {
-    for line in MAPS.lines() {
-        let (text, want) = case(line)?;
-        assert_eq!(rt;
-            rewritten(rt.alloc(), text)?.as_slice(),
-            want.as_bytes(),
-            "{line}"
-        );
+/// How map files are written again.
+struct OfMap;
+
+impl Subject for OfMap {
+    fn holds(alloc: Global, input: &str, want: &str) -> Result<bool, Fail> {
+        is_rewritten(alloc, input, want)
     }
-    Ok(())
 }
 
 /// Why the bytes are refused as a feature.
@@ -274,44 +278,65 @@ fn feature_refusal(alloc: Global, bytes: &[u8]) -> Option<GeoFault> {
     read_feature(alloc, bytes).err()
 }
 
-#[test]
-fn single_features_need_an_id(rt: HostRuntime) -> Result<(), Fail> {
-    for line in BAD_FEATURES.lines() {
-        let (text, want) = case(line)?;
-        assert_eq!(rt;
-            feature_refusal(rt.alloc(), text.as_bytes()),
-            Some(fault(want)?),
-            "{line}"
-        );
+/// The faults of single features.
+struct OfBadFeature;
+
+impl Subject for OfBadFeature {
+    fn holds(alloc: Global, input: &str, want: &str) -> Result<bool, Fail> {
+        Ok(feature_refusal(alloc, input.as_bytes()) == Some(fault(want)?))
     }
-    Ok(())
+}
+
+#[test]
+fn files_are_read_by_the_rules(rt: HostRuntime) -> Result<(), Fail> {
+    let alloc = rt.alloc();
+    each_holds::<OfIds>(&rt, alloc, IDS)?;
+    each_holds::<OfGeometry>(&rt, alloc, GEOMETRIES)?;
+    each_holds::<OfMap>(&rt, alloc, MAPS)
+}
+
+#[test]
+fn the_first_fault_decides(rt: HostRuntime) -> Result<(), Fail> {
+    let alloc = rt.alloc();
+    each_holds::<OfBadGeometry>(&rt, alloc, BAD_GEOMETRIES)?;
+    each_holds::<OfBadMap>(&rt, alloc, BAD_MAPS)?;
+    each_holds::<OfBadFeature>(&rt, alloc, BAD_FEATURES)
 }
 
 #[test]
 fn bytes_that_are_no_text_are_no_feature(rt: HostRuntime) {
-    assert_eq!(rt;
-        feature_refusal(rt.alloc(), b"\xff"),
-        Some(GeoFault::NotJson(0))
-    );
-    assert_eq!(rt;
-        feature_refusal(rt.alloc(), &[b'['; 65]),
-        Some(GeoFault::Deep(64))
-    );
+    assert!(rt; feature_refusal(rt.alloc(), b"\xff") == Some(GeoFault::NotJson(0)));
+    assert!(rt; feature_refusal(rt.alloc(), &[b'['; 65]) == Some(GeoFault::Deep(64)));
 }
 
-/// The text of a copy of the feature.
-fn copied(alloc: Global, feature: &Feature) -> Result<Vec<u8>, Fail> {
+/// Whether this is how the feature is written.
+fn is_written(alloc: Global, feature: &Feature, want: &str) -> Result<bool, Fail> {
+    Ok(write_feature(alloc, feature)?.as_slice() == want.as_bytes())
+}
+
+/// Whether the feature of this text is written as it was read.
+fn is_same(alloc: Global, text: &str) -> Result<bool, Fail> {
+    let feature = read_feature(alloc, text.as_bytes())?;
+    is_written(alloc, &feature, text)
+}
+
+/// Whether this is how a copy of the feature is written.
+fn is_copied(alloc: Global, feature: &Feature, want: &str) -> Result<bool, Fail> {
     let copy = feature.copy()?;
-    Ok(write_feature(alloc, &copy)?.into_vec())
+    is_written(alloc, &copy, want)
+}
+
+/// Whether a copy of the feature of this text is written as it was read.
+fn is_same_copied(alloc: Global, text: &str) -> Result<bool, Fail> {
+    let feature = read_feature(alloc, text.as_bytes())?;
+    is_copied(alloc, &feature, text)
 }
 
 #[test]
 fn features_are_copied_and_written_as_they_were_read(rt: HostRuntime) -> Result<(), Fail> {
     for line in FEATURES.lines() {
-        let feature = read_feature(rt.alloc(), line.as_bytes())?;
-        let text = write_feature(rt.alloc(), &feature)?;
-        assert_eq!(rt; text.as_slice(), line.as_bytes());
-        assert_eq!(rt; copied(rt.alloc(), &feature)?.as_slice(), line.as_bytes());
+        assert!(rt; is_same(rt.alloc(), line)?, "{line}");
+        assert!(rt; is_same_copied(rt.alloc(), line)?, "{line}");
     }
     Ok(())
 }

@@ -1,6 +1,6 @@
 //! JSON texts: worked cases and hostile texts, and that calls succeed where memory is ample.
 //! A case is a line, what is given before the arrow and what is wanted behind it.
-use crate::cases::case;
+use crate::cases::{Subject, each_holds};
 use ml_json::{Json, JsonFault, e7, read, whole_part, write, write_e7};
 use ml_ratio::Text;
 use std::alloc::Global;
@@ -155,16 +155,12 @@ fn bytes_of(alloc: Global, digits: &str) -> Result<Vec<u8>, Fail> {
 }
 
 /// The front, repeated, and what follows it.
-fn repeated(alloc: Global, text: &str) -> Result<Vec<u8>, Fail> {
-    let mut words = text.split_whitespace();
-    let count = words.next().ok_or("a count")?.parse::<u32>()?;
-    let front = words.next().ok_or("a front")?.as_bytes();
-    let mut bytes = Vec::new(alloc);
-    for _ in 0..count {
-        bytes.extend_from_slice(front)?;
-    }
-    bytes.extend_from_slice(words.next().unwrap_or("").as_bytes())?;
-    Ok(bytes)
+fn repeated(alloc: Global, text: &str) -> Result<String, Fail> {
+    let (count, text) = text.split_once(' ').ok_or("a count")?;
+    let (front, end) = text.split_once(' ').unwrap_or((text, ""));
+    let mut all = front.repeat(alloc, count.parse::<usize>()?)?;
+    all.push_str(end)?;
+    Ok(all)
 }
 
 /// The text, read and written again.
@@ -173,99 +169,110 @@ fn rewritten(alloc: Global, text: &str) -> Result<Vec<u8>, Fail> {
     Ok(write(alloc, &value)?.into_vec())
 }
 
+/// The faults of texts.
+struct OfText;
+
+impl Subject for OfText {
+    fn holds(alloc: Global, input: &str, want: &str) -> Result<bool, Fail> {
+        Ok(refusal(alloc, input.as_bytes()) == fault(want)?)
+    }
+}
+
+/// The faults of bytes in hexadecimal digits.
+struct OfBytes;
+
+impl Subject for OfBytes {
+    fn holds(alloc: Global, input: &str, want: &str) -> Result<bool, Fail> {
+        let bytes = bytes_of(alloc, input)?;
+        Ok(refusal(alloc, &bytes) == fault(want)?)
+    }
+}
+
+/// The faults of texts with a front that is repeated.
+struct OfFront;
+
+impl Subject for OfFront {
+    fn holds(alloc: Global, input: &str, want: &str) -> Result<bool, Fail> {
+        let text = repeated(alloc, input)?;
+        Ok(refusal(alloc, text.as_bytes()) == fault(want)?)
+    }
+}
+
+/// As many lists as may be open, with brackets in a string, which open nothing.
+const BRACKETS: &str =
+    r#"[[[[[[[[[[[[[[[[[[[[[[[[[[[[[[[[[[[[[[[[[[[[[[[[[[[[[[[[[[[[[[[["[["]]]]]]]]]]]]]]]]]]]]]]]]]]]]]]]]]]]]]]]]]]]]]]]]]]]]]]]]]]]]]]]] => none"#;
+
 #[test]
 fn texts_are_refused_at_their_first_wrong_byte(rt: HostRuntime) -> Result<(), Fail> {
-    for line in TEXTS.lines() {
-        let (text, want) = case(line)?;
-        assert_eq!(rt;
-            refusal(rt.alloc(), text.as_bytes()),
-            fault(want)?,
-            "{line}"
-        );
-    }
-    Ok(())
-}
-
-#[test]
-fn bytes_are_refused_at_their_first_wrong_one(rt: HostRuntime) -> Result<(), Fail> {
-    for line in BYTES.lines() {
-        let (digits, want) = case(line)?;
-        let bytes = bytes_of(rt.alloc(), digits)?;
-        assert_eq!(rt; refusal(rt.alloc(), &bytes), fault(want)?, "{line}");
-    }
-    Ok(())
-}
-
-#[test]
-fn the_65th_list_or_map_is_refused(rt: HostRuntime) -> Result<(), Fail> {
-    for line in FRONTS.lines() {
-        let (text, want) = case(line)?;
-        let bytes = repeated(rt.alloc(), text)?;
-        assert_eq!(rt; refusal(rt.alloc(), &bytes), fault(want)?, "{line}");
-    }
-    Ok(())
-}
-
-#[test]
-fn brackets_in_strings_open_nothing(rt: HostRuntime) -> Result<(), Fail> {
-    let mut bytes = repeated(rt.alloc(), "64 [ \"[[\"")?;
-    for _ in 0..64 {
-        bytes.push(b']')?;
-    }
-    assert_eq!(rt; refusal(rt.alloc(), &bytes), None);
-    Ok(())
+    let alloc = rt.alloc();
+    each_holds::<OfText>(&rt, alloc, TEXTS)?;
+    each_holds::<OfText>(&rt, alloc, BRACKETS)?;
+    each_holds::<OfBytes>(&rt, alloc, BYTES)?;
+    each_holds::<OfFront>(&rt, alloc, FRONTS)
 }
 
 #[test]
 fn each_front_of_a_text_ends_too_early(rt: HostRuntime) {
     let text = b"{\"a\":[1.5e+3,-0,true,false,null,\"\\u00e9\xc3\xa9\\n\"],\"b\":{}}";
-    assert_eq!(rt; refusal(rt.alloc(), text), None);
+    assert!(rt; refusal(rt.alloc(), text) == None);
     for (end, _) in text.iter().enumerate() {
-        assert_eq!(rt;
-            refusal(rt.alloc(), &text[..end]),
-            Some(JsonFault::NotJson(end))
-        );
+        assert!(rt; refusal(rt.alloc(), &text[..end]) == Some(JsonFault::NotJson(end)));
     }
 }
+
+/// The canonical texts of values.
+struct OfValue;
+
+impl Subject for OfValue {
+    fn holds(alloc: Global, input: &str, want: &str) -> Result<bool, Fail> {
+        Ok(rewritten(alloc, input)?.as_slice() == want.as_bytes())
+    }
+}
+
+/// The coordinates that numbers are.
+struct OfNumber;
+
+impl Subject for OfNumber {
+    fn holds(alloc: Global, input: &str, want: &str) -> Result<bool, Fail> {
+        let number = Text::of(alloc, input)?;
+        Ok(e7(&number) == want.parse::<i64>().ok())
+    }
+}
+
+/// The whole parts of numbers.
+struct OfWhole;
+
+impl Subject for OfWhole {
+    fn holds(alloc: Global, input: &str, want: &str) -> Result<bool, Fail> {
+        let number = Text::of(alloc, input)?;
+        Ok(whole_part(&number) == want.parse::<u64>()?)
+    }
+}
+
+/// The texts of coordinates.
+struct OfCoordinate;
+
+impl Subject for OfCoordinate {
+    fn holds(alloc: Global, input: &str, want: &str) -> Result<bool, Fail> {
+        let text = write_e7(alloc, input.parse::<i64>()?)?;
+        Ok(text.as_str() == want)
+    }
+}
+
+/// The canonical text of a character that stands as itself.
+const DELETE: &str = "\"\\u007f\" => \"\x7f\"";
 
 #[test]
 fn values_have_canonical_texts(rt: HostRuntime) -> Result<(), Fail> {
-    for line in CANONICAL.lines() {
-        let (text, want) = case(line)?;
-        let written = rewritten(rt.alloc(), text)?;
-        assert_eq!(rt; written.as_slice(), want.as_bytes(), "{line}");
-    }
-    let written = rewritten(rt.alloc(), "\"\\u007f\"")?;
-    assert_eq!(rt; written.as_slice(), b"\"\x7f\"".as_slice());
-    Ok(())
+    let alloc = rt.alloc();
+    each_holds::<OfValue>(&rt, alloc, CANONICAL)?;
+    each_holds::<OfValue>(&rt, alloc, DELETE)
 }
 
 #[test]
-fn numbers_are_coordinates(rt: HostRuntime) -> Result<(), Fail> {
-    for line in COORDINATES.lines() {
-        let (number, want) = case(line)?;
-        let number = Text::of(rt.alloc(), number)?;
-        assert_eq!(rt; e7(&number), want.parse::<i64>().ok(), "{line}");
-    }
-    Ok(())
-}
-
-#[test]
-fn numbers_have_whole_parts(rt: HostRuntime) -> Result<(), Fail> {
-    for line in WHOLE_PARTS.lines() {
-        let (number, want) = case(line)?;
-        let number = Text::of(rt.alloc(), number)?;
-        assert_eq!(rt; whole_part(&number), want.parse::<u64>()?, "{line}");
-    }
-    Ok(())
-}
-
-#[test]
-fn coordinates_have_texts(rt: HostRuntime) -> Result<(), Fail> {
-    for line in WRITTEN.lines() {
-        let (coordinate, want) = case(line)?;
-        let text = write_e7(rt.alloc(), coordinate.parse::<i64>()?)?;
-        assert_eq!(rt; text.as_str(), want, "{line}");
-    }
-    Ok(())
+fn numbers_are_exact(rt: HostRuntime) -> Result<(), Fail> {
+    let alloc = rt.alloc();
+    each_holds::<OfNumber>(&rt, alloc, COORDINATES)?;
+    each_holds::<OfWhole>(&rt, alloc, WHOLE_PARTS)?;
+    each_holds::<OfCoordinate>(&rt, alloc, WRITTEN)
 }

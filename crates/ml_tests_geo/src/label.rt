@@ -1,11 +1,11 @@
 //! Labels worked out by hand. A label is written as its id, class, rank, anchor, range of scales, and
 //! its pieces, each with the left, bottom, right and top of its box.
-use crate::cases::case;
-use ml_cone::Label;
+use crate::cases::{Subject, each_holds};
+use ml_cone::{BoxPx, Label, Order};
 use ml_geojson::read_collection;
 use ml_label::{label_of, labels_of};
 use ml_pass::{assign, write_slots};
-use ml_ratio::Seq;
+use ml_ratio::Feature;
 use ml_style::{SAMPLE, Style, read_style};
 use std::alloc::Global;
 use std::test::Fail;
@@ -86,86 +86,127 @@ max = "1"
 margin = 5
 "#;
 
-/// The label in words.
-fn written(alloc: Global, label: &Label) -> Result<String, Fail> {
-    let order = label.order();
+/// The order of a label in words: its id, class and rank.
+fn order_told(alloc: Global, order: &Order) -> Result<String, Fail> {
+    let (id, class, rank) = (order.id.as_str(), order.class, order.rank);
+    Ok(format!(in alloc; "{id} {class} {rank}")?)
+}
+
+/// The range of scales of a label in words.
+fn range_told(alloc: Global, label: &Label) -> Result<String, Fail> {
     let min = label.min().text(alloc)?;
     let max = label.max().text(alloc)?;
-    let mut text = format!(in alloc;
-        "{} {} {} {},{} {}..{}",
-        order.id.as_str(),
-        order.class,
-        order.rank,
-        label.x(),
-        label.y(),
-        min.as_str(),
-        max.as_str()
-    )?;
+    let (min, max) = (min.as_str(), max.as_str());
+    Ok(format!(in alloc; "{min}..{max}")?)
+}
+
+/// A piece of a label in words, behind a space.
+fn piece_told(alloc: Global, piece: &str, px: &BoxPx) -> Result<String, Fail> {
+    let (l, b, r, t) = (px.l, px.b, px.r, px.t);
+    Ok(format!(in alloc; " {piece}[{l},{b},{r},{t}]")?)
+}
+
+/// What stands before the pieces of a label.
+fn head_told(alloc: Global, label: &Label) -> Result<String, Fail> {
+    let order = order_told(alloc, label.order())?;
+    let range = range_told(alloc, label)?;
+    let (order, range) = (order.as_str(), range.as_str());
+    let (x, y) = (label.x(), label.y());
+    Ok(format!(in alloc; "{order} {x},{y} {range}")?)
+}
+
+/// The label in words.
+fn written(alloc: Global, label: &Label) -> Result<String, Fail> {
+    let mut text = head_told(alloc, label)?;
     let pieces = label.pieces().as_slice();
-    for (piece, p) in pieces.iter().zip(label.boxes().as_slice()) {
-        let part = format!(in alloc; " {}[{},{},{},{}]", piece.as_str(), p.l, p.b, p.r, p.t)?;
-        text.push_str(part.as_str())?;
+    for (piece, px) in pieces.iter().zip(label.boxes().as_slice()) {
+        text.push_str(piece_told(alloc, piece.as_str(), px)?.as_str())?;
     }
     Ok(text)
 }
 
+/// The label of a feature, or why there is none.
+fn label_told(alloc: Global, style: &Style, feature: &Feature) -> Result<String, Fail> {
+    match label_of(alloc, style, feature)? {
+        Ok(label) => written(alloc, &label),
+        Err(reason) => Ok(format!(in alloc; "{reason:?}")?),
+    }
+}
+
 /// The labels of a map file, or why there are none, a line each.
-fn labels(alloc: Global, style: &Style, map: &str) -> Result<String, Fail> {
+fn labels_told(alloc: Global, style: &Style, map: &str) -> Result<String, Fail> {
+    let features = read_collection(alloc, map.as_bytes())?;
     let mut all = String::new(alloc);
-    for feature in read_collection(alloc, map.as_bytes())?.as_slice() {
-        let line = match label_of(alloc, style, feature)? {
-            Ok(label) => written(alloc, &label)?,
-            Err(reason) => format!(in alloc; "{reason:?}")?,
-        };
-        all.push_str(line.as_str())?;
+    for feature in features.as_slice() {
+        all.push_str(label_told(alloc, style, feature)?.as_str())?;
         all.push('\n')?;
     }
     Ok(all)
 }
 
+/// The same under the style of this text.
+fn map_told(alloc: Global, style: &str, map: &str) -> Result<String, Fail> {
+    let style = read_style(alloc, style.as_bytes())?;
+    labels_told(alloc, &style, map)
+}
+
+/// A map file of one feature with this geometry and these properties.
+fn map_of(alloc: Global, geometry: &str, props: &str) -> Result<String, Fail> {
+    Ok(format!(in alloc;
+        r#"{{"type":"Feature","id":"f","geometry":{geometry},"properties":{{{props}}}}}"#
+    )?)
+}
+
 /// The label of one feature with this geometry and these properties under a style, or why it has none.
 fn answer(alloc: Global, style: &str, geometry: &str, props: &str) -> Result<String, Fail> {
-    let style = read_style(alloc, style.as_bytes())?;
-    let map = format!(in alloc;
-        "{{\"type\":\"Feature\",\"id\":\"f\",\"geometry\":{geometry},\"properties\":{{{props}}}}}"
-    )?;
-    let mut line = labels(alloc, &style, map.as_str())?;
+    let map = map_of(alloc, geometry, props)?;
+    let mut line = map_told(alloc, style, map.as_str())?;
     line.pop();
     Ok(line)
 }
 
-#[test]
-fn the_labels_of_a_map(rt: HostRuntime) -> Result<(), Fail> {
-    let style = read_style(rt.alloc(), SAMPLE.as_bytes())?;
-    assert_eq!(rt;
-        labels(rt.alloc(), &style, MAP)?.as_str(),
-        "#0 1 402762 85416942,473768861 0/1..1000/1 Zürich[-27,-10,28,10]
+/// The labels of the sample.
+const LABELS: &str = "\
+#0 1 402762 85416942,473768861 0/1..1000/1 Zürich[-27,-10,28,10]
 #1 4 0 30000000,10000000 0/1..100000/1 Inseln[-30,-10,30,10]
 #2 3 0 200000,100000 0/1..2000/1 S[-17,-16,-7,4] i[-7,-13,-2,7] h[-2,-12,8,8] l[8,-17,18,3]
 NoGeometry
-"
-    );
+";
+
+#[test]
+fn the_labels_of_a_map(rt: HostRuntime) -> Result<(), Fail> {
+    assert!(rt; map_told(rt.alloc(), SAMPLE, MAP)?.as_str() == LABELS);
     Ok(())
 }
 
-/// The ends of labels in their longest choice, a line each.
-fn slots_told(alloc: Global, labels: &[Label]) -> Result<Seq<u8>, Fail> {
+/// The labels of a map under a style.
+fn labels_under(alloc: Global, style: &Style, map: &str) -> Result<Vec<Label>, Fail> {
+    let features = read_collection(alloc, map.as_bytes())?;
+    Ok(labels_of(alloc, style, features.as_slice())?)
+}
+
+/// The labels of the map under the style of this text.
+fn labels_by(alloc: Global, style: &str) -> Result<Vec<Label>, Fail> {
+    let style = read_style(alloc, style.as_bytes())?;
+    labels_under(alloc, &style, MAP)
+}
+
+/// Whether these are the ends of labels in their longest choice, a line each.
+fn have_slots(alloc: Global, labels: &[Label], want: &str) -> Result<bool, Fail> {
     if labels.len() > 32_768 {
         return Err(Fail::from("at most 32768 labels"));
     }
     let slots = assign(alloc, labels)?;
-    Ok(write_slots(alloc, labels, slots.as_slice())?)
+    Ok(write_slots(alloc, labels, slots.as_slice())?.as_slice() == want.as_bytes())
 }
+
+/// The ends of the sample's labels.
+const SLOTS: &str = "#0 1000/1 -\n#2 2000/1 -\n#1 100000/1 -\n";
 
 #[test]
 fn the_labels_of_a_map_are_chosen_in_priority_order(rt: HostRuntime) -> Result<(), Fail> {
-    let alloc = rt.alloc();
-    let style = read_style(alloc, SAMPLE.as_bytes())?;
-    let features = read_collection(alloc, MAP.as_bytes())?;
-    let labels = labels_of(alloc, &style, features.as_slice())?;
-    let text = slots_told(alloc, labels.as_slice())?;
-    let want = b"#0 1000/1 -\n#2 2000/1 -\n#1 100000/1 -\n";
-    assert_eq!(rt; text.as_slice(), want.as_slice());
+    let labels = labels_by(rt.alloc(), SAMPLE)?;
+    assert!(rt; have_slots(rt.alloc(), labels.as_slice(), SLOTS)?);
     Ok(())
 }
 
@@ -222,68 +263,65 @@ fn label_under(alloc: Global, style: &str, text: &str) -> Result<String, Fail> {
     answer(alloc, style, geometry(shape), props)
 }
 
-#[test]
-fn a_label_is_made_of_shape_and_properties(rt: HostRuntime) -> Result<(), Fail> {
-    for line in SHAPES.lines() {
-        let (text, want) = case(line)?;
-        assert_eq!(rt; label_under(rt.alloc(), SAMPLE, text)?.as_str(), want);
+/// Labels under the sample style.
+struct UnderSample;
+
+impl Subject for UnderSample {
+    fn holds(alloc: Global, input: &str, want: &str) -> Result<bool, Fail> {
+        Ok(label_under(alloc, SAMPLE, input)?.as_str() == want)
     }
-    Ok(())
 }
 
-#[test]
-fn a_style_without_classes_gives_no_label(rt: HostRuntime) -> Result<(), Fail> {
-    for line in WITHOUT_CLASSES.lines() {
-        let (text, want) = case(line)?;
-        assert_eq!(rt;
-            label_under(rt.alloc(), "version = 1", text)?.as_str(),
-            want
-        );
+/// Labels under a style without classes.
+struct UnderNone;
+
+impl Subject for UnderNone {
+    fn holds(alloc: Global, input: &str, want: &str) -> Result<bool, Fail> {
+        Ok(label_under(alloc, "version = 1", input)?.as_str() == want)
     }
-    Ok(())
+}
+
+/// Properties with a name of so many letters x.
+fn props_of(alloc: Global, moved: &str, count: &str) -> Result<String, Fail> {
+    let name = "x".repeat(alloc, count.parse::<usize>()?)?;
+    let name = name.as_str();
+    Ok(format!(in alloc; r#""moved":"{moved}","name":"{name}""#)?)
 }
 
 /// The label of a name of so many letters x, without them.
-fn of_letters(alloc: Global, text: &str) -> Result<String, Fail> {
+fn letters_told(alloc: Global, text: &str) -> Result<String, Fail> {
     let (shape, others) = text.split_once(' ').ok_or("a move")?;
     let (moved, count) = others.split_once(' ').ok_or("a count")?;
-    let mut props = format!(in alloc; "\"moved\":\"{moved}\",\"name\":\"")?;
-    for _i in 0..count.parse::<u32>()? {
-        props.push('x')?;
-    }
-    props.push('"')?;
-    without_x(
-        alloc,
-        answer(alloc, PIXELS, geometry(shape), props.as_str())?.as_str(),
-    )
+    let props = props_of(alloc, moved, count)?;
+    let label = answer(alloc, PIXELS, geometry(shape), props.as_str())?;
+    Ok(label.replace(alloc, "x", "")?)
 }
 
-/// The text without its letters x.
-fn without_x(alloc: Global, text: &str) -> Result<String, Fail> {
-    let mut words = String::new(alloc);
-    for part in text.split('x') {
-        words.push_str(part)?;
+/// Labels of many letters.
+struct OfLetters;
+
+impl Subject for OfLetters {
+    fn holds(alloc: Global, input: &str, want: &str) -> Result<bool, Fail> {
+        Ok(letters_told(alloc, input)?.as_str() == want)
     }
-    Ok(words)
 }
 
-#[test]
-fn a_straight_box_reaches_512_pixels_at_most(rt: HostRuntime) -> Result<(), Fail> {
-    for line in LETTERS.lines() {
-        let (text, want) = case(line)?;
-        assert_eq!(rt; of_letters(rt.alloc(), text)?.as_str(), want, "{line}");
-    }
-    Ok(())
+/// Whether there is one label, with this margin.
+fn is_one_with(labels: &[Label], margin: u32) -> bool {
+    labels.len() == 1 && labels[0].margin() == margin
 }
 
 #[test]
 fn a_label_has_the_margin_of_its_class(rt: HostRuntime) -> Result<(), Fail> {
-    let style = read_style(rt.alloc(), WITH_MARGIN.as_bytes())?;
-    let features = read_collection(rt.alloc(), MAP.as_bytes())?;
-    let labels = labels_of(rt.alloc(), &style, features.as_slice())?;
-    assert_eq!(rt; labels.len(), 1);
-    for label in &labels {
-        assert_eq!(rt; label.margin(), 5);
-    }
+    let labels = labels_by(rt.alloc(), WITH_MARGIN)?;
+    assert!(rt; is_one_with(labels.as_slice(), 5));
     Ok(())
+}
+
+#[test]
+fn a_label_is_made_of_shape_and_properties(rt: HostRuntime) -> Result<(), Fail> {
+    let alloc = rt.alloc();
+    each_holds::<UnderSample>(&rt, alloc, SHAPES)?;
+    each_holds::<UnderNone>(&rt, alloc, WITHOUT_CLASSES)?;
+    each_holds::<OfLetters>(&rt, alloc, LETTERS)
 }

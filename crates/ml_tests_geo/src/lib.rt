@@ -4,7 +4,7 @@
 //! They stand in a crate of their own, so that no library is proved a second time with its tests. A
 //! case is a line of a text, `input => answer`: one more case proves nothing anew.
 //!
-//! - `cases`: reads the parts of a case;
+//! - `cases`: tables of cases, and the parts of a case;
 //! - `json`, `geojson`, `style`, `text`, `anchor`, `river`, `label`: the tests of these crates.
 #![tactic(auto)]
 

@@ -3,12 +3,11 @@
 //! chain, its boxes.
 ghost use Rattle.std.specs.Prelude.{◌<◌, ◌^◌, IfOk, length, sum};
 
-use crate::cases::{case, count, feature_of};
+use crate::cases::{Subject, count, each_holds, feature_of};
 use ml_cone::BoxPx;
 use ml_ratio::lines::parts_of;
 use ml_river::{Placed, RiverClass, Shape, chain_of};
 use std::alloc::Global;
-use std::process::Abort;
 use std::test::Fail;
 
 /// How the text is set that three words write.
@@ -62,6 +61,12 @@ fn advances_of(alloc: Global, words: &str) -> Result<Vec<u64>, Fail>
     Ok(all)
 }
 
+/// A box after a space.
+fn box_told(alloc: Global, px: &BoxPx) -> Result<String, Fail> {
+    let (l, b, r, t) = (px.l, px.b, px.r, px.t);
+    Ok(format!(in alloc; " {l},{b},{r},{t}")?)
+}
+
 /// The boxes of a chain, each after a space; of more than four their count.
 fn boxes_told(alloc: Global, boxes: &[BoxPx]) -> Result<String, Fail> {
     let count = boxes.len();
@@ -70,8 +75,7 @@ fn boxes_told(alloc: Global, boxes: &[BoxPx]) -> Result<String, Fail> {
     }
     let mut told = String::new(alloc);
     for px in boxes {
-        let (l, b, r, t) = (px.l, px.b, px.r, px.t);
-        told.push_str(&format!(in alloc; " {l},{b},{r},{t}")?)?;
+        told.push_str(box_told(alloc, px)?.as_str())?;
     }
     Ok(told)
 }
@@ -103,40 +107,31 @@ fn river_told(alloc: Global, input: &str) -> Result<String, Fail> {
     }
 }
 
-/// Each text has its place.
-fn each_has_its_place(rt: &impl Abort, alloc: Global, cases: &str) -> Result<(), Fail> {
-    for line in cases.lines() {
-        let (input, want) = case(line)?;
-        assert_eq!(rt; river_told(alloc, input)?.as_str(), want, "{line}");
+/// The places of texts on rivers.
+struct OnRiver;
+
+impl Subject for OnRiver {
+    fn holds(alloc: Global, input: &str, want: &str) -> Result<bool, Fail> {
+        Ok(river_told(alloc, input)?.as_str() == want)
     }
-    Ok(())
 }
 
-/// A river that is written from east to west has the same chain.
+/// A chain follows its river. One that is written from east to west has the same chain.
 const FOLLOWING: &str = "\
 1000 20 1000; 500 250 500 500; MultiLineString [[[0,0],[200000,100000],[400000,0]]] => 200000,100000 -17,-16,-7,4 -7,-13,-2,7 -2,-12,8,8 8,-17,18,3
 1000 20 1000; 500 500; MultiLineString [[[0,0],[200000,100000],[400000,0]]] => 200000,100000 -10,-13,0,7 0,-13,10,7
 1000 20 1000; 500 500; MultiLineString [[[400000,0],[200000,100000],[0,0]]] => 200000,100000 -10,-13,0,7 0,-13,10,7";
 
-#[test]
-fn a_chain_follows_its_river(rt: HostRuntime) -> Result<(), Fail> {
-    each_has_its_place(&rt, rt.alloc(), FOLLOWING)
-}
-
-/// A slope of 1/2: 5,000 to the west 2,500 down, which is -3 pixels, and 2 to the east.
+/// A chain climbs with its river. A slope of 1/2: 5,000 to the west 2,500 down, which is -3 pixels, and
+/// 2 to the east.
 const CLIMBING: &str = "\
 1000 20 1000; 500 500; MultiLineString [[[0,0],[1000000,500000]]] => 500000,250000 -10,-13,0,7 0,-8,10,12
 1000 20 1000; 500 500; MultiLineString [[[1000000,500000],[0,0]]] => 500000,250000 -10,-13,0,7 0,-8,10,12
 1000 20 1000; 500 500; MultiLineString [[[0,500000],[1000000,0]]] => 500000,250000 -10,-8,0,12 0,-13,10,7
 1000 20 1000; 500 500; MultiLineString [[[1000000,0],[0,500000]]] => 500000,250000 -10,-8,0,12 0,-13,10,7";
 
-#[test]
-fn a_chain_climbs_with_its_river(rt: HostRuntime) -> Result<(), Fail> {
-    each_has_its_place(&rt, rt.alloc(), CLIMBING)
-}
-
-/// Clusters without width are a pixel wide. 1.5 pixels are 2, of which a third and two thirds are 0
-/// and 1.
+/// Boxes begin at whole pixels. Clusters without width are a pixel wide. 1.5 pixels are 2, of which a
+/// third and two thirds are 0 and 1.
 const BOXES: &str = "\
 1 10 100; 1 1; MultiLineString [[[0,0],[1000000,0]]] => 500000,0 -10,-5,0,5 0,-5,10,5
 1 10 100; 0 1 0; MultiLineString [[[0,0],[1000000,0]]] => 500000,0 -5,-5,-4,5 -5,-5,5,5 5,-5,6,5
@@ -146,13 +141,9 @@ const BOXES: &str = "\
 65535 255 100; 1; MultiLineString [[[0,0],[1000000,0]]] => 500000,0 0,-127,1,128
 3 7 100; 1 1; MultiLineString [[[0,0],[1000000,0]]] => 500000,0 -2,-3,0,4 0,-3,3,4";
 
-#[test]
-fn boxes_begin_at_whole_pixels(rt: HostRuntime) -> Result<(), Fail> {
-    each_has_its_place(&rt, rt.alloc(), BOXES)
-}
-
-/// There and back; lines side by side; up, 4 to the east, up, 2 to the east; a place twice; 5 to the
-/// west, 20 to the east, 5 to the west; the anchor on the last edge, and where two edges meet.
+/// The widest run counts, and of equal ones the first. There and back; lines side by side; up, 4 to the
+/// east, up, 2 to the east; a place twice; 5 to the west, 20 to the east, 5 to the west; the anchor on the
+/// last edge, and where two edges meet.
 const RUNS: &str = "\
 1000 20 1000; 500 500; MultiLineString [[[0,0],[10,5],[0,20]]] => 5,2
 1000 20 1000; 500 500; MultiLineString [[[10,5],[0,20],[10,40]]] => 5,12
@@ -167,12 +158,7 @@ const RUNS: &str = "\
 1000 20 1000; 500 500; MultiLineString [[[0,0],[1,5],[2,6],[10,10]]] => 5,7
 1000 20 1000; 500 500; MultiLineString [[[0,0],[5,7],[10,0]]] => 5,7";
 
-#[test]
-fn the_widest_run_counts_and_of_equal_ones_the_first(rt: HostRuntime) -> Result<(), Fail> {
-    each_has_its_place(&rt, rt.alloc(), RUNS)
-}
-
-/// The width of the text leaves no chain.
+/// Places and heights are rounded down. The width of the text leaves no chain.
 const ROUNDED: &str = "\
 1000 20 1000; 500000; MultiLineString [[[-3,0],[0,0]]] => -2,0
 1000 20 1000; 500000; MultiLineString [[[0,0],[3,-1]]] => 1,-1
@@ -180,12 +166,7 @@ const ROUNDED: &str = "\
 1000 20 1000; 500000; MultiLineString [[[3,-1],[0,0]]] => 1,-1
 1000 20 1000; 500000; MultiLineString [[[-2000000000,2000000000],[1999999999,-2000000000]]] => -1,0";
 
-#[test]
-fn places_and_heights_are_rounded_down(rt: HostRuntime) -> Result<(), Fail> {
-    each_has_its_place(&rt, rt.alloc(), ROUNDED)
-}
-
-/// Lines on which x nowhere rises or falls.
+/// Without a run the first position is the anchor: lines on which x nowhere rises or falls.
 const WITHOUT_RUN: &str = "\
 1000 20 1; 500 500; MultiLineString [[[7,-8]]] => 7,-8
 1000 20 1; 500 500; MultiLineString [[[7,8]],[[1,1]]] => 7,8
@@ -193,13 +174,9 @@ const WITHOUT_RUN: &str = "\
 1000 20 1; 500 500; MultiLineString [[[3,9],[3,1],[3,9]],[[4,4]]] => 3,9
 1000 20 1; 500 500; MultiLineString [[[2000000000,-2000000000],[2000000000,2000000000]]] => 2000000000,-2000000000";
 
-#[test]
-fn without_a_run_the_first_position_is_the_anchor(rt: HostRuntime) -> Result<(), Fail> {
-    each_has_its_place(&rt, rt.alloc(), WITHOUT_RUN)
-}
-
-/// Two clusters have their middles 5,000 from the anchor: at the run's ends, or beyond the western
-/// one. Narrower ones have them 4,500 from it, the one 1 before the eastern end.
+/// A chain needs its middles over the run. Two clusters have their middles 5,000 from the anchor: at the
+/// run's ends, or beyond the western one. Narrower ones have them 4,500 from it, the one 1 before the
+/// eastern end.
 const OVER_THE_RUN: &str = "\
 1000 20 1000; 500 250 500 500; MultiLineString [[[0,0],[5000,0]]] => 2500,0
 1000 20 1000; 500 500; MultiLineString [[[0,0],[10000,0]]] => 5000,0 -10,-10,0,10 0,-10,10,10
@@ -207,12 +184,8 @@ const OVER_THE_RUN: &str = "\
 1000 20 1000; 500; MultiLineString [[[0,0],[2,0]]] => 1,0 -5,-10,5,10
 1000 20 1000; 450 450; MultiLineString [[[0,0],[9001,0]]] => 4500,0 -9,-10,0,10 0,-10,9,10";
 
-#[test]
-fn a_chain_needs_its_middles_over_the_run(rt: HostRuntime) -> Result<(), Fail> {
-    each_has_its_place(&rt, rt.alloc(), OVER_THE_RUN)
-}
-
-/// 1,024 pixels and 1,025; then 5,000 to the east 502,000 up, and 503,000.
+/// A chain is no wider and no higher than its offsets allow: 1,024 pixels and 1,025; then 5,000 to the
+/// east 502,000 up, and 503,000.
 const OFFSETS: &str = "\
 1000 256 1000; 4000; MultiLineString [[[0,0],[10000000,0]]] => 5000000,0 -512,-128,512,128
 1000 256 1000; 4001; MultiLineString [[[0,0],[10000000,0]]] => 5000000,0
@@ -221,32 +194,17 @@ const OFFSETS: &str = "\
 1000 20 1000; 500 500; MultiLineString [[[0,1006000000],[10000000,0]]] => 5000000,503000000
 1000 20 1000; 4294967295 4294967295; MultiLineString [[[0,0],[10000000,0]]] => 5000000,0";
 
-#[test]
-fn a_chain_is_no_wider_and_no_higher_than_its_offsets_allow(rt: HostRuntime) -> Result<(), Fail> {
-    each_has_its_place(&rt, rt.alloc(), OFFSETS)
-}
-
-/// From corner to corner of the world.
+/// The longest river has a chain at the largest scale, from corner to corner of the world.
 const LONGEST: &str = "\
 1000 20 268435455; 500 500; MultiLineString [[[-2000000000,-2000000000],[2000000000,2000000000]]] => 0,0 -10,-15,0,5 0,-5,10,15";
 
-#[test]
-fn the_longest_river_has_a_chain_at_the_largest_scale(rt: HostRuntime) -> Result<(), Fail> {
-    each_has_its_place(&rt, rt.alloc(), LONGEST)
-}
-
-/// One cluster, 64 and 65.
+/// A chain has at most 64 clusters: one, 64 and 65.
 const CLUSTERS: &str = "\
 1 1 1; 1; MultiLineString [[[0,0],[1000000,0]]] => 500000,0 0,0,1,1
 1 1 1; 1 1 1 1 1 1 1 1 1 1 1 1 1 1 1 1 1 1 1 1 1 1 1 1 1 1 1 1 1 1 1 1 1 1 1 1 1 1 1 1 1 1 1 1 1 1 1 1 1 1 1 1 1 1 1 1 1 1 1 1 1 1 1 1; MultiLineString [[[0,0],[1000000,0]]] => 500000,0 64 boxes
 1 1 1; 1 1 1 1 1 1 1 1 1 1 1 1 1 1 1 1 1 1 1 1 1 1 1 1 1 1 1 1 1 1 1 1 1 1 1 1 1 1 1 1 1 1 1 1 1 1 1 1 1 1 1 1 1 1 1 1 1 1 1 1 1 1 1 1 1; MultiLineString [[[0,0],[1000000,0]]] => 500000,0";
 
-#[test]
-fn a_chain_has_at_most_64_clusters(rt: HostRuntime) -> Result<(), Fail> {
-    each_has_its_place(&rt, rt.alloc(), CLUSTERS)
-}
-
-/// A line, and shapes that are no lines.
+/// Only lines are rivers: a line, and shapes that are no lines.
 const KINDS: &str = "\
 1000 20 1000; 500 500; LineString [[0,0],[1000000,500000]] => 500000,250000 -10,-13,0,7 0,-8,10,12
 1000 20 1000; 500; Point [0,0] => none
@@ -255,6 +213,25 @@ const KINDS: &str = "\
 1000 20 1000; 500; MultiPolygon [[[[0,0],[4,0],[4,4],[0,0]]]] => none";
 
 #[test]
-fn only_lines_are_rivers(rt: HostRuntime) -> Result<(), Fail> {
-    each_has_its_place(&rt, rt.alloc(), KINDS)
+fn chains_follow_their_rivers(rt: HostRuntime) -> Result<(), Fail> {
+    for table in [FOLLOWING, CLIMBING, BOXES, LONGEST] {
+        each_holds::<OnRiver>(&rt, rt.alloc(), table)?;
+    }
+    Ok(())
+}
+
+#[test]
+fn the_widest_run_has_the_anchor(rt: HostRuntime) -> Result<(), Fail> {
+    for table in [RUNS, ROUNDED, WITHOUT_RUN] {
+        each_holds::<OnRiver>(&rt, rt.alloc(), table)?;
+    }
+    Ok(())
+}
+
+#[test]
+fn chains_have_limits(rt: HostRuntime) -> Result<(), Fail> {
+    for table in [OVER_THE_RUN, OFFSETS, CLUSTERS, KINDS] {
+        each_holds::<OnRiver>(&rt, rt.alloc(), table)?;
+    }
+    Ok(())
 }

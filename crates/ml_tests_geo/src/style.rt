@@ -4,9 +4,9 @@ ghost use Rattle.std.specs.Prelude.{IfOk};
 ghost use Rattle.ml_ratio.specs.Feature.{IsScalar};
 ghost use Rattle.ml_ratio.specs.Geometry.{IsSomeGeometry};
 
-use crate::cases::case;
+use crate::cases::{Subject, each_holds};
 use ml_ratio::{Feature, Geometry, Pos, Prop, Scalar, Seq, Text};
-use ml_style::{Class, Kind, SAMPLE, Style, StyleFault, class_of, read_style};
+use ml_style::{Class, Font, Kind, SAMPLE, Style, StyleFault, class_of, read_style};
 use std::alloc::Global;
 use std::test::Fail;
 
@@ -202,41 +202,44 @@ const IN_FLAGGED: &str = "river true => 1
 river false => none
 river yes => 0";
 
-/// A fault of this name, with what is told of it.
-fn fault_of(alloc: Global, name: &str, about: &str) -> Result<StyleFault, Fail> {
-    if name == "BadFont" {
-        return Ok(StyleFault::BadFont(Text::of(alloc, about)?));
-    }
-    match about.split_once(' ') {
-        Some((place, field)) => Ok(StyleFault::BadClass(
-            place.parse::<usize>()?,
-            Text::of(alloc, field)?,
-        )),
-        None => Ok(if name == "UnknownFont" {
-            StyleFault::UnknownFont(about.parse::<usize>()?)
-        } else {
-            StyleFault::EmptyRange(about.parse::<usize>()?)
-        }),
+/// Whether a word is this number.
+fn is_number(word: &str, number: usize) -> bool {
+    word.parse::<usize>().ok() == Some(number)
+}
+
+/// Whether the fault of this name, of which this is told, is written so.
+fn is_about(fault: &StyleFault, name: &str, about: &str) -> bool {
+    match fault {
+        StyleFault::BadFont(font) => name == "BadFont" && font.as_str() == about,
+        StyleFault::UnknownFont(class) => name == "UnknownFont" && is_number(about, *class),
+        StyleFault::EmptyRange(class) => name == "EmptyRange" && is_number(about, *class),
+        StyleFault::BadClass(class, field) => match about.split_once(' ') {
+            Some((place, text)) => {
+                name == "BadClass" && is_number(place, *class) && field.as_str() == text
+            }
+            None => false,
+        },
+        _ => false,
     }
 }
 
-/// The fault that is written, if one is.
-fn fault(alloc: Global, text: &str) -> Result<Option<StyleFault>, Fail> {
+/// Whether the fault is written so.
+fn is_fault(fault: &StyleFault, text: &str) -> bool {
     match text.split_once(' ') {
-        Some((name, about)) => Ok(Some(fault_of(alloc, name, about)?)),
-        None => Ok(match text {
-            "NotToml" => Some(StyleFault::NotToml),
-            "Version" => Some(StyleFault::Version),
-            _ => None,
-        }),
+        Some((name, about)) => is_about(fault, name, about),
+        None => match fault {
+            StyleFault::NotToml => text == "NotToml",
+            StyleFault::Version => text == "Version",
+            _ => false,
+        },
     }
 }
 
-/// Why the bytes are refused.
-fn refusal(alloc: Global, bytes: &[u8]) -> Option<StyleFault> {
+/// Whether the bytes are refused by the fault that is written, or none where it says `ok`.
+fn is_refused(alloc: Global, bytes: &[u8], want: &str) -> bool {
     match read_style(alloc, bytes) {
-        Ok(_style) => None,
-        Err(fault) => Some(fault),
+        Ok(_style) => want == "ok",
+        Err(fault) => is_fault(&fault, want),
     }
 }
 
@@ -249,17 +252,20 @@ fn push_lines(text: &mut String, lines: &str) -> Result<(), Fail> {
     Ok(())
 }
 
+/// Adds the usual line of a field, unless this field stands in its place.
+fn push_usual(text: &mut String, usual: &str, field: &str) -> Result<(), Fail> {
+    let (name, _value) = usual.split_once(" = ").ok_or("a field")?;
+    if field.starts_with(name) {
+        return Ok(());
+    }
+    push_lines(text, usual)
+}
+
 /// A style of this version with one class of lines, with this field in place of the usual one.
 fn with_field(alloc: Global, version: &str, field: &str) -> Result<String, Fail> {
-    let mut text = String::from_str(alloc, "version = ")?;
-    text.push_str(version)?;
-    text.push('\n')?;
-    text.push_str(FRONT)?;
+    let mut text = format!(in alloc; "version = {version}\n{FRONT}")?;
     for usual in FIELDS.lines() {
-        let (name, _) = usual.split_once(" = ").ok_or("a field")?;
-        if !field.starts_with(name) {
-            push_lines(&mut text, usual)?;
-        }
+        push_usual(&mut text, usual, field)?;
     }
     if field.contains('=') {
         push_lines(&mut text, field)?;
@@ -280,75 +286,80 @@ fn asks_for_a_city(class: &Class) -> bool {
     }
 }
 
+/// The sample.
+fn sample(alloc: Global) -> Result<Style, Fail> {
+    Ok(read_style(alloc, SAMPLE.as_bytes())?)
+}
+
+/// What [`CLASSES`] says of the class.
+fn row_of(class: &Class) -> (Kind, u32, u32, u64, bool) {
+    (
+        class.kind,
+        class.priority,
+        class.scale_ref,
+        class.max.num(),
+        asks_for_a_city(class),
+    )
+}
+
 #[test]
 fn the_sample_is_read(rt: HostRuntime) -> Result<(), Fail> {
-    let style = read_style(rt.alloc(), SAMPLE.as_bytes())?;
-    assert_eq!(rt; style.classes().len(), 4);
-    for (class, wanted) in style.classes().as_slice().iter().zip(CLASSES) {
-        let found = (
-            class.kind,
-            class.priority,
-            class.scale_ref,
-            class.max.num(),
-            asks_for_a_city(class),
-        );
-        assert_eq!(rt; found, wanted);
+    let style = sample(rt.alloc())?;
+    assert!(rt; style.classes().len() == CLASSES.len());
+    for (class, want) in style.classes().as_slice().iter().zip(CLASSES) {
+        assert!(rt; row_of(class) == want);
     }
     Ok(())
 }
 
+/// Whether the class has the size, the font, the margin, the offset and the end of its range that all
+/// classes of the sample have.
+fn looks_usual(class: &Class) -> bool {
+    let is_set = class.size == 20 && class.margin == 0 && class.font.as_str() == "sans";
+    let is_there = class.dx == 0 && class.dy == 0;
+    is_set && is_there && class.min.num() == 0 && class.max.den() == 1
+}
+
 #[test]
 fn all_classes_of_the_sample_look_alike(rt: HostRuntime) -> Result<(), Fail> {
-    let style = read_style(rt.alloc(), SAMPLE.as_bytes())?;
+    let style = sample(rt.alloc())?;
     for class in style.classes().as_slice() {
-        assert_eq!(rt;
-            (class.size, class.margin, class.font.as_str()),
-            (20, 0, "sans")
-        );
-        assert_eq!(rt;
-            (class.dx, class.dy, class.min.num(), class.max.den()),
-            (0, 0, 0, 1)
-        );
+        assert!(rt; looks_usual(class));
     }
     Ok(())
 }
 
 #[test]
 fn the_sample_names_its_keys(rt: HostRuntime) -> Result<(), Fail> {
-    let style = read_style(rt.alloc(), SAMPLE.as_bytes())?;
-    assert_eq!(rt; style.name_key().as_str(), "name");
-    assert_eq!(rt; style.rank_key().as_str(), "pop");
+    let style = sample(rt.alloc())?;
+    assert!(rt; style.name_key().as_str() == "name" && style.rank_key().as_str() == "pop");
     Ok(())
+}
+
+/// Whether the font has its own advances.
+fn has_advances(font: &Font) -> bool {
+    font.advance('i') == 250 && font.advance('\u{301}') == 0 && font.advance('j') == 500
 }
 
 #[test]
 fn the_font_of_the_sample_has_advances(rt: HostRuntime) -> Result<(), Fail> {
-    let style = read_style(rt.alloc(), SAMPLE.as_bytes())?;
+    let style = sample(rt.alloc())?;
     let classes = style.classes().as_slice();
-    assert_eq!(rt; classes.len(), 4);
+    assert!(rt; classes.len() == 4);
     let font = style.font(&classes[3]);
-    assert_eq!(rt;
-        (font.units, font.fallback, font.advances.len()),
-        (1000, 500, 2)
-    );
-    for (ch, width) in [('i', 250), ('\u{301}', 0), ('j', 500)] {
-        assert_eq!(rt; font.advance(ch), width);
-    }
+    assert!(rt; font.units == 1000 && font.fallback == 500 && font.advances.len() == 2);
+    assert!(rt; has_advances(font));
     Ok(())
 }
 
-#[test]
-fn each_field_may_be_wrong(rt: HostRuntime) -> Result<(), Fail> {
-    for line in LOOKS.lines() {
-        let (field, want) = case(line)?;
-        let text = with_field(rt.alloc(), "2", field)?;
-        assert_eq!(rt;
-            refusal(rt.alloc(), text.as_bytes()),
-            fault(rt.alloc(), want)?,
-            "{line}"
-        );
+/// The faults of fields.
+struct OfField;
+
+impl Subject for OfField {
+    fn holds(alloc: Global, input: &str, want: &str) -> Result<bool, Fail> {
+        let text = with_field(alloc, "2", input)?;
+        Ok(is_refused(alloc, text.as_bytes(), want))
     }
-    Ok(())
 }
 
 /// The margin of the first class.
@@ -359,51 +370,58 @@ fn margin_of(style: &Style) -> Option<u32> {
     }
 }
 
-#[test]
-fn version_1_passes_margins_over(rt: HostRuntime) -> Result<(), Fail> {
-    for line in MARGINS.lines() {
-        let (given, want) = case(line)?;
-        let (version, field) = given.split_once(' ').ok_or("a version")?;
-        let text = with_field(rt.alloc(), version, field)?;
-        let style = read_style(rt.alloc(), text.as_bytes())?;
-        assert_eq!(rt; margin_of(&style), want.parse::<u32>().ok(), "{line}");
+/// The margin of the first class of the style that is written.
+fn margin_in(alloc: Global, text: &str) -> Result<Option<u32>, Fail> {
+    let style = read_style(alloc, text.as_bytes())?;
+    Ok(margin_of(&style))
+}
+
+/// The margins of versions.
+struct OfVersion;
+
+impl Subject for OfVersion {
+    fn holds(alloc: Global, input: &str, want: &str) -> Result<bool, Fail> {
+        let (version, field) = input.split_once(' ').ok_or("a version")?;
+        let text = with_field(alloc, version, field)?;
+        Ok(margin_in(alloc, text.as_str())? == want.parse::<u32>().ok())
     }
-    Ok(())
+}
+
+/// The faults of styles.
+struct OfStyle;
+
+impl Subject for OfStyle {
+    fn holds(alloc: Global, input: &str, want: &str) -> Result<bool, Fail> {
+        let mut text = String::new(alloc);
+        push_lines(&mut text, input)?;
+        Ok(is_refused(alloc, text.as_bytes(), want))
+    }
+}
+
+/// The faults of two classes.
+struct OfTwo;
+
+impl Subject for OfTwo {
+    fn holds(alloc: Global, input: &str, want: &str) -> Result<bool, Fail> {
+        let (field, second) = input.split_once(" & ").ok_or("a second class")?;
+        let mut text = with_field(alloc, "1", field)?;
+        push_lines(&mut text, second)?;
+        Ok(is_refused(alloc, text.as_bytes(), want))
+    }
+}
+
+#[test]
+fn each_field_may_be_wrong(rt: HostRuntime) -> Result<(), Fail> {
+    let alloc = rt.alloc();
+    each_holds::<OfField>(&rt, alloc, LOOKS)?;
+    each_holds::<OfVersion>(&rt, alloc, MARGINS)?;
+    each_holds::<OfTwo>(&rt, alloc, SECOND)
 }
 
 #[test]
 fn styles_may_be_wrong(rt: HostRuntime) -> Result<(), Fail> {
-    for line in STYLES.lines() {
-        let (lines, want) = case(line)?;
-        let mut text = String::new(rt.alloc());
-        push_lines(&mut text, lines)?;
-        assert_eq!(rt;
-            refusal(rt.alloc(), text.as_bytes()),
-            fault(rt.alloc(), want)?,
-            "{line}"
-        );
-    }
-    assert_eq!(rt;
-        refusal(rt.alloc(), b"version = 1 # \xff"),
-        Some(StyleFault::NotToml)
-    );
-    Ok(())
-}
-
-#[test]
-fn classes_are_judged_in_order(rt: HostRuntime) -> Result<(), Fail> {
-    for line in SECOND.lines() {
-        let (given, want) = case(line)?;
-        let (field, second) = given.split_once(" & ").ok_or("a second class")?;
-        let mut text = with_field(rt.alloc(), "1", field)?;
-        push_lines(&mut text, second)?;
-        assert_eq!(rt;
-            refusal(rt.alloc(), text.as_bytes()),
-            fault(rt.alloc(), want)?,
-            "{line}"
-        );
-    }
-    Ok(())
+    assert!(rt; is_refused(rt.alloc(), b"version = 1 # \xff", "NotToml"));
+    each_holds::<OfStyle>(&rt, rt.alloc(), STYLES)
 }
 
 /// The value that a word writes: null, a flag or a text.
@@ -441,51 +459,60 @@ fn point_of(alloc: Global, text: &str) -> Result<Feature, Fail> {
     point_with(alloc, key, value)
 }
 
-/// The class that a style gives the feature at one point with this property.
-fn class_in(alloc: Global, style: &Style, prop: &str) -> Result<Option<usize>, Fail> {
+/// The class that the style gives the feature.
+fn class_in(alloc: Global, style: &str, feature: &Feature) -> Result<Option<usize>, Fail> {
+    let style = read_style(alloc, style.as_bytes())?;
+    Ok(class_of(&style, feature))
+}
+
+/// Whether the style gives the feature at one point with this property the class of this number.
+fn has_class(alloc: Global, style: &str, prop: &str, want: &str) -> Result<bool, Fail> {
     let feature = point_of(alloc, prop)?;
-    Ok(class_of(style, &feature))
+    Ok(class_in(alloc, style, &feature)? == want.parse::<usize>().ok())
+}
+
+/// Classes in the sample.
+struct InSample;
+
+impl Subject for InSample {
+    fn holds(alloc: Global, input: &str, want: &str) -> Result<bool, Fail> {
+        has_class(alloc, SAMPLE, input, want)
+    }
+}
+
+/// Classes where flags are asked for.
+struct InFlagged;
+
+impl Subject for InFlagged {
+    fn holds(alloc: Global, input: &str, want: &str) -> Result<bool, Fail> {
+        has_class(alloc, FLAGGED, input, want)
+    }
 }
 
 #[test]
 fn points_have_the_first_class_that_applies(rt: HostRuntime) -> Result<(), Fail> {
-    let style = read_style(rt.alloc(), SAMPLE.as_bytes())?;
-    for line in IN_SAMPLE.lines() {
-        let (prop, want) = case(line)?;
-        assert_eq!(rt;
-            class_in(rt.alloc(), &style, prop)?,
-            want.parse::<usize>().ok(),
-            "{line}"
-        );
-    }
-    Ok(())
+    let alloc = rt.alloc();
+    each_holds::<InSample>(&rt, alloc, IN_SAMPLE)?;
+    each_holds::<InFlagged>(&rt, alloc, IN_FLAGGED)
 }
 
-#[test]
-fn flags_have_texts(rt: HostRuntime) -> Result<(), Fail> {
-    let style = read_style(rt.alloc(), FLAGGED.as_bytes())?;
-    for line in IN_FLAGGED.lines() {
-        let (prop, want) = case(line)?;
-        assert_eq!(rt;
-            class_in(rt.alloc(), &style, prop)?,
-            want.parse::<usize>().ok(),
-            "{line}"
-        );
-    }
-    Ok(())
+/// A feature of this shape without properties.
+fn bare(alloc: Global, geometry: Option<Geometry>) -> Result<Feature, Fail>
+    requires { IsSomeGeometry geometry }
+{
+    Ok(Feature {
+        id: Text::of(alloc, "f")?,
+        geometry,
+        props: Seq::new(alloc),
+    })
 }
 
 /// The class that the sample gives a feature of this shape without properties.
 fn class_for(alloc: Global, geometry: Option<Geometry>) -> Result<Option<usize>, Fail>
     requires { IsSomeGeometry geometry }
 {
-    let style = read_style(alloc, SAMPLE.as_bytes())?;
-    let feature = Feature {
-        id: Text::of(alloc, "f")?,
-        geometry,
-        props: Seq::new(alloc),
-    };
-    Ok(class_of(&style, &feature))
+    let feature = bare(alloc, geometry)?;
+    class_in(alloc, SAMPLE, &feature)
 }
 
 #[test]

@@ -1,7 +1,7 @@
 //! Texts of labels, widths and clusters.
 ghost use Rattle.std.specs.Prelude.{◌≤◌, IfOk};
 
-use crate::cases::{case, count, lines_of};
+use crate::cases::{Subject, count, each_holds, lines_of};
 use ml_ratio::Text;
 use ml_style::{Font, read_style};
 use ml_text::{clusters, label_text, width};
@@ -91,14 +91,15 @@ fn measure_told(alloc: Global, input: &str) -> Result<String, Fail> {
     Ok(format!(in alloc; "{width} {told}")?)
 }
 
-#[test]
-fn texts_are_as_wide_as_their_characters(rt: HostRuntime) -> Result<(), Fail> {
-    for line in MEASURES.lines() {
-        let line = lines_of(rt.alloc(), line)?;
-        let (input, want) = case(&line)?;
-        assert_eq!(rt; measure_told(rt.alloc(), input)?.as_str(), want, "{line}");
+/// The measures of texts. In a case ` / ` stands for a line feed.
+struct Measured;
+
+impl Subject for Measured {
+    fn holds(alloc: Global, input: &str, want: &str) -> Result<bool, Fail> {
+        let input = lines_of(alloc, input)?;
+        let want = lines_of(alloc, want)?;
+        Ok(measure_told(alloc, &input)?.as_str() == want.as_str())
     }
-    Ok(())
 }
 
 /// Names, and the text of their labels.
@@ -111,13 +112,20 @@ a\0b => a b
 a\r / b => a  b
 \u{1fffe} => \u{1fffe}";
 
-#[test]
-fn what_cannot_be_shown_is_a_space(rt: HostRuntime) -> Result<(), Fail> {
-    for line in NAMES.lines() {
-        let line = lines_of(rt.alloc(), line)?;
-        let (name, want) = case(&line)?;
-        let text = label_text(rt.alloc(), &Text::of(rt.alloc(), name)?)?;
-        assert_eq!(rt; text.as_str(), want, "{line}");
+/// The texts of labels. In a case ` / ` stands for a line feed.
+struct Shown;
+
+impl Subject for Shown {
+    fn holds(alloc: Global, input: &str, want: &str) -> Result<bool, Fail> {
+        let name = lines_of(alloc, input)?;
+        let name = Text::of(alloc, &name)?;
+        Ok(label_text(alloc, &name)?.as_str() == want)
     }
-    Ok(())
+}
+
+#[test]
+fn texts_have_widths_and_labels(rt: HostRuntime) -> Result<(), Fail> {
+    let alloc = rt.alloc();
+    each_holds::<Measured>(&rt, alloc, MEASURES)?;
+    each_holds::<Shown>(&rt, alloc, NAMES)
 }

@@ -2,6 +2,7 @@
 //! CR LF.
 ghost use Rattle.std.specs.Prelude.{◌≡◌, ◌<◌, []};
 
+use crate::cases::{Subject, each_holds};
 use ml_editor::Editor;
 use ml_geojson::read_collection;
 use ml_http::{ConnEnd, MEMORY_REPLY, serve_link};
@@ -87,7 +88,7 @@ const THREE_POINTS: &str = r#"{"type":"FeatureCollection","features":[
 /// how often a tile was held that was asked for, or was not kept for want of memory.
 #[derive(Drop)]
 struct Exchange {
-    bytes: Vec<u8>,
+    sink: MemSink,
     end: ConnEnd,
     rev: u64,
     heard: Option<u64>,
@@ -96,15 +97,13 @@ struct Exchange {
 }
 
 /// The text with each `~` as CR LF.
-fn wire(alloc: Global, text: &str) -> Result<Vec<u8>, AllocError> {
-    let mut bytes = Vec::new(alloc);
-    for byte in text.as_bytes() {
-        match byte {
-            b'~' => bytes.extend_from_slice(b"\r\n")?,
-            _ => bytes.push(*byte)?,
-        }
-    }
-    Ok(bytes)
+fn wire(alloc: Global, text: &str) -> Result<String, AllocError> {
+    text.replace(alloc, "~", "\r\n")
+}
+
+/// Whether the bytes are the text with each `~` as CR LF.
+fn is_wire(alloc: Global, bytes: &[u8], text: &str) -> Result<bool, Fail> {
+    Ok(bytes == wire(alloc, text)?.as_bytes())
 }
 
 fn editor_of(alloc: Global, map: &str) -> Result<Editor, Fail> {
@@ -131,24 +130,22 @@ fn serve_counted<L: Ledger>(
     serve_link(alloc, editor, source, sink, crowd, tiles, &mut steps)
 }
 
-/// Serves one connection over this map, in pieces of at most `cut` bytes, with one watcher. The calls of
-/// the source and of the sink that are listed fail.
-fn served(
-    alloc: Global,
-    map: &str,
-    input: &[u8],
-    cut: usize,
-    fails_in: Vec<u64>,
-    fails_out: Vec<u64>,
-) -> Result<Exchange, Fail>
-    requires { 0 < cut }
-{
-    let mut editor = editor_of(alloc, map)?;
-    let mut source = MemSource::new(Vec::from_slice(alloc, input)?, cut, fails_in);
-    let mut sink = MemSink::new(alloc, 400000, fails_out)?;
+/// One watcher, who does not fail.
+fn one_watcher(alloc: Global) -> Result<Crowd<MemWatcher>, AllocError> {
     let mut watchers = Vec::new(alloc);
     watchers.push(MemWatcher::new(alloc, 100, Vec::new(alloc))?)?;
-    let mut crowd = Crowd::new(watchers);
+    Ok(Crowd::new(watchers))
+}
+
+/// Serves one connection over this map, with one watcher.
+fn served_by(
+    alloc: Global,
+    map: &str,
+    mut source: MemSource,
+    mut sink: MemSink,
+) -> Result<Exchange, Fail> {
+    let mut editor = editor_of(alloc, map)?;
+    let mut crowd = one_watcher(alloc)?;
     let mut tiles = Tiles::new(alloc)?;
     let end = serve_counted::<Brand>(
         Blank::new(1),
@@ -160,7 +157,7 @@ fn served(
         &mut tiles,
     );
     Ok(Exchange {
-        bytes: Vec::from_slice(alloc, sink.bytes())?,
+        sink,
         end,
         rev: editor.rev(),
         heard: crowd.heard(0),
@@ -169,21 +166,28 @@ fn served(
     })
 }
 
-/// Whether each line `requests => replies` of the table holds over this map.
-fn holds(rt: &HostRuntime, map: &str, table: &str) -> Result<bool, Fail> {
-    let alloc = rt.alloc();
-    for line in table.lines() {
-        let Some((input, want)) = line.split_once(" => ") else {
-            continue;
-        };
-        let input = wire(alloc, input)?;
-        let want = wire(alloc, want)?;
-        let got = served(alloc, map, &input, 7, Vec::new(alloc), Vec::new(alloc))?;
-        if got.bytes.as_slice() != want.as_slice() {
-            return Ok(false);
-        }
-    }
-    Ok(true)
+/// Serves one connection over this map, in pieces of at most `cut` bytes.
+fn served(alloc: Global, map: &str, input: &[u8], cut: usize) -> Result<Exchange, Fail>
+    requires { 0 < cut }
+{
+    let source = MemSource::new(Vec::from_slice(alloc, input)?, cut, Vec::new(alloc));
+    let sink = MemSink::new(alloc, 400000, Vec::new(alloc))?;
+    served_by(alloc, map, source, sink)
+}
+
+/// Whether requests over this map, in pieces of at most `cut` bytes, get these replies.
+fn is_answered(
+    alloc: Global,
+    map: &str,
+    requests: &str,
+    replies: &str,
+    cut: usize,
+) -> Result<bool, Fail>
+    requires { 0 < cut }
+{
+    let requests = wire(alloc, requests)?;
+    let got = served(alloc, map, requests.as_bytes(), cut)?;
+    is_wire(alloc, got.sink.bytes(), replies)
 }
 
 /// An edit, a view, a removal, the view again.
@@ -193,90 +197,96 @@ const EDITS: &str =
 const EDITS_REPLIES: &str =
     r#"HTTP/1.1 200 OK~Content-Type: application/json~Content-Length: 71~~{"changes":[{"after":["0/1","1000/1"],"before":null,"id":"A"}],"rev":1}HTTP/1.1 200 OK~Content-Type: application/json~Content-Length: 103~~{"labels":[{"at":[0,0],"boxes":[[-10,-10,10,10]],"id":"A","text":"ab","until":"1000/1"}],"scale":"1/1"}HTTP/1.1 200 OK~Content-Type: application/json~Content-Length: 71~~{"changes":[{"after":null,"before":["0/1","1000/1"],"id":"A"}],"rev":2}HTTP/1.1 200 OK~Content-Type: application/json~Content-Length: 27~~{"labels":[],"scale":"1/1"}"#;
 
+/// Whether the edits were served whole.
+fn is_whole(got: &Exchange) -> bool {
+    got.end == ConnEnd::Closed && got.rev == 2 && got.heard == Some(2)
+}
+
+/// Whether the edits are answered in pieces of at most `cut` bytes.
+fn edits_are_answered(alloc: Global, cut: usize) -> Result<bool, Fail>
+    requires { 0 < cut }
+{
+    let requests = wire(alloc, EDITS)?;
+    let got = served(alloc, NO_FEATURES, requests.as_bytes(), cut)?;
+    Ok(is_whole(&got) && is_wire(alloc, got.sink.bytes(), EDITS_REPLIES)?)
+}
+
 #[test]
 fn edits_and_views_are_answered_in_any_pieces(rt: HostRuntime) -> Result<(), Fail> {
+    let requests = wire(rt.alloc(), EDITS)?;
+    for cut in 1..requests.len() + 1 {
+        assert!(rt; edits_are_answered(rt.alloc(), cut)?, "{cut}");
+    }
+    Ok(())
+}
+
+/// Whether the edits end so, with a first part of their replies, where the calls of the source and of
+/// the sink that are listed fail.
+fn edits_end(
+    alloc: Global,
+    fails_in: Vec<u64>,
+    fails_out: Vec<u64>,
+    end: ConnEnd,
+) -> Result<bool, Fail> {
+    let source = MemSource::new(wire(alloc, EDITS)?.into_bytes(), 7, fails_in);
+    let sink = MemSink::new(alloc, 400000, fails_out)?;
+    let got = served_by(alloc, NO_FEATURES, source, sink)?;
+    let replies = wire(alloc, EDITS_REPLIES)?;
+    Ok(got.end == end && replies.as_bytes().starts_with(got.sink.bytes()))
+}
+
+#[test]
+fn a_failing_source_leaves_a_first_part(rt: HostRuntime) -> Result<(), Fail> {
     let alloc = rt.alloc();
-    let input = wire(alloc, EDITS)?;
-    let want = wire(alloc, EDITS_REPLIES)?;
-    for cut in 1..input.len() + 1 {
-        let got = served(
-            alloc,
-            NO_FEATURES,
-            &input,
-            cut,
-            Vec::new(alloc),
-            Vec::new(alloc),
-        )?;
-        assert!(rt; got.bytes.as_slice() == want.as_slice());
-        assert!(rt; got.end == ConnEnd::Closed && got.rev == 2);
-        assert_eq!(rt; got.heard, Some(2));
+    for call in 0..12u64 {
+        let fails = vec![in alloc; call]?;
+        assert!(rt;
+            edits_end(alloc, fails, Vec::new(alloc), ConnEnd::ReadFault)?,
+            "{call}"
+        );
     }
     Ok(())
 }
 
 #[test]
-fn failing_devices_leave_a_first_part(rt: HostRuntime) -> Result<(), Fail> {
+fn a_failing_sink_leaves_a_first_part(rt: HostRuntime) -> Result<(), Fail> {
     let alloc = rt.alloc();
-    let input = wire(alloc, EDITS)?;
-    let want = wire(alloc, EDITS_REPLIES)?;
-    for call in 0..12u64 {
-        let got = served(
-            alloc,
-            NO_FEATURES,
-            &input,
-            7,
-            vec![in alloc; call]?,
-            Vec::new(alloc),
-        )?;
-        assert!(rt; got.end == ConnEnd::ReadFault);
-        assert!(rt; want.as_slice().starts_with(got.bytes.as_slice()));
-    }
     for call in 0..4u64 {
-        let got = served(
-            alloc,
-            NO_FEATURES,
-            &input,
-            7,
-            Vec::new(alloc),
-            vec![in alloc; call]?,
-        )?;
-        assert!(rt; got.end == ConnEnd::WriteFault);
-        assert!(rt; want.as_slice().starts_with(got.bytes.as_slice()));
+        let fails = vec![in alloc; call]?;
+        assert!(rt;
+            edits_end(alloc, Vec::new(alloc), fails, ConnEnd::WriteFault)?,
+            "{call}"
+        );
     }
     Ok(())
+}
+
+/// A reply to which a further request may follow.
+const OPEN: &str =
+    r#"HTTP/1.1 200 OK~Content-Type: application/json~Content-Length: 33~~{"features":0,"labels":0,"rev":0}"#;
+
+/// The reply to the last request.
+const LAST: &str =
+    r#"HTTP/1.1 200 OK~Content-Type: application/json~Content-Length: 33~Connection: close~~{"features":0,"labels":0,"rev":0}"#;
+
+/// The replies to 999 requests and to a last one.
+fn last_replies(alloc: Global) -> Result<String, AllocError> {
+    let mut replies = OPEN.repeat(alloc, 999)?;
+    replies.push_str(LAST)?;
+    Ok(replies)
+}
+
+/// Whether a connection of 1,001 requests is shut behind the reply to the 1,000th.
+fn the_last_is_answered(alloc: Global) -> Result<bool, Fail> {
+    let requests = "GET /rev HTTP/1.1\r\nHost: a\r\n\r\n".repeat(alloc, 1001)?;
+    let got = served(alloc, NO_FEATURES, requests.as_bytes(), 9999)?;
+    let replies = last_replies(alloc)?;
+    Ok(got.end == ConnEnd::Shut && is_wire(alloc, got.sink.bytes(), replies.as_str())?)
 }
 
 #[test]
 fn the_last_request_of_a_connection_closes(rt: HostRuntime) -> Result<(), Fail> {
-    let alloc = rt.alloc();
-    let one = wire(alloc, "GET /rev HTTP/1.1~Host: a~~")?;
-    let mut input = Vec::new(alloc);
-    for _request in 0..1001 {
-        input.extend_from_slice(&one)?;
-    }
-    let got = served(
-        alloc,
-        NO_FEATURES,
-        &input,
-        9999,
-        Vec::new(alloc),
-        Vec::new(alloc),
-    )?;
-    let open = wire(
-        alloc,
-        r#"HTTP/1.1 200 OK~Content-Type: application/json~Content-Length: 33~~{"features":0,"labels":0,"rev":0}"#,
-    )?;
-    let last = wire(
-        alloc,
-        r#"HTTP/1.1 200 OK~Content-Type: application/json~Content-Length: 33~Connection: close~~{"features":0,"labels":0,"rev":0}"#,
-    )?;
-    let mut want = Vec::new(alloc);
-    for _request in 0..999 {
-        want.extend_from_slice(&open)?;
-    }
-    want.extend_from_slice(&last)?;
-    assert!(rt; got.end == ConnEnd::Shut);
-    assert!(rt; got.bytes.as_slice() == want.as_slice());
+    assert!(rt; the_last_is_answered(rt.alloc())?);
     Ok(())
 }
 
@@ -313,10 +323,18 @@ GET /rev HTTP/1.1~Host: a~CONNECTION: x, Close ~~GET /rev HTTP/1.1~Host: a~~ => 
 GET /map HTTP/1.1~Host: a~~ => HTTP/1.1 200 OK~Content-Type: application/geo+json~Content-Length: 42~~{"type":"FeatureCollection","features":[]}
 POST /feature HTTP/1.1~Host: a~Content-Length: 5~~1234 => "#;
 
+/// Requests over a map without features, and their replies.
+struct OverNothing;
+
+impl Subject for OverNothing {
+    fn holds(alloc: Global, input: &str, want: &str) -> Result<bool, Fail> {
+        is_answered(alloc, NO_FEATURES, input, want, 7)
+    }
+}
+
 #[test]
 fn what_there_is_not_is_refused(rt: HostRuntime) -> Result<(), Fail> {
-    assert!(rt; holds(&rt, NO_FEATURES, REFUSALS)?);
-    Ok(())
+    each_holds::<OverNothing>(&rt, rt.alloc(), REFUSALS)
 }
 
 /// Bodies that are no features, and what they are answered; `-` stands for an empty body.
@@ -328,123 +346,103 @@ const BODIES: &str = r#"- => {"at":0,"error":"NotJson"}
 {"type":"Feature","id":"A","geometry":{"type":"Point","coordinates":[201,0]}} => {"error":"OutOfRange"}
 {"type":"Feature","id":"A","geometry":{"type":"Polygon","coordinates":[[[0,0],[1,0]]]}} => {"error":"ShortRing"}"#;
 
-#[test]
-fn bodies_that_are_no_features_are_refused(rt: HostRuntime) -> Result<(), Fail> {
-    let alloc = rt.alloc();
-    for line in BODIES.lines() {
-        let (body, want) = line.split_once(" => ").ok_or("no case")?;
-        let body = if body == "-" { "" } else { body };
-        let size = body.len();
-        let input = format!(in alloc;
-            "POST /feature HTTP/1.1~Host: a~Content-Length: {size}~~{body}"
-        )?;
-        let input = wire(alloc, input.as_str())?;
-        let length = want.len();
-        let reply = format!(in alloc;
-            "HTTP/1.1 422 Unprocessable Content~Content-Type: application/json~Content-Length: {length}~~{want}"
-        )?;
-        let reply = wire(alloc, reply.as_str())?;
-        let got = served(
-            alloc,
-            NO_FEATURES,
-            &input,
-            7,
-            Vec::new(alloc),
-            Vec::new(alloc),
-        )?;
-        assert!(rt; got.bytes.as_slice() == reply.as_slice());
-    }
-    Ok(())
+/// The request to put in the feature of this body.
+fn request_with(alloc: Global, body: &str) -> Result<String, Fail> {
+    let size = body.len();
+    Ok(format!(in alloc; "POST /feature HTTP/1.1~Host: a~Content-Length: {size}~~{body}")?)
 }
 
-// The replies to a connection over a map without features, in one piece.
-fn replies_to(alloc: Global, input: &[u8]) -> Result<Vec<u8>, Fail> {
-    let got = served(
-        alloc,
-        NO_FEATURES,
-        input,
-        9999,
-        Vec::new(alloc),
-        Vec::new(alloc),
-    )?;
-    Ok(got.bytes)
+/// The reply of this body that refuses a feature.
+fn refusal_with(alloc: Global, body: &str) -> Result<String, Fail> {
+    let size = body.len();
+    Ok(format!(in alloc;
+        "HTTP/1.1 422 Unprocessable Content~Content-Type: application/json~Content-Length: {size}~~{body}"
+    )?)
 }
+
+/// Bodies, and those of the replies that refuse them.
+struct OfBody;
+
+impl Subject for OfBody {
+    fn holds(alloc: Global, input: &str, want: &str) -> Result<bool, Fail> {
+        let body = if input == "-" { "" } else { input };
+        let request = request_with(alloc, body)?;
+        let reply = refusal_with(alloc, want)?;
+        is_answered(alloc, NO_FEATURES, request.as_str(), reply.as_str(), 7)
+    }
+}
+
+#[test]
+fn bodies_that_are_no_features_are_refused(rt: HostRuntime) -> Result<(), Fail> {
+    each_holds::<OfBody>(&rt, rt.alloc(), BODIES)
+}
+
+/// Whether bytes over a map without features, in one piece, get these replies.
+fn is_replied(alloc: Global, input: &[u8], replies: &str) -> Result<bool, Fail> {
+    let got = served(alloc, NO_FEATURES, input, 9999)?;
+    is_wire(alloc, got.sink.bytes(), replies)
+}
+
+/// The reply to a body of one byte that is no text.
+const NO_TEXT: &str =
+    r#"HTTP/1.1 422 Unprocessable Content~Content-Type: application/json~Content-Length: 26~~{"at":0,"error":"NotJson"}"#;
 
 #[test]
 fn a_body_that_is_no_text_is_refused(rt: HostRuntime) -> Result<(), Fail> {
-    let alloc = rt.alloc();
-    let mut input = wire(alloc, "POST /feature HTTP/1.1~Host: a~Content-Length: 1~~")?;
-    input.push(0xFF)?;
-    let want = wire(
-        alloc,
-        r#"HTTP/1.1 422 Unprocessable Content~Content-Type: application/json~Content-Length: 26~~{"at":0,"error":"NotJson"}"#,
-    )?;
-    let got = replies_to(alloc, &input)?;
-    assert!(rt; got.as_slice() == want.as_slice());
+    let input = b"POST /feature HTTP/1.1\r\nHost: a\r\nContent-Length: 1\r\n\r\n\xff";
+    assert!(rt; is_replied(rt.alloc(), input, NO_TEXT)?);
     Ok(())
+}
+
+/// The reply to a head of 65 fields.
+const NO_REQUEST: &str =
+    r#"HTTP/1.1 400 Bad Request~Content-Type: application/json~Content-Length: 19~Connection: close~~{"error":"request"}"#;
+
+/// A head of so many fields and a host.
+fn head_of(alloc: Global, count: usize) -> Result<String, Fail> {
+    let fields = "x: y\r\n".repeat(alloc, count)?;
+    Ok(format!(in alloc; "GET /rev HTTP/1.1\r\nHost: a\r\n{fields}\r\n")?)
 }
 
 #[test]
 fn a_head_of_65_fields_is_refused(rt: HostRuntime) -> Result<(), Fail> {
-    let alloc = rt.alloc();
-    let mut input = wire(alloc, "GET /rev HTTP/1.1~Host: a~")?;
-    for _field in 0..64 {
-        input.extend_from_slice(b"x: y\r\n")?;
-    }
-    input.extend_from_slice(b"\r\n")?;
-    let want = wire(
-        alloc,
-        r#"HTTP/1.1 400 Bad Request~Content-Type: application/json~Content-Length: 19~Connection: close~~{"error":"request"}"#,
-    )?;
-    let got = replies_to(alloc, &input)?;
-    assert!(rt; got.as_slice() == want.as_slice());
+    let input = head_of(rt.alloc(), 64)?;
+    assert!(rt; is_replied(rt.alloc(), input.as_bytes(), NO_REQUEST)?);
     Ok(())
 }
 
 #[test]
 fn lines_that_end_with_a_line_feed_alone_are_no_head(rt: HostRuntime) -> Result<(), Fail> {
-    let got = replies_to(rt.alloc(), b"GET /rev HTTP/1.1\nHost: a\n\n")?;
-    assert!(rt; got.is_empty());
+    let input = b"GET /rev HTTP/1.1\nHost: a\n\n";
+    assert!(rt; is_replied(rt.alloc(), input, "")?);
     Ok(())
 }
+
+/// Whether a connection of so many letters is closed with this reply.
+fn letters_get(alloc: Global, count: usize, reply: &str) -> Result<bool, Fail> {
+    let letters = "a".repeat(alloc, count)?;
+    let got = served(alloc, NO_FEATURES, letters.as_bytes(), 100)?;
+    Ok(got.end == ConnEnd::Closed && is_wire(alloc, got.sink.bytes(), reply)?)
+}
+
+/// The reply to a head that is too long.
+const LONG_HEAD: &str =
+    r#"HTTP/1.1 431 Request Header Fields Too Large~Content-Type: application/json~Content-Length: 16~Connection: close~~{"error":"head"}"#;
 
 #[test]
 fn a_head_has_a_limit(rt: HostRuntime) -> Result<(), Fail> {
-    let alloc = rt.alloc();
-    let long = vec![in alloc; b'a'; 16384]?;
-    let want = wire(
-        alloc,
-        r#"HTTP/1.1 431 Request Header Fields Too Large~Content-Type: application/json~Content-Length: 16~Connection: close~~{"error":"head"}"#,
-    )?;
-    let got = served(
-        alloc,
-        NO_FEATURES,
-        &long,
-        100,
-        Vec::new(alloc),
-        Vec::new(alloc),
-    )?;
-    assert!(rt; got.bytes.as_slice() == want.as_slice() && got.end == ConnEnd::Closed);
-    let (short, _) = long.split_at(16383);
-    let got = served(
-        alloc,
-        NO_FEATURES,
-        short,
-        100,
-        Vec::new(alloc),
-        Vec::new(alloc),
-    )?;
-    assert!(rt; got.bytes.is_empty() && got.end == ConnEnd::Closed);
+    assert!(rt; letters_get(rt.alloc(), 16384, LONG_HEAD)?);
+    assert!(rt; letters_get(rt.alloc(), 16383, "")?);
     Ok(())
 }
 
+/// The reply where memory is wanting.
+const NO_MEMORY: &str =
+    r#"HTTP/1.1 503 Service Unavailable~Content-Type: application/json~Content-Length: 18~Connection: close~~{"error":"memory"}"#;
+
 #[test]
 fn the_memory_reply_is_a_reply(rt: HostRuntime) -> Result<(), Fail> {
-    let want = wire(
-        rt.alloc(),
-        r#"HTTP/1.1 503 Service Unavailable~Content-Type: application/json~Content-Length: 18~Connection: close~~{"error":"memory"}"#,
-    )?;
-    assert!(rt; want.as_slice() == MEMORY_REPLY);
+    assert!(rt; is_wire(rt.alloc(), MEMORY_REPLY, NO_MEMORY)?);
     Ok(())
 }
 
@@ -459,10 +457,18 @@ DELETE /feature?id=A&rev=0 HTTP/1.1~Host: a~~ => HTTP/1.1 200 OK~Content-Type: a
 PUT /style HTTP/1.1~Host: a~Content-Length: 11~~version = 3 => HTTP/1.1 422 Unprocessable Content~Content-Type: application/json~Content-Length: 19~~{"error":"Version"}
 PUT /style?rev=7 HTTP/1.1~Host: a~Content-Length: 11~~version = 3 => HTTP/1.1 409 Conflict~Content-Type: application/json~Content-Length: 28~~{"error":"RevMoved","rev":0}"#;
 
+/// Requests over three points, and their replies.
+struct OverPoints;
+
+impl Subject for OverPoints {
+    fn holds(alloc: Global, input: &str, want: &str) -> Result<bool, Fail> {
+        is_answered(alloc, THREE_POINTS, input, want, 7)
+    }
+}
+
 #[test]
 fn edits_over_labels_in_conflict(rt: HostRuntime) -> Result<(), Fail> {
-    assert!(rt; holds(&rt, THREE_POINTS, POINTS)?);
-    Ok(())
+    each_holds::<OverPoints>(&rt, rt.alloc(), POINTS)
 }
 
 /// A feature, and tiles that show it and do not. The first is asked for again, and again after the feature
@@ -479,39 +485,32 @@ const TILES_AFTER: &str =
 const TILES_AFTER_REPLIES: &str =
     r#"HTTP/1.1 200 OK~Content-Type: application/json~Content-Length: 71~~{"changes":[{"after":null,"before":["0/1","1000/1"],"id":"A"}],"rev":2}HTTP/1.1 200 OK~Content-Type: application/json~Content-Length: 27~~{"labels":[],"scale":"1/1"}HTTP/1.1 200 OK~Content-Type: application/json~Content-Length: 27~~{"labels":[],"scale":"1/1"}"#;
 
-/// The two texts, one behind the other, as bytes of a stream.
-fn both(alloc: Global, first: &str, second: &str) -> Result<Vec<u8>, AllocError> {
-    let mut bytes = wire(alloc, first)?;
-    bytes.extend_from_slice(&wire(alloc, second)?)?;
-    Ok(bytes)
+/// The two texts, one behind the other.
+fn both(alloc: Global, first: &str, second: &str) -> Result<String, AllocError> {
+    let mut text = String::from_str(alloc, first)?;
+    text.push_str(second)?;
+    Ok(text)
+}
+
+/// Whether the requests get these replies, with a tile that was held so often.
+fn tiles_answer(alloc: Global, requests: &str, replies: &str, hits: u64) -> Result<bool, Fail> {
+    let requests = wire(alloc, requests)?;
+    let got = served(alloc, NO_FEATURES, requests.as_bytes(), 100)?;
+    let is_held = got.hits == hits && got.skips == 0;
+    Ok(is_held && is_wire(alloc, got.sink.bytes(), replies)?)
+}
+
+#[test]
+fn tiles_are_held(rt: HostRuntime) -> Result<(), Fail> {
+    assert!(rt; tiles_answer(rt.alloc(), TILES, TILES_REPLIES, 1)?);
+    Ok(())
 }
 
 #[test]
 fn tiles_are_held_until_an_edit_changes_what_they_show(rt: HostRuntime) -> Result<(), Fail> {
-    let alloc = rt.alloc();
-    let input = wire(alloc, TILES)?;
-    let got = served(
-        alloc,
-        NO_FEATURES,
-        &input,
-        100,
-        Vec::new(alloc),
-        Vec::new(alloc),
-    )?;
-    assert!(rt; got.bytes.as_slice() == wire(alloc, TILES_REPLIES)?.as_slice());
-    assert!(rt; got.hits == 1 && got.skips == 0);
-    let input = both(alloc, TILES, TILES_AFTER)?;
-    let got = served(
-        alloc,
-        NO_FEATURES,
-        &input,
-        100,
-        Vec::new(alloc),
-        Vec::new(alloc),
-    )?;
-    let want = both(alloc, TILES_REPLIES, TILES_AFTER_REPLIES)?;
-    assert!(rt; got.bytes.as_slice() == want.as_slice());
-    assert!(rt; got.hits == 2 && got.skips == 0);
+    let requests = both(rt.alloc(), TILES, TILES_AFTER)?;
+    let replies = both(rt.alloc(), TILES_REPLIES, TILES_AFTER_REPLIES)?;
+    assert!(rt; tiles_answer(rt.alloc(), requests.as_str(), replies.as_str(), 2)?);
     Ok(())
 }
 
@@ -527,55 +526,52 @@ const SAMPLE_REPLIES: &str =
 const FIRST_OF_SAMPLE: &str =
     r##"{"type":"FeatureCollection","features":[{"type":"Feature","id":"#0","geometry":{"type":"Point","coordinates":[8.5416942,47.3768861]},"properties":{"name":"Zürich","place":"city","pop":402762}},"##;
 
-/// The reply with this body, as bytes of a stream.
-fn reply_with(alloc: Global, kind: &str, body: &str) -> Result<Vec<u8>, AllocError> {
-    let length = body.len();
-    let head = format!(in alloc;
-        "HTTP/1.1 200 OK~Content-Type: {kind}~Content-Length: {length}~~"
-    )?;
-    let mut bytes = wire(alloc, head.as_str())?;
-    bytes.extend_from_slice(body.as_bytes())?;
-    Ok(bytes)
+/// The reply with this body.
+fn reply_with(alloc: Global, kind: &str, body: &str) -> Result<String, Fail> {
+    let size = body.len();
+    Ok(format!(in alloc; "HTTP/1.1 200 OK~Content-Type: {kind}~Content-Length: {size}~~{body}")?)
 }
 
-/// The text with each `|` as LF.
-fn lines_of(alloc: Global, text: &str) -> Result<String, AllocError> {
-    text.replace(alloc, "|", "\n")
+/// The request for a target.
+fn request_for(alloc: Global, target: &str) -> Result<String, Fail> {
+    Ok(format!(in alloc; "GET {target} HTTP/1.1~Host: a~~")?)
 }
 
-/// What a GET of the target over the sample map gets.
-fn got_of(alloc: Global, target: &str) -> Result<Vec<u8>, Fail> {
-    let request = format!(in alloc; "GET {target} HTTP/1.1~Host: a~~")?;
-    let input = wire(alloc, request.as_str())?;
-    let got = served(
-        alloc,
-        SAMPLE_MAP,
-        &input,
-        7,
-        Vec::new(alloc),
-        Vec::new(alloc),
-    )?;
-    Ok(got.bytes)
+/// Whether the target over this map has a reply of this type and body, in which `|` stands for LF.
+fn is_got(alloc: Global, map: &str, target: &str, kind: &str, body: &str) -> Result<bool, Fail> {
+    let request = request_for(alloc, target)?;
+    let body = body.replace(alloc, "|", "\n")?;
+    let reply = reply_with(alloc, kind, body.as_str())?;
+    is_answered(alloc, map, request.as_str(), reply.as_str(), 7)
+}
+
+/// Targets over the sample map, and their replies.
+struct OverSample;
+
+impl Subject for OverSample {
+    fn holds(alloc: Global, input: &str, want: &str) -> Result<bool, Fail> {
+        let (kind, body) = want.split_once(" => ").ok_or("a body")?;
+        is_got(alloc, SAMPLE_MAP, input, kind, body)
+    }
 }
 
 #[test]
 fn the_sample_map_is_told(rt: HostRuntime) -> Result<(), Fail> {
-    let alloc = rt.alloc();
-    for line in SAMPLE_REPLIES.lines() {
-        let (target, rest) = line.split_once(" => ").ok_or("no case")?;
-        let (kind, body) = rest.split_once(" => ").ok_or("no case")?;
-        let body = lines_of(alloc, body)?;
-        let want = reply_with(alloc, kind, body.as_str())?;
-        assert!(rt; got_of(alloc, target)?.as_slice() == want.as_slice());
-    }
-    Ok(())
+    each_holds::<OverSample>(&rt, rt.alloc(), SAMPLE_REPLIES)
+}
+
+/// Whether the text stands in the export behind its first 76 bytes.
+fn is_exported(alloc: Global, text: &str) -> Result<bool, Fail> {
+    let request = b"GET /map HTTP/1.1\r\nHost: a\r\n\r\n";
+    let got = served(alloc, SAMPLE_MAP, request, 7)?;
+    let bytes = got.sink.bytes();
+    let (_head, body) = bytes.split_at(bytes.len().min(76));
+    Ok(body.starts_with(text.as_bytes()))
 }
 
 #[test]
 fn the_export_begins_with_the_first_feature(rt: HostRuntime) -> Result<(), Fail> {
-    let got = got_of(rt.alloc(), "/map")?;
-    let body = got.as_slice().split_at(got.len().min(76)).1;
-    assert!(rt; body.starts_with(FIRST_OF_SAMPLE.as_bytes()));
+    assert!(rt; is_exported(rt.alloc(), FIRST_OF_SAMPLE)?);
     Ok(())
 }
 
@@ -583,27 +579,32 @@ fn the_export_begins_with_the_first_feature(rt: HostRuntime) -> Result<(), Fail>
 const MARGIN_CHANGES: &str =
     r#"{"changes":[{"after":["0/1","1000/1"],"before":["0/1","1000/1"],"id":"A"},{"after":["0/1","40/3"],"before":["0/1","20/1"],"id":"B"},{"after":["0/1","80/3"],"before":["0/1","40/1"],"id":"C"}],"rev":1}"#;
 
-#[test]
-fn a_style_takes_the_place_of_the_style(rt: HostRuntime) -> Result<(), Fail> {
-    let alloc = rt.alloc();
+/// What the same style changes once more.
+const NO_CHANGES: &str = r#"{"changes":[],"rev":2}"#;
+
+/// The request for the style with a margin, twice.
+fn styles_put(alloc: Global) -> Result<String, Fail> {
     let size = STYLE_WITH_MARGIN.len();
     let head = format!(in alloc; "PUT /style HTTP/1.1~Host: a~Content-Length: {size}~~")?;
-    let mut input = Vec::new(alloc);
-    for _time in 0..2 {
-        input.extend_from_slice(&wire(alloc, head.as_str())?)?;
-        input.extend_from_slice(STYLE_WITH_MARGIN.as_bytes())?;
-    }
-    let mut want = reply_with(alloc, "application/json", MARGIN_CHANGES)?;
-    want.extend_from_slice(&reply_with(alloc, "application/json", "{\"changes\":[],\"rev\":2}")?)?;
-    let got = served(
-        alloc,
-        THREE_POINTS,
-        &input,
-        100,
-        Vec::new(alloc),
-        Vec::new(alloc),
-    )?;
-    assert!(rt; got.bytes.as_slice() == want.as_slice());
+    let request = both(alloc, head.as_str(), STYLE_WITH_MARGIN)?;
+    Ok(request.repeat(alloc, 2)?)
+}
+
+#[test]
+fn a_style_takes_the_place_of_the_style(rt: HostRuntime) -> Result<(), Fail> {
+    let requests = styles_put(rt.alloc())?;
+    let first = reply_with(rt.alloc(), "application/json", MARGIN_CHANGES)?;
+    let second = reply_with(rt.alloc(), "application/json", NO_CHANGES)?;
+    let replies = both(rt.alloc(), first.as_str(), second.as_str())?;
+    assert!(rt;
+        is_answered(
+            rt.alloc(),
+            THREE_POINTS,
+            requests.as_str(),
+            replies.as_str(),
+            100
+        )?
+    );
     Ok(())
 }
 
@@ -613,18 +614,6 @@ const STATE: &str =
 
 #[test]
 fn the_state_is_told_with_its_slots(rt: HostRuntime) -> Result<(), Fail> {
-    let alloc = rt.alloc();
-    let input = wire(alloc, "GET /state HTTP/1.1~Host: a~~")?;
-    let state = lines_of(alloc, STATE)?;
-    let want = reply_with(alloc, "text/plain", state.as_str())?;
-    let got = served(
-        alloc,
-        THREE_POINTS,
-        &input,
-        7,
-        Vec::new(alloc),
-        Vec::new(alloc),
-    )?;
-    assert!(rt; got.bytes.as_slice() == want.as_slice());
+    assert!(rt; is_got(rt.alloc(), THREE_POINTS, "/state", "text/plain", STATE)?);
     Ok(())
 }

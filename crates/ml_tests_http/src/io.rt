@@ -1,5 +1,5 @@
 //! Sources that are read in pieces, and doors that give connections and take them back.
-ghost use Rattle.std.specs.Prelude.{◌≡◌, true, false, IfOk, IfSome};
+ghost use Rattle.std.specs.Prelude.{◌≡◌, ◌<◌, true, false, None, IfOk, IfSome};
 
 use ml_io::{
     CalmDoor, CalmSink, CalmSource, Door, Link, MemDoor, MemLink, MemSink, MemSource, RealInput,
@@ -11,57 +11,83 @@ use std::io::Write;
 use std::net::{Shutdown, TcpStream};
 use std::test::Fail;
 
-/// All that the source gives, in pieces of at most three bytes, with a bar behind each piece and `!` for
-/// a call that failed.
-fn pieces<S: Source>(alloc: Global, source: &mut S) -> Result<Vec<u8>, AllocError> {
-    let mut all = Vec::new(alloc);
+/// Adds what a call of the source gives, with a bar behind it, or `!` where it failed. Is the source not
+/// at its end?
+fn push_piece<S: Source>(source: &mut S, all: &mut Vec<u8>) -> Result<bool, AllocError> {
     let mut buf = [0u8; 3];
+    let Ok(count) = source.take(&mut buf) else {
+        all.push(b'!')?;
+        return Ok(true);
+    };
+    let (front, _) = buf.split_at(count);
+    all.extend_from_slice(front)?;
+    if count > 0 {
+        all.push(b'|')?;
+    }
+    Ok(count > 0)
+}
+
+/// Whether this is what the source gives, in pieces of at most three bytes.
+fn gives<S: Source + Drop>(alloc: Global, source: S, want: &[u8]) -> Result<bool, AllocError> {
+    let mut source = source;
+    let mut all = Vec::new(alloc);
     for _call in 0..20 {
-        match source.take(&mut buf) {
-            Ok(0) => return Ok(all),
-            Ok(count) => {
-                let (front, _) = buf.split_at(count);
-                all.extend_from_slice(front)?;
-                all.extend_from_slice(b"|")?;
-            }
-            Err(_) => all.extend_from_slice(b"!")?,
+        if !push_piece(&mut source, &mut all)? {
+            break;
         }
     }
-    Ok(all)
+    Ok(all.as_slice() == want)
+}
+
+/// The bytes that sources give.
+const LETTERS: &[u8] = b"abcdefgh";
+
+/// A source in memory of these bytes, in pieces of at most `cut` bytes, whose listed calls fail.
+fn mem_source(
+    alloc: Global,
+    bytes: &[u8],
+    cut: usize,
+    fails: Vec<u64>,
+) -> Result<MemSource, AllocError>
+    requires { 0 < cut }
+{
+    Ok(MemSource::new(Vec::from_slice(alloc, bytes)?, cut, fails))
 }
 
 #[test]
-fn sources_give_their_bytes_in_pieces(rt: HostRuntime) -> Result<(), Fail> {
+fn sources_in_memory_give_their_bytes_in_pieces(rt: HostRuntime) -> Result<(), Fail> {
     let alloc = rt.alloc();
-    let bytes = b"abcdefgh".as_slice();
-    let mut cut = MemSource::new(Vec::from_slice(alloc, bytes)?, 2, Vec::new(alloc));
-    assert_eq!(rt;
-        pieces(alloc, &mut cut)?.as_slice(),
-        b"ab|cd|ef|gh|".as_slice()
-    );
-    let mut whole = MemSource::new(Vec::from_slice(alloc, bytes)?, 9, vec![in alloc; 1]?);
-    assert_eq!(rt;
-        pieces(alloc, &mut whole)?.as_slice(),
-        b"abc|!def|gh|".as_slice()
-    );
-    let mut none = MemSource::new(Vec::new(alloc), 1, Vec::new(alloc));
-    assert_eq!(rt; pieces(alloc, &mut none)?.as_slice(), b"".as_slice());
-    let mut calm = CalmSource::new(Vec::from_slice(alloc, bytes)?);
-    assert_eq!(rt;
-        pieces(alloc, &mut calm)?.as_slice(),
-        b"abc|def|gh|".as_slice()
-    );
-    let mut real = RealInput::new(bytes);
-    assert_eq!(rt;
-        pieces(alloc, &mut real)?.as_slice(),
-        b"abc|def|gh|".as_slice()
-    );
+    let cut = mem_source(alloc, LETTERS, 2, Vec::new(alloc))?;
+    assert!(rt; gives(alloc, cut, b"ab|cd|ef|gh|")?);
+    let none = mem_source(alloc, b"", 1, Vec::new(alloc))?;
+    assert!(rt; gives(alloc, none, b"")?);
+    Ok(())
+}
+
+#[test]
+fn a_source_goes_on_after_a_call_that_failed(rt: HostRuntime) -> Result<(), Fail> {
+    let fails = vec![in rt.alloc(); 1]?;
+    let whole = mem_source(rt.alloc(), LETTERS, 9, fails)?;
+    assert!(rt; gives(rt.alloc(), whole, b"abc|!def|gh|")?);
+    Ok(())
+}
+
+#[test]
+fn a_calm_source_gives_its_bytes_in_pieces(rt: HostRuntime) -> Result<(), Fail> {
+    let calm = CalmSource::new(Vec::from_slice(rt.alloc(), LETTERS)?);
+    assert!(rt; gives(rt.alloc(), calm, b"abc|def|gh|")?);
+    Ok(())
+}
+
+#[test]
+fn a_real_source_gives_its_bytes_in_pieces(rt: HostRuntime) -> Result<(), Fail> {
+    assert!(rt; gives(rt.alloc(), RealInput::new(LETTERS), b"abc|def|gh|")?);
     Ok(())
 }
 
 fn mem_link(alloc: Global, bytes: &[u8]) -> Result<MemLink, AllocError> {
     Ok(Link {
-        source: MemSource::new(Vec::from_slice(alloc, bytes)?, 9, Vec::new(alloc)),
+        source: mem_source(alloc, bytes, 9, Vec::new(alloc))?,
         sink: MemSink::new(alloc, 9, Vec::new(alloc))?,
     })
 }
@@ -102,38 +128,54 @@ fn listening(alloc: Global, fails: Vec<u64>) -> Result<MemDoor, AllocError>
     }
 }
 
-#[test]
-fn a_door_in_memory_gives_its_links_in_order(rt: HostRuntime) -> Result<(), Fail> {
-    let alloc = rt.alloc();
-    let mut door = listening(alloc, vec![in alloc; 1]?)?;
-    let answers = [
-        echo(&mut door),
-        echo(&mut door),
-        echo(&mut door),
-        echo(&mut door),
-    ];
-    assert_eq!(rt; answers, [b'+', b'!', b'+', b'-']);
-    let mut all = Vec::new(alloc);
-    for link in door.links_done() {
-        all.extend_from_slice(link.sink.bytes())?;
-        all.extend_from_slice(b";")?;
+/// Whether this is what the next connections of a door come to.
+fn echoes<D: Door>(door: &mut D, want: &[u8]) -> bool
+    requires listens { D.listens door.old ≡ true }
+    requires out { D.is_out door.old ≡ false }
+{
+    let mut is_so = true;
+    for byte in want {
+        is_so = is_so && echo(door) == *byte;
     }
-    assert_eq!(rt; all.as_slice(), b"ab;cde;".as_slice());
-    Ok(())
+    is_so
+}
+
+/// Whether the connections that a door took back got these bytes, with a semicolon behind each.
+fn got_back(alloc: Global, links: &[MemLink], want: &[u8]) -> Result<bool, AllocError> {
+    let mut all = Vec::new(alloc);
+    for link in links {
+        all.extend_from_slice(link.sink.bytes())?;
+        all.push(b';')?;
+    }
+    Ok(all.as_slice() == want)
 }
 
 #[test]
-fn a_calm_door_takes_its_links_back(rt: HostRuntime) -> Result<(), Fail> {
-    let alloc = rt.alloc();
+fn a_door_in_memory_gives_its_links_in_order(rt: HostRuntime) -> Result<(), Fail> {
+    let mut door = listening(rt.alloc(), vec![in rt.alloc(); 1]?)?;
+    assert!(rt; echoes(&mut door, b"+!+-"));
+    assert!(rt; got_back(rt.alloc(), door.links_done(), b"ab;cde;")?);
+    Ok(())
+}
+
+/// A calm door with one connection.
+fn calm_door(alloc: Global) -> Result<CalmDoor, AllocError>
+    ensures { IfOk result (λ door. (door.port ≡ None) × (door.out ≡ false)) }
+{
     let mut links = Vec::new(alloc);
     links.push(Link {
         source: CalmSource::new(Vec::from_slice(alloc, b"ab")?),
         sink: CalmSink::new(),
     })?;
-    let mut door = CalmDoor::new(alloc, links)?;
+    CalmDoor::new(alloc, links)
+}
+
+#[test]
+fn a_calm_door_takes_its_links_back(rt: HostRuntime) -> Result<(), Fail> {
+    let mut door = calm_door(rt.alloc())?;
     assert!(rt; door.listen(80).is_ok());
-    assert_eq!(rt; [echo(&mut door), echo(&mut door)], [b'+', b'-']);
-    assert_eq!(rt; door.links_done().len(), 1);
+    assert!(rt; echoes(&mut door, b"+-"));
+    assert!(rt; door.links_done().len() == 1);
     Ok(())
 }
 

@@ -4,9 +4,12 @@
 //! They stand in a crate of their own, so that no library is proved a second time with its tests. A case
 //! is a line of a text, `input => answer`, as the formats write it.
 //!
+//! - `cases`: tables of cases;
 //! - `io`: sources and doors; `http`: connections, request by request.
 #![tactic(auto)]
 
+#[cfg(test)]
+mod cases;
 #[cfg(test)]
 mod http;
 #[cfg(test)]

@@ -2,43 +2,12 @@
 ghost use Rattle.std.specs.Prelude.{All};
 ghost use Rattle.ml_follow.specs.Reading.{IsGood};
 
-use crate::cases::case;
+use crate::cases::{Table, hold, lines_of, lines_told};
 use ml_follow::{Follower, OfferFault, State, StateFault, StateText, read_states};
 use ml_ratio::Seq;
 use ml_watch::{Crowd, MemWatcher};
 use std::alloc::Global;
 use std::test::Fail;
-
-/// A file of states, with `|` for each LF, and how each state is answered; then what is held, and how
-/// many changes the two watchers heard, of which the second fails at its first call.
-const OFFERED: &str = "\
-state 0 3|A 0 0 0/1 1000/1 0 1000/1 - -10,-10,10,10|B 400 0 0/1 1000/1 0 20/1 0 -10,-10,10,10|C 800 0 0/1 1000/1 0 40/1 0 -10,-10,10,10| => adopted 0 3, held 0 3, heard 3 0
-state 0 1|A 0 0 0/1 1000/1 0 1000/1 - -10,-10,10,10|state 0 1|A 0 0 0/1 1000/1 0 1000/1 - -10,-10,10,10| => adopted 0 1, stale 0 0, held 0 1, heard 1 0
-state 0 3|A 0 0 0/1 1000/1 0 1000/1 - -10,-10,10,10|B 400 0 0/1 1000/1 0 20/1 0 -10,-10,10,10|C 800 0 0/1 1000/1 0 30/1 0 -10,-10,10,10| => refused 0 Uncovered(2), held none, heard 0 0
-state 0 3|A 0 0 0/1 1000/1 0 1000/1 - -10,-10,10,10|B 400 0 0/1 1000/1 0 20/1 0 -10,-10,10,10| => bad 4
- => held none, heard 0 0
-state 0 0| => adopted 0 0, held 0 0, heard 0 0
-state 2 1|A 0 0 0/1 9/1 0 9/1 - -1,-1,1,1|state 3 2|B 900 0 0/1 9/1 0 9/1 - -1,-1,1,1|A 0 0 0/1 9/1 0 9/1 - -1,-1,1,1| => adopted 2 1, adopted 3 2, held 3 2, heard 2 0
-state 2 1|A 0 0 0/1 9/1 0 9/1 - -1,-1,1,1|state 3 1|A 1 0 0/1 9/1 0 9/1 - -1,-1,1,1|state 4 0| => adopted 2 1, adopted 3 1, adopted 4 0, held 4 0, heard 3 0
-state 0 2|A 0 0 0/1 9/1 0 9/1 - -1,-1,1,1|A 900 0 0/1 9/1 0 9/1 - -1,-1,1,1| => bad 3
-state 0 1|A 0 0 0/1 9/1 0 9/1 - -1,-1,1,1|| => bad 3
-state 0 1|A 0 0 0/1 9/1 0 9/1 - -1,-1,1,1 => bad 2
-state 0 2|A 0 0 0/1 9/1 0 9/1 2 -1,-1,1,1|B 0 0 0/1 9/1 0 9/1 - -1,-1,1,1| => bad 2
-state 9007199254740993 0| => bad 1
-state 0 32769| => bad 1
-state 0 1|%41 0 0 0/1 9/1 0 9/1 - -1,-1,1,1| => bad 2
-state 0 1|A 0 0 9/1 9/1 0 9/1 - -1,-1,1,1| => bad 2";
-
-/// Texts as they are written, with `|` for each LF.
-const WRITTEN: &str = "\
-state 0 3|A 0 0 0/1 1000/1 0 1000/1 - -10,-10,10,10|B 400 0 0/1 1000/1 0 20/1 0 -10,-10,10,10|C 800 0 0/1 1000/1 0 40/1 0 -10,-10,10,10|
-state 9007199254740992 2|a%20b%25 -2000000000 7 1/2 268435456/1 64 3/2 - -512,-512,512,512 -1,0,0,1|% 2000000000 -1 0/1 1/65536 0 0/1 0 0,0,1,1|
-state 12 0|state 13 1|#%C3%BC 0 0 0/1 9/1 3 9/1 - -1,-1,1,1|";
-
-/// The text with a line feed for each bar.
-fn file_of(alloc: Global, text: &str) -> Result<String, Fail> {
-    Ok(text.replace(alloc, "|", "\n")?)
-}
 
 /// Two watchers, of which the second fails at its first call.
 fn watchers(alloc: Global) -> Result<Crowd<MemWatcher>, Fail> {
@@ -62,7 +31,19 @@ fn offer(
         Ok(()) => Ok(format!(in alloc; "adopted {rev} {count}, ")?),
         Err(OfferFault::Stale(held)) => Ok(format!(in alloc; "stale {rev} {held}, ")?),
         Err(OfferFault::NotBest(verdict)) => Ok(format!(in alloc; "refused {rev} {verdict:?}, ")?),
-        Err(OfferFault::Memory) => Err(Fail::from("ample memory")),
+        Err(OfferFault::Memory) => Err(Fail::new("ample memory")),
+    }
+}
+
+/// What is held.
+fn held_told(alloc: Global, follower: &Follower) -> Result<String, Fail> {
+    let labels = follower.labels().len();
+    if labels != follower.slots().len() {
+        return Err(Fail::new("a slot for each label"));
+    }
+    match follower.rev() {
+        Some(rev) => Ok(format!(in alloc; "held {rev} {labels}")?),
+        None => Ok("held none".to_string(alloc)?),
     }
 }
 
@@ -70,14 +51,8 @@ fn offer(
 fn standing(alloc: Global, follower: &Follower, crowd: &Crowd<MemWatcher>) -> Result<String, Fail> {
     let first = crowd.heard(0).ok_or("a watcher")?;
     let second = crowd.heard(1).ok_or("a watcher")?;
-    let (labels, slots) = (follower.labels().len(), follower.slots().len());
-    if labels != slots {
-        return Err(Fail::from("a slot for each label"));
-    }
-    match follower.rev() {
-        Some(rev) => Ok(format!(in alloc; "held {rev} {labels}, heard {first} {second}")?),
-        None => Ok(format!(in alloc; "held none, heard {first} {second}")?),
-    }
+    let held = held_told(alloc, follower)?;
+    Ok(format!(in alloc; "{held}, heard {first} {second}")?)
 }
 
 /// Offers the states in order, and tells how each is answered.
@@ -90,30 +65,56 @@ fn all_offered(alloc: Global, states: Seq<State>) -> Result<String, Fail>
     let mut rest = states.into_vec();
     rest.reverse();
     while let Some(state) = rest.pop() {
-        told.push_str(offer(alloc, &mut follower, &mut crowd, state)?.as_str())?;
+        told.push_str(&offer(alloc, &mut follower, &mut crowd, state)?)?;
     }
-    told.push_str(standing(alloc, &follower, &crowd)?.as_str())?;
+    told.push_str(&standing(alloc, &follower, &crowd)?)?;
     Ok(told)
 }
 
-/// How the states of a file are answered, or which line is at fault.
-fn answers(alloc: Global, text: &str) -> Result<String, Fail> {
-    let file = file_of(alloc, text)?;
-    match read_states(alloc, file.as_bytes()) {
-        Ok(states) => all_offered(alloc, states),
-        Err(StateFault::BadState(k)) => Ok(format!(in alloc; "bad {k}")?),
-        Err(StateFault::Memory) => Err(Fail::from("ample memory")),
+/// A file of states, with a bar for each line feed, and how each state is answered; then what is held,
+/// and how many changes the two watchers heard, of which the second fails at its first call. Or the
+/// line at fault.
+struct Offers;
+
+impl Table for Offers {
+    const LINES: &'static str = "\
+state 0 3|A 0 0 0/1 1000/1 0 1000/1 - -10,-10,10,10|B 400 0 0/1 1000/1 0 20/1 0 -10,-10,10,10|C 800 0 0/1 1000/1 0 40/1 0 -10,-10,10,10| => adopted 0 3, held 0 3, heard 3 0
+state 0 1|A 0 0 0/1 1000/1 0 1000/1 - -10,-10,10,10|state 0 1|A 0 0 0/1 1000/1 0 1000/1 - -10,-10,10,10| => adopted 0 1, stale 0 0, held 0 1, heard 1 0
+state 0 3|A 0 0 0/1 1000/1 0 1000/1 - -10,-10,10,10|B 400 0 0/1 1000/1 0 20/1 0 -10,-10,10,10|C 800 0 0/1 1000/1 0 30/1 0 -10,-10,10,10| => refused 0 Uncovered(2), held none, heard 0 0
+state 0 3|A 0 0 0/1 1000/1 0 1000/1 - -10,-10,10,10|B 400 0 0/1 1000/1 0 20/1 0 -10,-10,10,10| => bad 4
+ => held none, heard 0 0
+state 0 0| => adopted 0 0, held 0 0, heard 0 0
+state 2 1|A 0 0 0/1 9/1 0 9/1 - -1,-1,1,1|state 3 2|B 900 0 0/1 9/1 0 9/1 - -1,-1,1,1|A 0 0 0/1 9/1 0 9/1 - -1,-1,1,1| => adopted 2 1, adopted 3 2, held 3 2, heard 2 0
+state 2 1|A 0 0 0/1 9/1 0 9/1 - -1,-1,1,1|state 3 1|A 1 0 0/1 9/1 0 9/1 - -1,-1,1,1|state 4 0| => adopted 2 1, adopted 3 1, adopted 4 0, held 4 0, heard 3 0
+state 0 2|A 0 0 0/1 9/1 0 9/1 - -1,-1,1,1|A 900 0 0/1 9/1 0 9/1 - -1,-1,1,1| => bad 3
+state 0 1|A 0 0 0/1 9/1 0 9/1 - -1,-1,1,1|| => bad 3
+state 0 1|A 0 0 0/1 9/1 0 9/1 - -1,-1,1,1 => bad 2
+state 0 2|A 0 0 0/1 9/1 0 9/1 2 -1,-1,1,1|B 0 0 0/1 9/1 0 9/1 - -1,-1,1,1| => bad 2
+state 9007199254740993 0| => bad 1
+state 0 32769| => bad 1
+state 0 1|%41 0 0 0/1 9/1 0 9/1 - -1,-1,1,1| => bad 2
+state 0 1|A 0 0 9/1 9/1 0 9/1 - -1,-1,1,1| => bad 2";
+
+    fn told(alloc: Global, input: &str) -> Result<String, Fail> {
+        let file = lines_of(alloc, input)?;
+        match read_states(alloc, file.as_bytes()) {
+            Ok(states) => all_offered(alloc, states),
+            Err(StateFault::BadState(k)) => Ok(format!(in alloc; "bad {k}")?),
+            Err(StateFault::Memory) => Err(Fail::new("ample memory")),
+        }
     }
 }
 
 #[test]
 fn states_are_checked_and_adopted(rt: HostRuntime) -> Result<(), Fail> {
-    for line in OFFERED.lines() {
-        let (input, want) = case(line)?;
-        assert_eq!(rt; answers(rt.alloc(), input)?.as_str(), want, "{line}");
-    }
-    Ok(())
+    hold::<Offers>(rt.alloc())
 }
+
+/// Texts as they are written, with a bar for each line feed.
+const WRITTEN: &str = "\
+state 0 3|A 0 0 0/1 1000/1 0 1000/1 - -10,-10,10,10|B 400 0 0/1 1000/1 0 20/1 0 -10,-10,10,10|C 800 0 0/1 1000/1 0 40/1 0 -10,-10,10,10|
+state 9007199254740992 2|a%20b%25 -2000000000 7 1/2 268435456/1 64 3/2 - -512,-512,512,512 -1,0,0,1|% 2000000000 -1 0/1 1/65536 0 0/1 0 0,0,1,1|
+state 12 0|state 13 1|#%C3%BC 0 0 0/1 9/1 3 9/1 - -1,-1,1,1|";
 
 /// Appends the text of a state.
 fn write_state(alloc: Global, state: &State, out: &mut Vec<u8>) -> Result<(), Fail> {
@@ -127,22 +128,21 @@ fn write_state(alloc: Global, state: &State, out: &mut Vec<u8>) -> Result<(), Fa
     Ok(())
 }
 
-/// The text of the states that a file has.
-fn again(alloc: Global, text: &str) -> Result<String, Fail> {
-    let file = file_of(alloc, text)?;
+/// The text of the states that a file has, with a bar for each line feed.
+fn rewritten(alloc: Global, text: &str) -> Result<String, Fail> {
+    let file = lines_of(alloc, text)?;
     let states = read_states(alloc, file.as_bytes())?;
     let mut out = Vec::new(alloc);
     for state in states.as_slice() {
         write_state(alloc, state, &mut out)?;
     }
-    let text = std::str::from_utf8(&out).ok().ok_or("a text")?;
-    Ok(text.replace(alloc, "\n", "|")?)
+    lines_told(alloc, &out)
 }
 
 #[test]
 fn states_are_written_as_they_are_read(rt: HostRuntime) -> Result<(), Fail> {
     for line in WRITTEN.lines() {
-        assert_eq!(rt; again(rt.alloc(), line)?.as_str(), line, "{line}");
+        assert!(rt; rewritten(rt.alloc(), line)?.as_str() == line, "{line}");
     }
     Ok(())
 }

@@ -1,5 +1,5 @@
 //! Generated maps: where groups lie, and what the edits of a map come to.
-use crate::cases::case;
+use crate::cases::{Table, hold, text_of, whole};
 use ml_gen::group::groups_of;
 use ml_gen::{make_totals, totals_line};
 use ml_ratio::lines::parts_of;
@@ -7,16 +7,62 @@ use ml_style::{SAMPLE, read_style};
 use std::alloc::Global;
 use std::test::Fail;
 
+/// The number of 32 bits that a word writes.
+fn number(words: &[&str], place: usize) -> Result<u32, Fail> {
+    Ok(u32::try_from(whole(words, place)?).ok().ok_or("a number")?)
+}
+
+/// The line of totals of a map of so many groups.
+fn totals_of(alloc: Global, groups: u32, seed: u32) -> Result<String, Fail> {
+    if groups < 1 || groups > 6000 {
+        return Err(Fail::new("so many groups"));
+    }
+    let style = read_style(alloc, SAMPLE.as_bytes())?;
+    let totals = make_totals(alloc, style, groups, seed)?;
+    text_of(totals_line(alloc, &totals)?)
+}
+
 /// So many groups and a seed, and the line of totals. Each removal leaves one town of the group shown
 /// and each addition two; either changes three labels; a removal evaluates two, an addition three.
-const LINES: &str = "\
+struct Totals;
+
+impl Table for Totals {
+    const LINES: &'static str = "\
 20 7 => groups 20 features 100 labels 100 edits 40 shown 60 changes 120 evaluated 100 rev 40
 1 0 => groups 1 features 5 labels 5 edits 2 shown 3 changes 6 evaluated 5 rev 2
 3 4294967295 => groups 3 features 15 labels 15 edits 6 shown 9 changes 18 evaluated 15 rev 6
 83 82 => groups 83 features 415 labels 415 edits 166 shown 249 changes 498 evaluated 415 rev 166";
 
+    fn told(alloc: Global, input: &str) -> Result<String, Fail> {
+        let words = parts_of(alloc, input, ' ')?;
+        let groups = number(&words, 0)?;
+        let seed = number(&words, 1)?;
+        let line = totals_of(alloc, groups, seed)?;
+        Ok(line.trim_end().to_string(alloc)?)
+    }
+}
+
+#[test]
+fn edits_come_to_totals(rt: HostRuntime) -> Result<(), Fail> {
+    hold::<Totals>(rt.alloc())
+}
+
+/// The place of a group.
+fn place_of(alloc: Global, seed: u32, number: u32) -> Result<String, Fail> {
+    if number >= 6000 {
+        return Err(Fail::new("a group"));
+    }
+    let groups = groups_of(alloc, number + 1, seed)?;
+    let group = groups.get(number as usize).ok_or("a group")?;
+    let (x, y) = (group.x, group.y);
+    Ok(format!(in alloc; "{x} {y}")?)
+}
+
 /// A seed and the number of a group, and its place.
-const PLACES: &str = "\
+struct Places;
+
+impl Table for Places {
+    const LINES: &'static str = "\
 0 0 => -399996386 -399936593
 7 0 => -399969444 -399988790
 7 1 => -389973537 -399982095
@@ -26,59 +72,14 @@ const PLACES: &str = "\
 4294967295 0 => -399996482 -399962846
 4294967295 5999 => 390073103 340006319";
 
-/// The whole numbers that two words write.
-fn two(alloc: Global, words: &str) -> Result<(u32, u32), Fail> {
-    let parts = parts_of(alloc, words, ' ')?;
-    match parts.as_slice() {
-        [one, other] => {
-            let one = one.parse::<u32>().ok().ok_or("a number")?;
-            let other = other.parse::<u32>().ok().ok_or("a number")?;
-            Ok((one, other))
-        }
-        _ => Err(Fail::from("two numbers")),
+    fn told(alloc: Global, input: &str) -> Result<String, Fail> {
+        let words = parts_of(alloc, input, ' ')?;
+        let seed = number(&words, 0)?;
+        place_of(alloc, seed, number(&words, 1)?)
     }
-}
-
-/// The line of totals of a map of so many groups.
-fn line_of(alloc: Global, groups: u32, seed: u32) -> Result<String, Fail> {
-    if groups < 1 || groups > 6000 {
-        return Err(Fail::from("so many groups"));
-    }
-    let style = read_style(alloc, SAMPLE.as_bytes())?;
-    let totals = make_totals(alloc, style, groups, seed)?;
-    let line = totals_line(alloc, &totals)?;
-    Ok(String::from_utf8(line.into_vec()).ok().ok_or("a text")?)
-}
-
-/// The place of a group.
-fn place_of(alloc: Global, seed: u32, number: u32) -> Result<String, Fail> {
-    if number >= 6000 {
-        return Err(Fail::from("a group"));
-    }
-    let groups = groups_of(alloc, number + 1, seed)?;
-    let group = groups.get(number as usize).ok_or("a group")?;
-    let (x, y) = (group.x, group.y);
-    Ok(format!(in alloc; "{x} {y}")?)
-}
-
-#[test]
-fn edits_come_to_totals(rt: HostRuntime) -> Result<(), Fail> {
-    for line in LINES.lines() {
-        let (input, want) = case(line)?;
-        let (groups, seed) = two(rt.alloc(), input)?;
-        let text = line_of(rt.alloc(), groups, seed)?;
-        assert_eq!(rt; text.as_str().trim_end(), want, "{line}");
-    }
-    Ok(())
 }
 
 #[test]
 fn groups_have_places(rt: HostRuntime) -> Result<(), Fail> {
-    for line in PLACES.lines() {
-        let (input, want) = case(line)?;
-        let (seed, number) = two(rt.alloc(), input)?;
-        let text = place_of(rt.alloc(), seed, number)?;
-        assert_eq!(rt; text.as_str(), want, "{line}");
-    }
-    Ok(())
+    hold::<Places>(rt.alloc())
 }

@@ -1,16 +1,35 @@
 //! Tiles that are held, found, dropped and passed over.
 ghost use Rattle.std.specs.Prelude.{◌≡◌};
 
-use crate::cases::{case, label_of, whole};
-use ml_cone::Span;
+use crate::cases::{Table, hold, label_of, whole};
+use ml_cone::{Span, View};
 use ml_ratio::Seq;
 use ml_ratio::lines::parts_of;
 use ml_tile::{TileKey, Tiles};
 use std::alloc::Global;
 use std::test::Fail;
 
+/// The tile that three numbers name, if there is one.
+fn key_of(alloc: Global, text: &str) -> Result<Option<TileKey>, Fail> {
+    let words = parts_of(alloc, text, ' ')?;
+    let z = u8::try_from(whole(&words, 0)?).ok().ok_or("a depth")?;
+    let column = whole(&words, 1)?;
+    let row = whole(&words, 2)?;
+    Ok(TileKey::of(z, column, row))
+}
+
+/// The middle and the scale of a view.
+fn view_told(alloc: Global, view: &View) -> Result<String, Fail> {
+    let scale = view.scale.text(alloc)?;
+    let (cx, cy) = (view.cx, view.cy);
+    Ok(format!(in alloc; "{cx} {cy} {}", scale.as_str())?)
+}
+
 /// Depth, column and row, and the middle and the scale of the tile's view.
-const KEYS: &str = "\
+struct Keys;
+
+impl Table for Keys {
+    const LINES: &'static str = "\
 0 0 0 => 512 512 1/1
 0 1 0 => 1536 512 1/1
 3 -1 2 => -4096 20480 8/1
@@ -23,51 +42,23 @@ const KEYS: &str = "\
 21 0 -2 => none
 22 0 0 => none";
 
-/// What is done with tiles: `+TILE` keeps one, `?TILE` asks for one, `!ROW` forgets those in which the
-/// label of a row is shown, `=` drops all. The answer is what was found, and both counts.
-const STEPS: &str = "\
-+0 0 0 | ?0 0 0 | ?0 0 0 | ?0 1 0 => 0 0 0, 0 0 0, none, hits 2 skips 0
-+0 0 0 | +0 1 0 | !A 0 0 0 1000 -10,-5,10,5 | ?0 0 0 | ?0 1 0 => none, 0 1 0, hits 1 skips 0
-+0 0 0 | +0 1 0 | !A 1034 512 0 1000 -10,-5,10,5 | ?0 0 0 | ?0 1 0 => 0 0 0, none, hits 1 skips 0
-+0 0 0 | +1 0 0 | +2 0 0 | !A 0 0 2 4 -10,-5,10,5 | ?0 0 0 | ?1 0 0 | ?2 0 0 => 0 0 0, none, 2 0 0, hits 2 skips 0
-+0 0 0 | +0 1 0 | = | ?0 0 0 | ?0 1 0 => none, none, hits 0 skips 0";
-
-/// The tile that three numbers name, if there is one.
-fn key_of(alloc: Global, text: &str) -> Result<Option<TileKey>, Fail> {
-    let words = parts_of(alloc, text, ' ')?;
-    match words.as_slice() {
-        [z, i, j] => {
-            let z = z.parse::<u8>().ok().ok_or("a depth")?;
-            Ok(TileKey::of(z, whole(i)?, whole(j)?))
+    fn told(alloc: Global, input: &str) -> Result<String, Fail> {
+        match key_of(alloc, input)? {
+            Some(key) => view_told(alloc, &key.view()),
+            None => Ok("none".to_string(alloc)?),
         }
-        _ => Err(Fail::from("three numbers")),
     }
-}
-
-/// The middle and the scale of a tile.
-fn view_told(alloc: Global, text: &str) -> Result<String, Fail> {
-    let Some(key) = key_of(alloc, text)? else {
-        return Ok(String::from_str(alloc, "none")?);
-    };
-    let view = key.view();
-    let scale = view.scale.text(alloc)?;
-    let (cx, cy) = (view.cx, view.cy);
-    Ok(format!(in alloc; "{cx} {cy} {}", scale.as_str())?)
 }
 
 #[test]
 fn tiles_are_views(rt: HostRuntime) -> Result<(), Fail> {
-    for line in KEYS.lines() {
-        let (input, want) = case(line)?;
-        assert_eq!(rt; view_told(rt.alloc(), input)?.as_str(), want, "{line}");
-    }
-    Ok(())
+    hold::<Keys>(rt.alloc())
 }
 
 /// Keeps a tile with a body.
 fn keep(tiles: &mut Tiles, key: TileKey, body: &Seq<u8>) -> Result<bool, Fail> {
     if tiles.held(&key) {
-        return Err(Fail::from("a new tile"));
+        return Err(Fail::new("a new tile"));
     }
     Ok(tiles.keep(key, body)?)
 }
@@ -112,25 +103,37 @@ fn step(alloc: Global, tiles: &mut Tiles, step: &str, told: &mut String) -> Resu
     Ok(())
 }
 
-/// What the steps of a case tell.
-fn steps_told(alloc: Global, input: &str) -> Result<String, Fail> {
-    let mut tiles = Tiles::new(alloc)?;
-    let mut told = String::new(alloc);
-    for text in input.split(" | ") {
-        step(alloc, &mut tiles, text, &mut told)?;
-    }
+/// What was found, and both counts.
+fn counts_told(alloc: Global, tiles: &Tiles, told: &str) -> Result<String, Fail> {
     let (hits, skips) = (tiles.hits(), tiles.skips());
-    told.push_str(format!(in alloc; "hits {hits} skips {skips}")?.as_str())?;
-    Ok(told)
+    Ok(format!(in alloc; "{told}hits {hits} skips {skips}")?)
+}
+
+/// What is done with tiles: `+TILE` keeps one, `?TILE` asks for one, `!ROW` forgets those in which the
+/// label of a row is shown, `=` drops all. The answer is what was found, and both counts.
+struct TileSteps;
+
+impl Table for TileSteps {
+    const LINES: &'static str = "\
++0 0 0 | ?0 0 0 | ?0 0 0 | ?0 1 0 => 0 0 0, 0 0 0, none, hits 2 skips 0
++0 0 0 | +0 1 0 | !A 0 0 0 1000 -10,-5,10,5 | ?0 0 0 | ?0 1 0 => none, 0 1 0, hits 1 skips 0
++0 0 0 | +0 1 0 | !A 1034 512 0 1000 -10,-5,10,5 | ?0 0 0 | ?0 1 0 => 0 0 0, none, hits 1 skips 0
++0 0 0 | +1 0 0 | +2 0 0 | !A 0 0 2 4 -10,-5,10,5 | ?0 0 0 | ?1 0 0 | ?2 0 0 => 0 0 0, none, 2 0 0, hits 2 skips 0
++0 0 0 | +0 1 0 | = | ?0 0 0 | ?0 1 0 => none, none, hits 0 skips 0";
+
+    fn told(alloc: Global, input: &str) -> Result<String, Fail> {
+        let mut tiles = Tiles::new(alloc)?;
+        let mut told = String::new(alloc);
+        for text in input.split(" | ") {
+            step(alloc, &mut tiles, text, &mut told)?;
+        }
+        counts_told(alloc, &tiles, &told)
+    }
 }
 
 #[test]
 fn tiles_are_found_until_they_change(rt: HostRuntime) -> Result<(), Fail> {
-    for line in STEPS.lines() {
-        let (input, want) = case(line)?;
-        assert_eq!(rt; steps_told(rt.alloc(), input)?.as_str(), want, "{line}");
-    }
-    Ok(())
+    hold::<TileSteps>(rt.alloc())
 }
 
 /// Whether a tile of a row of tiles is held.
@@ -150,18 +153,31 @@ fn row_of_tiles(alloc: Global, count: i64) -> Result<Tiles, Fail> {
     Ok(tiles)
 }
 
+/// A number of tiles, each kept after the one before it, the place of one of them, and whether that is
+/// held.
+struct Rows;
+
+impl Table for Rows {
+    const LINES: &'static str = "\
+256 0 => true
+256 1 => true
+256 255 => true
+257 0 => false
+257 1 => true
+257 255 => true";
+
+    fn told(alloc: Global, input: &str) -> Result<String, Fail> {
+        let words = parts_of(alloc, input, ' ')?;
+        let count = whole(&words, 0)?;
+        let column = whole(&words, 1)?;
+        let tiles = row_of_tiles(alloc, count)?;
+        Ok(is_held(&tiles, column)?.to_string(alloc)?)
+    }
+}
+
 #[test]
 fn the_oldest_of_too_many_tiles_goes(rt: HostRuntime) -> Result<(), Fail> {
-    for (count, first) in [(256, true), (257, false)] {
-        let tiles = row_of_tiles(rt.alloc(), count)?;
-        let held = (
-            is_held(&tiles, 0)?,
-            is_held(&tiles, 1)?,
-            is_held(&tiles, 255)?,
-        );
-        assert_eq!(rt; held, (first, true, true), "{count}");
-    }
-    Ok(())
+    hold::<Rows>(rt.alloc())
 }
 
 /// Whether a body of so many bytes is kept.
@@ -172,10 +188,21 @@ fn is_kept(alloc: Global, length: usize) -> Result<bool, Fail> {
     keep(&mut tiles, key, &Seq::of_vec(body))
 }
 
+/// The length of a body, and whether it is kept.
+struct Bodies;
+
+impl Table for Bodies {
+    const LINES: &'static str = "\
+65536 => true
+65537 => false";
+
+    fn told(alloc: Global, input: &str) -> Result<String, Fail> {
+        let length = input.parse::<usize>().ok().ok_or("a length")?;
+        Ok(is_kept(alloc, length)?.to_string(alloc)?)
+    }
+}
+
 #[test]
 fn long_bodies_are_passed_over(rt: HostRuntime) -> Result<(), Fail> {
-    for (length, want) in [(65_536, true), (65_537, false)] {
-        assert_eq!(rt; is_kept(rt.alloc(), length)?, want, "{length}");
-    }
-    Ok(())
+    hold::<Bodies>(rt.alloc())
 }
