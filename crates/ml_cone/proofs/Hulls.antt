@@ -10,7 +10,7 @@ use borrow.Author.Differences.{up, down, le_out, lt_out, sum_is_lem}
 use Rattle.ml_cone.specs.Plane.{IsBox, lowered, raised}
 use Rattle.ml_cone.specs.Overlap.{widened}
 use Rattle.ml_cone.specs.Cells.{cell_side, cell_at}
-use Rattle.ml_cone.specs.Hull.{join, no_reach, reach_of, hull_of, AreFew}
+use Rattle.ml_cone.specs.Hull.{join, no_reach, reach_of, hull_of, AreFew, Holds, IsStretch, IsExtent}
 use Rattle.ml_cone.specs.declared.label.BoxPx.{BoxPx}
 use Rattle.ml_cone.specs.declared.label.Label.{Label}
 
@@ -23,14 +23,7 @@ floor_parts (negsuc a) k h = omega arith
 
 -- ---- the reach
 
--- the box a holds the box p
-pub record Holds (a p : BoxPx) : Type 0 where
-  pub l : a.l ≤ℤ p.l
-  pub b : a.b ≤ℤ p.b
-  pub r : p.r ≤ℤ a.r
-  pub t : p.t ≤ℤ a.t
-
-Holds-trans : (a p q : BoxPx) → Holds a p → Holds p q → Holds a q
+pub Holds-trans : (a p q : BoxPx) → Holds a p → Holds p q → Holds a q
 Holds-trans a p q h k = record {
   l = let x = h.l in let y = k.l in omega (arith, ints);
   b = let x = h.b in let y = k.b in omega (arith, ints);
@@ -47,10 +40,10 @@ least_is x y = (omega (arith, ints, clamps), omega (arith, ints, clamps))
 greatest_is : (x y : ℤ) → (x ≤ℤ int_max x y) × (y ≤ℤ int_max x y)
 greatest_is x y = (omega (arith, ints, clamps), omega (arith, ints, clamps))
 
-join_holds_first : (a p : BoxPx) → Holds (join a p) a
+pub join_holds_first : (a p : BoxPx) → Holds (join a p) a
 join_holds_first a p = record { l = (least_is a.l p.l).0; b = (least_is a.b p.b).0; r = (greatest_is a.r p.r).0; t = (greatest_is a.t p.t).0 }
 
-join_holds_second : (a p : BoxPx) → Holds (join a p) p
+pub join_holds_second : (a p : BoxPx) → Holds (join a p) p
 join_holds_second a p = record { l = (least_is a.l p.l).1; b = (least_is a.b p.b).1; r = (greatest_is a.r p.r).1; t = (greatest_is a.t p.t).1 }
 
 fold_holds_first : (w : BoxPx → BoxPx) (a : BoxPx) (boxes : List BoxPx) → Holds (fold (λ all p. join all (w p)) a boxes) a
@@ -64,19 +57,7 @@ fold_holds_all w a (p ∷ rest) =
     (Holds-trans (fold (λ all q. join all (w q)) (join a (w p)) rest) (join a (w p)) (w p) (fold_holds_first w (join a (w p)) rest) (join_holds_second a (w p)))
     (fold_holds_all w (join a (w p)) rest)
 
--- a side that reaches over 0, up to 576 pixels to either hand
-pub record IsStretch (l r : ℤ) : Type 0 where
-  pub from : negsuc 575 ≤ℤ l
-  pub left : l ≤ℤ pos 0
-  pub right : pos 0 ≤ℤ r
-  pub until : r ≤ℤ pos 576
-
--- both sides of the box reach over 0
-pub record IsExtent (a : BoxPx) : Type 0 where
-  pub wide : IsStretch a.l a.r
-  pub high : IsStretch a.b a.t
-
-stretch_join : (l r k t : ℤ) → IsStretch l r → negsuc 575 ≤ℤ k → t ≤ℤ pos 576 → IsStretch (int_min l k) (int_max r t)
+pub stretch_join : (l r k t : ℤ) → IsStretch l r → negsuc 575 ≤ℤ k → t ≤ℤ pos 576 → IsStretch (int_min l k) (int_max r t)
 stretch_join l r k t h low high =
     let h0 = h.from in let h1 = h.left in let h2 = h.right in let h3 = h.until in
     record { from = omega (arith, ints, clamps); left = omega (arith, ints, clamps); right = omega (arith, ints, clamps); until = omega (arith, ints, clamps) }
@@ -98,7 +79,7 @@ fold_extent c a [] h all = h
 fold_extent c a (p ∷ rest) h all =
     fold_extent c (join a (widened c p)) rest (join_extent c a p h (All-head (λ (q : BoxPx). IsBox q.l q.b q.r q.t) p rest all)) (All-tail (λ (q : BoxPx). IsBox q.l q.b q.r q.t) p rest all)
 
-no_extent : IsExtent no_reach
+pub no_extent : IsExtent no_reach
 no_extent = record {
   wide = record { from = omega (arith, ints); left = omega (arith, ints); right = omega (arith, ints); until = omega (arith, ints) };
   high = record { from = omega (arith, ints); left = omega (arith, ints); right = omega (arith, ints); until = omega (arith, ints) };

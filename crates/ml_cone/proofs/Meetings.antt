@@ -15,30 +15,31 @@ use Rattle.ml_cone.specs.Shown.{BoxInView, IsInView}
 use Rattle.ml_cone.specs.declared.view.View.{View}
 use Rattle.ml_cone.specs.Cells.{cell_side, cell_at, SideInColumns, IsAmongCells}
 use Rattle.ml_cone.specs.Cell.{SharedCell, BoundCell, SeenCell, ColumnInWindow}
-use Rattle.ml_cone.specs.Hull.{reach_of, hull_of, BoxInCells, HoldLabel}
+use Rattle.ml_cone.specs.Hull.{reach_of, hull_of, BoxInCells, HoldLabel, Holds, IsStretch}
 use Rattle.ml_cone.specs.Overlap.{widened, BoxesOverlap, Overlap}
 use Rattle.ml_cone.specs.Rivals.{AreRivals}
+use Rattle.ml_cone.specs.Outline.{RivalBand, BoundBand}
 use Rattle.ml_cone.specs.Choice.{IsEnd, CoversFrom}
 use Rattle.std.proofs.Common.{inl, inr}
 use Rattle.std.proofs.lemmas.Bool.{cases_lt}
 use Rattle.ml_cone.specs.declared.label.BoxPx.{BoxPx}
 use Rattle.ml_cone.specs.declared.label.Label.{Label}
-use Rattle.ml_cone.proofs.Hulls.{Holds, IsStretch, few_columns, reach_extent, reach_holds, reach_holds_plain, side_pos, mul_mono, distrib, column_le, floor_low, floor_high}
+use Rattle.ml_cone.proofs.Hulls.{few_columns, reach_extent, reach_holds, reach_holds_plain, side_pos, mul_mono, distrib, column_le, floor_low, floor_high}
 
 -- ---- the hull holds what the label covers
 
-mul_twice : (c : ℤ) (m n : ℕ) → ((c *ℤ pos m) *ℤ pos n) ≡ (c *ℤ pos (m * n))
+pub mul_twice : (c : ℤ) (m n : ℕ) → ((c *ℤ pos m) *ℤ pos n) ≡ (c *ℤ pos (m * n))
 mul_twice c m n =
     let e = ap (λ (t : ℕ). t * n) (product_is c (pos m)).0 in
     let f = ap (λ (t : ℕ). t * n) (product_is c (pos m)).1 in
     omega (arith, ints)
 
 -- what lies to the left of the anchor moves left as a pixel grows
-left_grows : (l : ℤ) (n m : ℕ) → l ≤ℤ pos 0 → n ≤ m → (l *ℤ pos m) ≤ℤ (l *ℤ pos n)
+pub left_grows : (l : ℤ) (n m : ℕ) → l ≤ℤ pos 0 → n ≤ m → (l *ℤ pos m) ≤ℤ (l *ℤ pos n)
 left_grows (pos u) n m h k = let e : u ≡ 0 = omega (arith, ints) in rw e (omega (arith, ints))
 left_grows (negsuc u) n m h k = let e = mul-le (suc u) n (suc u) m (omega arith) k in omega (arith, ints)
 
-right_grows : (r : ℤ) (n m : ℕ) → pos 0 ≤ℤ r → n ≤ m → (r *ℤ pos n) ≤ℤ (r *ℤ pos m)
+pub right_grows : (r : ℤ) (n m : ℕ) → pos 0 ≤ℤ r → n ≤ m → (r *ℤ pos n) ≤ℤ (r *ℤ pos m)
 right_grows (pos u) n m h k = let e = mul-le u n u m (omega arith) k in omega (arith, ints)
 right_grows (negsuc u) n m h k = absurd (omega (arith, ints))
 
@@ -131,11 +132,11 @@ scale_band a s below =
     let h : IsLess s (whole (2 ^ 28)) = less_at_most s (value_of a.max) (whole (2 ^ 28)) below top in
     has_band s 27 (omega arith)
 
-at_place : {X : Type 0} (P : X → Type 0) (xs : List X) (k : ℕ) (x : X) → All P xs → k < length xs → slice_index_or xs k x ≡ x → P x
+pub at_place : {X : Type 0} (P : X → Type 0) (xs : List X) (k : ℕ) (x : X) → All P xs → k < length xs → slice_index_or xs k x ≡ x → P x
 at_place P xs k x all h e = subst P e (all k x h)
 
 -- two labels that overlap at a scale share a cell in its band
-cells_of_overlap : (a b : Label) (k : ℕ) (s : Fraction) → s.num < 2 ^ (k + 1) * s.den → Overlap a b s →
+pub cells_of_overlap : (a b : Label) (k : ℕ) (s : Fraction) → s.num < 2 ^ (k + 1) * s.den → Overlap a b s →
     ((x : ℤ) × (y : ℤ) × IsAmongCells (hull_of a k) x y × IsAmongCells (hull_of b k) x y)
 unfolding Overlap BoxesOverlap hull_of
 cells_of_overlap a b k s below any =
@@ -213,6 +214,41 @@ bound_shares low high u f end below most covers =
       in_band = band.2;
       first = record { low = bound; meets = meets_here low f k end.0 end.1 band.2; among = cell.2 };
       second = record { low = bound; meets = meets_here high s.0 k at.0.0 until s.3; among = cell.3 };
+    }
+
+-- ---- bands in which labels overlap
+
+-- rivals overlap in a band that meets both ranges
+pub rivals_overlap : (a b : Label) → AreRivals a b → RivalBand a b
+unfolding AreRivals
+rivals_overlap a b rivals =
+    let s = rivals.0 in
+    let band = scale_band a s rivals.2.1 in
+    let k = band.0 in
+    let low : k < 28 = (let h = band.1 in omega arith) in
+    let until = less_is_at_most s (value_of b.max) rivals.3.1 in
+    record {
+      band = k;
+      first = meets_here a s k rivals.2.0 (less_is_at_most s (value_of a.max) rivals.2.1) band.2;
+      second = meets_here b s k rivals.3.0 until band.2;
+      over = record { low = low; scale = s; in_band = band.2; begins = rivals.3.0; lasts = until; over = rivals.4 };
+    }
+
+-- a rival that bounds a label overlaps it in the band of the bound
+pub bound_overlaps : (low high : Label) (u f : Fraction) → IsEnd low f → IsLess f (value_of low.max) → IsAtMost u (value_of high.max) → CoversFrom low high u f → BoundBand low high f
+unfolding CoversFrom
+bound_overlaps low high u f end below most covers =
+    let band = scale_band low f below in
+    let k = band.0 in
+    let s = above_in_band f covers.0 k covers.1 band.2 in
+    let at = covers.2 s.0 s.1 s.2 in
+    let bound : k < 28 = (let h = band.1 in omega arith) in
+    let until : IsAtMost s.0 (value_of high.max) = less_is_at_most s.0 (value_of high.max) (less_at_most s.0 u (value_of high.max) at.0.1 most) in
+    record {
+      band = k;
+      in_band = band.2;
+      first = meets_here low f k end.0 end.1 band.2;
+      over = record { low = bound; scale = s.0; in_band = s.3; begins = at.0.0; lasts = until; over = at.1 };
     }
 
 -- ---- a label that meets a window has a cell that meets it

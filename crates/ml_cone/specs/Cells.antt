@@ -8,9 +8,13 @@ use Rattle.ml_cone.specs.declared.cells.Cells.{Cells}
 abbrev pub cell_side : ℕ → ℕ
 cell_side k = 1024 * 2 ^ k
 
--- the column of cells of band k in which the place u pixels from x lies where a pixel is 2^(k+1) units, rounded down
+-- the column of cells of band j in which the place u pixels from x lies where a pixel is 2^(k+1) units, rounded down
+abbrev pub column_of : ℤ → ℤ → ℕ → ℕ → ℤ
+column_of x u k j = int_div_euclid (x +ℤ (u *ℤ pos (2 ^ (k + 1)))) (pos (cell_side j))
+
+-- the same with cells of the band k itself
 abbrev pub cell_at : ℤ → ℤ → ℕ → ℤ
-cell_at x u k = int_div_euclid (x +ℤ (u *ℤ pos (2 ^ (k + 1)))) (pos (cell_side k))
+cell_at x u k = column_of x u k k
 
 -- the cell (x, y) is among the cells
 abbrev pub IsAmongCells : Cells → ℤ → ℤ → Type 0

@@ -1,4 +1,4 @@
-use Rattle.std.specs.Prelude.{ℕ, ℤ, pos, ◌≤ℤ◌, ◌+ℤ◌, All}
+use Rattle.std.specs.Prelude.{ℕ, ℤ, pos, negsuc, ◌≤ℤ◌, ◌+ℤ◌, ◌-ℤ◌, All}
 use Rattle.std.specs.List.{fold}
 use Rattle.std.specs.Int.{int_min, int_max}
 use Rattle.ml_ratio.specs.Fraction.{Fraction}
@@ -19,6 +19,10 @@ join a p = record { l = int_min a.l p.l; b = int_min a.b p.b; r = int_max a.r p.
 -- the least box that holds the anchor and all boxes, each widened by the label's margin: its left is the least of 0 and all their lefts, its right the greatest of 0 and all their rights, and so on
 unfoldable pub reach_of : Label → BoxPx
 reach_of a = fold (λ all p. join all (widened a p)) no_reach a.boxes
+
+-- where the anchors of labels lie that reach to `other` at most and meet a label that reaches to `own`, seen from its anchor
+abbrev pub area_of : BoxPx → BoxPx → BoxPx
+area_of own other = record { l = own.l -ℤ other.r; b = own.b -ℤ other.t; r = own.r -ℤ other.l; t = own.t -ℤ other.b }
 
 -- the cells of band k from that of the lower left corner of the reach to that of its upper right corner
 abbrev pub cells_of : ℤ → ℤ → BoxPx → ℕ → Cells
@@ -41,3 +45,22 @@ HoldLabel cells a s = All (λ p. BoxInCells a cells s (widened a p)) a.boxes
 -- between one and four columns, or rows
 abbrev pub AreFew : ℤ → ℤ → Type 0
 AreFew c d = (c ≤ℤ d) × (d ≤ℤ (c +ℤ pos 3))
+
+-- the box a holds the box p
+pub record Holds (a p : BoxPx) : Type 0 where
+  pub l : a.l ≤ℤ p.l
+  pub b : a.b ≤ℤ p.b
+  pub r : p.r ≤ℤ a.r
+  pub t : p.t ≤ℤ a.t
+
+-- a side that reaches over 0, up to 576 pixels to either hand
+pub record IsStretch (l r : ℤ) : Type 0 where
+  pub from : negsuc 575 ≤ℤ l
+  pub left : l ≤ℤ pos 0
+  pub right : pos 0 ≤ℤ r
+  pub until : r ≤ℤ pos 576
+
+-- both sides of the box reach over 0
+pub record IsExtent (a : BoxPx) : Type 0 where
+  pub wide : IsStretch a.l a.r
+  pub high : IsStretch a.b a.t

@@ -7,6 +7,7 @@ ghost use Rattle.ml_cone.specs.Choice.{ActiveUntil, IsEnd, CoversFrom};
 ghost use Rattle.ml_cone.specs.Hull.{hull_of, HoldLabel, AreFew};
 ghost use Rattle.ml_cone.specs.Cell.{SharedCell, BoundCell, SeenCell};
 ghost use Rattle.ml_cone.specs.Rivals.{AreRivals};
+ghost use Rattle.ml_cone.specs.Outline.{RivalBand, BoundBand};
 ghost use Rattle.ml_cone.specs.Shown.{IsInView};
 ghost use Rattle.ml_cone.specs.declared.label.Label.{Label};
 ghost use Rattle.ml_cone.specs.declared.view.View.{View};
@@ -41,6 +42,18 @@ pub fn bound_shares()
     ensures { (low high : Label) (until bound : Fraction) →
         IsEnd low bound → IsLess bound (value_of low.max) → IsAtMost until (value_of high.max) →
         CoversFrom low high until bound → BoundCell low high bound }
+{}
+
+/// Two labels that overlap at a scale in both selectable ranges overlap in a band that meets both.
+pub fn rivals_overlap()
+    ensures { (a b : Label) → AreRivals a b → RivalBand a b }
+{}
+
+/// A label that bounds another at an end overlaps it in the band of that end.
+pub fn bound_overlaps()
+    ensures { (low high : Label) (until bound : Fraction) →
+        IsEnd low bound → IsLess bound (value_of low.max) → IsAtMost until (value_of high.max) →
+        CoversFrom low high until bound → BoundBand low high bound }
 {}
 
 /// A label that meets a view has in the band of the view's scale a cell that meets the view.

@@ -9,7 +9,8 @@
 //! - [`overlap`], [`window`]: the tests of single labels at a scale, over `edge` and `margin`: where
 //!   edges lie, and boxes widened by a margin ([`widened`]);
 //! - [`cells`], [`reach`]: squares of the world in bands of scales, and those that a label covers
-//!   ([`hull`]);
+//!   ([`hull`]); [`outline`]: which cells are enough to find all labels that a label may overlap
+//!   ([`Outline`]);
 //! - [`laws`]: laws over the definitions alone.
 #![tactic(auto)]
 
@@ -19,6 +20,7 @@ pub mod label;
 pub mod laws;
 mod margin;
 pub mod order;
+pub mod outline;
 pub mod overlap;
 pub mod reach;
 pub mod slot;
@@ -29,6 +31,7 @@ pub use cells::Cells;
 pub use label::{BoxPx, Label};
 pub use margin::widened;
 pub use order::Order;
+pub use outline::Outline;
 pub use overlap::overlaps;
 pub use reach::hull;
 pub use slot::{Slot, Span, active};

@@ -3,7 +3,7 @@ ghost use Rattle.std.specs.Prelude.{◌≡◌, ◌≤◌};
 ghost use Rattle.ml_ratio.specs.World.{IsInWorld};
 ghost use Rattle.ml_cone.specs.Plane.{IsReach, IsBox};
 ghost use Rattle.ml_cone.specs.Overlap.{widened};
-ghost use Rattle.ml_cone.specs.Cells.{cell_at};
+ghost use Rattle.ml_cone.specs.Cells.{column_of};
 ghost use Rattle.ml_cone.specs.Hull.{reach_of, join, hull_of, AreFew};
 
 use crate::cells::{Cells, pixel_of, side_of};
@@ -12,7 +12,7 @@ use crate::margin::widened;
 use std::cmp::{max, min};
 
 // The least box that holds both.
-fn joined(a: &BoxPx, p: &BoxPx) -> BoxPx
+pub(crate) fn joined(a: &BoxPx, p: &BoxPx) -> BoxPx
     ensures { result ≡ join a.now p.now }
 {
     BoxPx {
@@ -32,7 +32,7 @@ fn holding(label: &Label, all: &BoxPx, p: &BoxPx) -> BoxPx
 }
 
 // The least box that holds the anchor and all boxes of the label, widened by its margin.
-fn extent(label: &Label) -> BoxPx
+pub(crate) fn extent(label: &Label) -> BoxPx
     ensures { result ≡ reach_of label.now }
 {
     let mut all = BoxPx {
@@ -47,18 +47,19 @@ fn extent(label: &Label) -> BoxPx
     all
 }
 
-// The column of cells of the band in which the place `u` pixels from `x` lies, a pixel being as large
-// as at the upper end of the band.
-fn column(x: i64, u: i32, band: u8) -> i64
+// The column of cells of the band `cells` in which the place `u` pixels from `x` lies, a pixel being as
+// large as at the upper end of the band.
+pub(crate) fn column(x: i64, u: i32, band: u8, cells: u8) -> i64
     requires x_in_world { IsInWorld x }
     requires u_in_reach { IsReach u }
     requires low_band { band ≤ 27 }
-    ensures { result ≡ cell_at x u band }
+    requires low_cells { cells ≤ 27 }
+    ensures { result ≡ column_of x u band cells }
 {
     let wide = u as i64;
     let offset = wide * pixel_of(band);
     let place = x + offset;
-    place.div_euclid(side_of(band))
+    place.div_euclid(side_of(cells))
 }
 
 /// The label's hull in the band, which is at most 27: the cells from that of the lower left corner of
@@ -73,9 +74,9 @@ pub fn hull(label: &Label, band: u8) -> Cells
     let all = extent(label);
     Cells {
         band,
-        x0: column(label.x, all.l, band),
-        y0: column(label.y, all.b, band),
-        x1: column(label.x, all.r, band),
-        y1: column(label.y, all.t, band),
+        x0: column(label.x, all.l, band, band),
+        y0: column(label.y, all.b, band, band),
+        x1: column(label.x, all.r, band, band),
+        y1: column(label.y, all.t, band, band),
     }
 }

@@ -9,9 +9,7 @@ use Rattle.ml_cone.specs.Hull.{hull_of}
 use Rattle.ml_cone.specs.declared.cells.Cells.{Cells}
 use Rattle.ml_cone.specs.declared.label.Label.{Label}
 use Rattle.ml_grid.specs.Entry.{Entry}
-use Rattle.ml_ratio.specs.declared.ratio.Ratio.{Ratio}
-use Rattle.ml_grid.specs.Column.{IsAmongFrom}
-use Rattle.ml_grid.specs.Found.{AreNumbers, AreFirst, Appends, AppendsFirst, Finds, IsAmong, IsInHull, IsInHullFrom, IsNumberOf}
+use Rattle.ml_grid.specs.Found.{AreNumbers, AreFirst, Appends, AppendsFirst, Finds, IsAmong, IsInHull, IsNumberOf}
 
 -- what was found, ascending and each once
 pub numbers_of_finds : (P : Entry → Type 0) (entries : List Entry) (found numbers : List ℕ) → Finds P entries [] found → IsStrictlyIncreasing numbers → ((n : ℕ) → Contains numbers n ↔ Contains found n) → AreNumbers P entries numbers
@@ -78,11 +76,6 @@ pub in_hull : (a : Label) (k : ℕ) (cells : Cells) → cells ≡ hull_of a k �
 unfolding hull_of
 in_hull a k cells is e =
     subst (λ (c : Cells). IsInHull a k e ↔ IsAmong c e) (sym is) (λ h. h, λ h. h)
-
-pub in_hull_from : (a : Label) (k : ℕ) (scale : Ratio) (cells : Cells) → cells ≡ hull_of a k → (e : Entry) → IsInHullFrom a k scale e ↔ IsAmongFrom cells scale e
-in_hull_from a k scale cells is e =
-    let same = in_hull a k cells is e in
-    (λ h. (same.0 h.0, h.1), λ h. (same.1 h.0, h.1))
 
 -- what was found where nothing was before
 pub all_found : (P : Entry → Type 0) (entries : List Entry) (found : List ℕ) → Finds P entries [] found → (n : ℕ) → Contains found n ↔ IsNumberOf P entries n

@@ -2,7 +2,6 @@ use Rattle.std.specs.Prelude.{ℕ, ◌≡◌, ◌<◌, ◌++◌, List, Contains,
 use Rattle.std.specs.List.Sorted.{IsStrictlyIncreasing}
 use Rattle.ml_ratio.specs.Fraction.{value_of, IsAtMost}
 use Rattle.ml_ratio.specs.Band.{IsInBand}
-use Rattle.ml_ratio.specs.declared.ratio.Ratio.{Ratio}
 use Rattle.ml_cone.specs.Cells.{IsAmongCells}
 use Rattle.ml_cone.specs.Cell.{CellInView}
 use Rattle.ml_cone.specs.Hull.{hull_of}
@@ -42,10 +41,6 @@ IsAmong cells e = (e.key.band ≡ cells.band) × IsAmongCells cells e.key.x e.ke
 -- the entry's cell is one of the label's hull in the band
 abbrev pub IsInHull : Label → ℕ → Entry → Type 0
 IsInHull a k e = (e.key.band ≡ k) × IsAmongCells (hull_of a k) e.key.x e.key.y
-
--- the entry's cell is one of the label's hull in the band, and it ends at the scale at the earliest
-abbrev pub IsInHullFrom : Label → ℕ → Ratio → Entry → Type 0
-IsInHullFrom a k s e = IsInHull a k e × IsAtMost (value_of s) (value_of e.end)
 
 -- the entry is in the band of the view's scale, in a cell that meets the window, and ends at that scale at the earliest
 pub record IsSeen (v : View) (e : Entry) : Type 0 where

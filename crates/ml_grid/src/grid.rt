@@ -4,15 +4,16 @@ ghost use Rattle.std.specs.Ordering.{nat_cmp};
 ghost use Rattle.ml_ratio.specs.RatioOrder.{ratio_cmp};
 ghost use Rattle.ml_spans.specs.Order.{entry_order, IsRising};
 ghost use Rattle.ml_grid.specs.Cell.{cell_cmp};
-ghost use Rattle.ml_grid.specs.Count.{entry_count};
+ghost use Rattle.ml_grid.specs.Count.{AreUpToNine, entry_count};
 ghost use Rattle.ml_grid.specs.Entry.{IsEntryOf, Adds, Drops, IsFree, AreEntriesOf};
-ghost use Rattle.ml_grid.specs.Found.{Appends, AppendsFirst, IsInHull, IsInHullFrom, IsNumberOf, IsSeen};
+ghost use Rattle.ml_grid.specs.Found.{Appends, AppendsFirst, IsInHull, IsNumberOf, IsSeen};
+ghost use Rattle.ml_grid.specs.Column.{IsAmongFrom};
 
 use crate::bands::entries_of;
 use crate::find::{append, append_counted, ascending, find_cells, find_cells_from};
 use crate::keep::{Tree, add_all, drop_all};
 use crate::window::window_cells;
-use ml_cone::{Label, Span, View, hull};
+use ml_cone::{Cells, Label, Span, View, hull};
 use ml_ratio::{Ratio, Seq, Steps};
 use ml_spans::SpanTree;
 use std::alloc::{AllocError, Global};
@@ -120,23 +121,22 @@ impl Grid {
         append(&ascending(found), out)
     }
 
-    /// The numbers that have an entry in the band in a cell of the label's hull there, with an end of at
-    /// least the scale, in whatever order and however often. The band is at most 27.
+    /// The numbers that have an entry in one of the cells, of which there are nine columns at most, with an
+    /// end of at least the scale, in whatever order and however often.
     ///
     /// # Errors
     /// Want of memory.
-    pub fn near_from(
+    pub fn in_cells(
         &self,
         alloc: Global,
-        label: &Label,
-        band: u8,
+        cells: &Cells,
         scale: &Ratio,
     ) -> Result<Seq<u32>, AllocError>
-        requires { band ≤ 27 }
-        ensures { IfOk result (λ numbers. (n : ℕ) → Contains numbers n ↔ IsNumberOf (IsInHullFrom label.now band scale.now) self.now.entries n) }
+        requires few { AreUpToNine cells.now.x0 cells.now.x1 }
+        ensures { IfOk result (λ numbers. (n : ℕ) → Contains numbers n ↔ IsNumberOf (IsAmongFrom cells.now scale.now) self.now.entries n) }
     {
         let mut found = Seq::new(alloc);
-        find_cells_from(&self.tree, &hull(label, band), scale, &mut found)?;
+        find_cells_from(&self.tree, cells, scale, &mut found)?;
         Ok(found)
     }
 

@@ -12,15 +12,13 @@ use Rattle.ml_ratio.proofs.Fractions.{at_most_trans, less_trans, middle, middle_
 use Rattle.ml_cone.specs.Choice.{Choice, IsEnd, Allows, IsLimit, CoversFrom, Blocks}
 use Rattle.ml_cone.specs.Rivals.{AreRivals}
 use Rattle.ml_cone.specs.Overlap.{Overlap, BoxesOverlap}
-use Rattle.ml_cone.specs.Hull.{hull_of, reach_of}
-use Rattle.ml_cone.specs.Cell.{SharedCell, BoundCell}
+use Rattle.ml_cone.specs.Outline.{OverlapIn, RivalBand, BoundBand}
 use Rattle.ml_cone.specs.Slots.{Rival, RivalAllows, IsOwnSlot, IsSlotAmong, rival_at, row, ends, no_slot}
 use Rattle.ml_cone.specs.declared.label.Label.{Label}
 use Rattle.ml_cone.specs.declared.slot.Slot.{Slot}
 use Rattle.ml_conflict.specs.Begin.{SetsNoneUpTo}
 use Rattle.ml_conflict.specs.Carried.{AreAlike}
 use Rattle.ml_store.specs.Rows.{number_at, labels_in}
-use Rattle.ml_store.specs.Search.{IsFoundIn}
 use Rattle.ml_store.specs.declared.row.Row.{Row}
 use Rattle.ml_repair.specs.declared.edit.Moved.{Moved}
 use Rattle.ml_repair.specs.Repair.{Stands, ReachesBand, Counts, present_slots, rival_in, AreEnough}
@@ -81,11 +79,11 @@ covers_beyond a b v u covers =
 abbrev pub FreeLaw : Type 0
 FreeLaw = (low high : Label) → AreRivals low high ⊎ Allows low high (value_of high.max) (value_of low.max)
 
-abbrev pub ShareLaw : Type 0
-ShareLaw = (a b : Label) → AreRivals a b → SharedCell a b
+abbrev pub RivalLaw : Type 0
+RivalLaw = (a b : Label) → AreRivals a b → RivalBand a b
 
 abbrev pub BoundLaw : Type 0
-BoundLaw = (low high : Label) (until bound : Fraction) → IsEnd low bound → IsLess bound (value_of low.max) → IsAtMost until (value_of high.max) → CoversFrom low high until bound → BoundCell low high bound
+BoundLaw = (low high : Label) (until bound : Fraction) → IsEnd low bound → IsLess bound (value_of low.max) → IsAtMost until (value_of high.max) → CoversFrom low high until bound → BoundBand low high bound
 
 abbrev pub BlocksLaw : Type 0
 BlocksLaw = (labels : List Label) (choice : Choice) (j i : ℕ) → j < i → ((d : Label) → IsLess (choice i) (value_of (get_or labels i d).max)) → ((d : Label) → IsLimit (get_or labels i d) (get_or labels j d) (choice j) (choice i)) → Blocks labels choice j i
@@ -93,21 +91,18 @@ BlocksLaw = (labels : List Label) (choice : Choice) (j i : ℕ) → j < i → ((
 abbrev pub SmallerLaw : Type 0
 SmallerLaw = (low high : Label) (u v e f : Fraction) → IsAtMost v u → IsAtMost e f → Allows low high u f → Allows low high v e
 
--- a search that finds the label with its range cut off finds it, in a band that the range reaches
-cut_found : (a b : Label) (u v : Ratio) (a_some : IsLess (value_of a.min) (value_of u)) (a_most : IsAtMost (value_of u) (value_of a.max)) (a_low : u.num ≤ 2 ^ 28 * u.den)
+-- labels that overlap in a band with their ranges cut off overlap there, in a band that the ranges reach
+cut_overlap : (a b : Label) (u v : Ratio) (a_some : IsLess (value_of a.min) (value_of u)) (a_most : IsAtMost (value_of u) (value_of a.max)) (a_low : u.num ≤ 2 ^ 28 * u.den)
     (b_some : IsLess (value_of b.min) (value_of v)) (b_most : IsAtMost (value_of v) (value_of b.max)) (b_low : v.num ≤ 2 ^ 28 * v.den) →
-    SharedCell (cut a u a_some a_most a_low) (cut b v b_some b_most b_low) → (k : ℕ) × IsFoundIn a b k × MeetsBand k (value_of a.min) (value_of u) × ReachesBand k (value_of v)
-unfolding hull_of reach_of
-cut_found a b u v a_some a_most a_low b_some b_most b_low cell =
-    let reaches : 0 < cell.band → 2 ^ cell.band * b.max.den ≤ b.max.num = λ p. far cell.band v b.max (cell.second.meets.reaches p) b_most in (
-      cell.band,
-      record { x = cell.x; y = cell.y; among = cell.first.among; kept = record { low = cell.second.low; meets = record { begins = cell.second.meets.begins; reaches = reaches }; among = cell.second.among } },
-      cell.first.meets,
-      cell.second.meets.reaches,
+    RivalBand (cut a u a_some a_most a_low) (cut b v b_some b_most b_low) → (k : ℕ) × OverlapIn a b k × MeetsBand k (value_of a.min) (value_of u) × ReachesBand k (value_of v)
+unfolding Overlap BoxesOverlap
+cut_overlap a b u v a_some a_most a_low b_some b_most b_low band =
+    let o = band.over in (
+      band.band,
+      record { low = o.low; scale = o.scale; in_band = o.in_band; begins = o.begins; lasts = at_most_trans o.scale (value_of v) (value_of b.max) o.lasts b_most; over = o.over },
+      band.first,
+      band.second.reaches,
     )
-  where
-    far : (k : ℕ) (v m : Ratio) → 2 ^ k * v.den ≤ v.num → IsAtMost (value_of v) (value_of m) → 2 ^ k * m.den ≤ m.num
-    far k v m h le = reach k (value_of v) (value_of m) h le
 
 -- what is cut off counts for nothing in what the other allows it
 cut_allows : (a b : Label) (u v : Ratio) (a_some : IsLess (value_of a.min) (value_of u)) (a_most : IsAtMost (value_of u) (value_of a.max)) (a_low : u.num ≤ 2 ^ 28 * u.den)
@@ -125,10 +120,10 @@ empty_allows a b u v h s scale one other over =
       | inr none ↦ let t = at_most_trans v (value_of b.min) s none other.0 in let l = other.1 in omega arith
     ]
 
-module _ (free_law : FreeLaw) (share_law : ShareLaw) (bound_law : BoundLaw) (blocks_law : BlocksLaw) where
-  -- a label allows another its end, where it does so wherever a search finds it
+module _ (free_law : FreeLaw) (rival_law : RivalLaw) (bound_law : BoundLaw) (blocks_law : BlocksLaw) where
+  -- a label allows another its end, where it does so wherever they overlap in a band
   unfound_allows : (a b : Label) (u v : Ratio) → IsAtMost (value_of u) (value_of a.max) → IsAtMost (value_of v) (value_of b.max) →
-      ((k : ℕ) → IsFoundIn a b k → MeetsBand k (value_of a.min) (value_of u) → ReachesBand k (value_of v) → Allows a b (value_of v) (value_of u)) → Allows a b (value_of v) (value_of u)
+      ((k : ℕ) → OverlapIn a b k → MeetsBand k (value_of a.min) (value_of u) → ReachesBand k (value_of v) → Allows a b (value_of v) (value_of u)) → Allows a b (value_of v) (value_of u)
   unfound_allows a b u v a_most b_most found_allows =
       elim (cases_lt (a.min.num * u.den) (u.num * a.min.den)) [
         | inr none ↦ empty_allows a b (value_of u) (value_of v) (inl none)
@@ -139,7 +134,7 @@ module _ (free_law : FreeLaw) (share_law : ShareLaw) (bound_law : BoundLaw) (blo
               let b_low = low_end b v b_most in
               elim (free_law (cut a u a_some a_most a_low) (cut b v b_some b_most b_low)) [
                 | inl rivals ↦
-                    let found = cut_found a b u v a_some a_most a_low b_some b_most b_low (share_law (cut a u a_some a_most a_low) (cut b v b_some b_most b_low) rivals) in
+                    let found = cut_overlap a b u v a_some a_most a_low b_some b_most b_low (rival_law (cut a u a_some a_most a_low) (cut b v b_some b_most b_low) rivals) in
                     found_allows found.0 found.1 found.2 found.3
                 | inr allows ↦ cut_allows a b u v a_some a_most a_low b_some b_most b_low allows
               ]
@@ -150,17 +145,17 @@ module _ (free_law : FreeLaw) (share_law : ShareLaw) (bound_law : BoundLaw) (blo
   two v u zero = v
   two v u (suc n) = u
 
-  -- a label sets another no limit below the maximum, where it sets none wherever a search finds it
+  -- a label sets another no limit below the maximum, where it sets none wherever they overlap in a band
   unfound_no_limit : (a b : Label) (u v : Ratio) → IsLess (value_of u) (value_of a.max) → IsAtMost (value_of v) (value_of b.max) →
-      ((k : ℕ) → IsFoundIn a b k → MeetsBand k (value_of a.min) (value_of u) → ReachesBand k (value_of v) → ¬ (IsLimit a b (value_of v) (value_of u))) → ¬ (IsLimit a b (value_of v) (value_of u))
+      ((k : ℕ) → OverlapIn a b k → MeetsBand k (value_of a.min) (value_of u) → ReachesBand k (value_of v) → ¬ (IsLimit a b (value_of v) (value_of u))) → ¬ (IsLimit a b (value_of v) (value_of u))
   unfolding two
   unfound_no_limit a b u v below b_most found_none limit =
       let blocks = blocks_law (b ∷ a ∷ []) (two (value_of v) (value_of u)) 0 1 (omega arith) (λ d. below) (λ d. limit) a in
-      let cell = bound_law a b (value_of v) (value_of u) limit.is_end below b_most blocks.2 in
-      found_none cell.band (record { x = cell.x; y = cell.y; among = cell.first.among; kept = cell.second }) (record { begins = cell.first.meets.begins; reaches = λ p. cell.in_band.from p })
-      (λ p. reach cell.band (value_of u) (value_of v) (cell.in_band.from p) (covers_beyond a b (value_of v) (value_of u) blocks.2)) limit
+      let band = bound_law a b (value_of v) (value_of u) limit.is_end below b_most blocks.2 in
+      found_none band.band band.over (record { begins = band.first.begins; reaches = λ p. band.in_band.from p })
+      (λ p. reach band.band (value_of u) (value_of v) (band.in_band.from p) (covers_beyond a b (value_of v) (value_of u) blocks.2)) limit
 
-module _ (free_law : FreeLaw) (share_law : ShareLaw) (bound_law : BoundLaw) (blocks_law : BlocksLaw) (smaller_law : SmallerLaw) (upto_law : UptoLaw) (carried_law : CarriedLaw) (joined_law : JoinedLaw)
+module _ (free_law : FreeLaw) (rival_law : RivalLaw) (bound_law : BoundLaw) (blocks_law : BlocksLaw) (smaller_law : SmallerLaw) (upto_law : UptoLaw) (carried_law : CarriedLaw) (joined_law : JoinedLaw)
     (rows : List Row) (moved : List Moved) (low : Label) (at : ℕ) (comes : Bool) (i : ℕ) (places : List ℕ) (slot : Slot) (in' : i < length rows)
     (ends_in : (d : Label) (j : ℕ) → Stands comes true at i j → IsEnd (get_or (labels_in rows) j d) (ends (present_slots rows moved) j))
     (up : IsStrictlyIncreasing places) (are : AreEnough rows moved low at comes i places) (among : IsSlotAmong low (map (rival_in rows moved low) places) slot) where
@@ -212,20 +207,20 @@ module _ (free_law : FreeLaw) (share_law : ShareLaw) (bound_law : BoundLaw) (blo
   bound_low : IsAtMost (value_of are.bound) (value_of low.max)
   bound_low = elim are.bound_is [ inl most ↦ rw most (omega arith) | inr some ↦ (some.2 low).is_end.1 ]
 
-  -- what a search finds up to the end counts
-  counted : (d : Label) (j : ℕ) → Stands comes true at i j → (k : ℕ) → IsFoundIn low (get_or (labels_in rows) j d) k → MeetsBand k (value_of low.min) (value_of slot.until) → ReachesBand k (ends (present_slots rows moved) j) →
+  -- what is overlapped up to the end counts
+  counted : (d : Label) (j : ℕ) → Stands comes true at i j → (k : ℕ) → OverlapIn low (get_or (labels_in rows) j d) k → MeetsBand k (value_of low.min) (value_of slot.until) → ReachesBand k (ends (present_slots rows moved) j) →
       Counts rows moved low are.bound places j
   counted d j stands k found meets reaches =
       let many = length-labels rows in
       let lt : j < i = stands.0 in
-      are.whole j k stands (omega arith, λ e. subst (λ (a : Label). IsFoundIn low a k) (get_or_default (labels_in rows) j d e (omega arith)) found)
+      are.whole j k stands (omega arith, λ e. subst (λ (a : Label). OverlapIn low a k) (get_or_default (labels_in rows) j d e (omega arith)) found)
       (record { begins = meets.begins; reaches = λ p. reach k (value_of slot.until) (value_of are.bound) (meets.reaches p) under_bound }) reaches
 
   allows_unfound : (d : Label) (j : ℕ) → Stands comes true at i j → ¬ (Contains places j) → RivalAllows low (value_of slot.until) (others d j)
   unfolding others
   allows_unfound d j stands none =
       let u = ends (present_slots rows moved) j in
-      unfound_allows free_law share_law bound_law blocks_law low (get_or (labels_in rows) j d) slot.until (get_or (present_slots rows moved) j no_slot).until among.is_end.1 (ends_in d j stands).1
+      unfound_allows free_law rival_law bound_law blocks_law low (get_or (labels_in rows) j d) slot.until (get_or (present_slots rows moved) j no_slot).until among.is_end.1 (ends_in d j stands).1
       (λ k found meets reaches. elim (counted d j stands k found meets reaches) [
         | inl there ↦ absurd (none there)
         | inr quiet ↦ smaller_law low (get_or (labels_in rows) j d) u u (value_of slot.until) (value_of are.bound) (omega arith) under_bound (upto_law low (get_or (labels_in rows) j d) u (value_of are.bound) bound_low (quiet d))
@@ -234,7 +229,7 @@ module _ (free_law : FreeLaw) (share_law : ShareLaw) (bound_law : BoundLaw) (blo
   limits_unfound : (d : Label) (j : ℕ) → Stands comes true at i j → ¬ (Contains places j) → IsLess (value_of slot.until) (value_of low.max) → ¬ (IsLimit low (others d j).label (value_of (others d j).until) (value_of slot.until))
   unfolding others
   limits_unfound d j stands none below =
-      unfound_no_limit free_law share_law bound_law blocks_law low (get_or (labels_in rows) j d) slot.until (get_or (present_slots rows moved) j no_slot).until below (ends_in d j stands).1
+      unfound_no_limit free_law rival_law bound_law blocks_law low (get_or (labels_in rows) j d) slot.until (get_or (present_slots rows moved) j no_slot).until below (ends_in d j stands).1
       (λ k found meets reaches. elim (counted d j stands k found meets reaches) [
         | inl there ↦ absurd (none there)
         | inr quiet ↦ λ limit. (let above : IsLess (value_of are.bound) (value_of slot.until) = quiet d (value_of slot.until) limit below in let under = under_bound in omega arith)

@@ -6,7 +6,7 @@ use Rattle.std.proofs.lemmas.Bool.{cases_lt}
 use Rattle.std.proofs.lemmas.Nat.{mul-le}
 use Rattle.std.proofs.lemmas.List.{take_more, get_or_default}
 use Rattle.std.proofs.lemmas.List.Elements.{Contains-append_left, Contains-push, Contains-push_cases}
-use Rattle.ml_ratio.specs.Fraction.{Fraction, value_of, IsLess, IsAtMost}
+use Rattle.ml_ratio.specs.Fraction.{Fraction, value_of, IsAtMost}
 use Rattle.ml_ratio.specs.Band.{IsInBand, MeetsBand}
 use Rattle.ml_ratio.specs.declared.ratio.Ratio.{Ratio}
 use Rattle.ml_ratio.proofs.Fractions.{at_most_less, at_most_trans}
@@ -18,7 +18,7 @@ use Rattle.ml_conflict.specs.Begin.{SetsNoneUpTo}
 use Rattle.ml_store.specs.Rows.{labels_in, slots_in}
 use Rattle.ml_store.specs.declared.row.Row.{Row}
 use Rattle.ml_repair.specs.declared.edit.Moved.{Moved}
-use Rattle.ml_repair.specs.Roster.{IsFoundAt}
+use Rattle.ml_repair.specs.Roster.{OverlapsAt}
 use Rattle.ml_repair.specs.Repair.{Stands, IsBoundBy, ReachesBand, AreReaching, Counts, AreEnough, AreSifted, present_slots}
 
 -- ---- bands
@@ -157,7 +157,7 @@ module _ (rows : List Row) (moved : List Moved) (low : Label) where
 pub record GatheredBelow (rows : List Row) (moved : List Moved) (low : Label) (at : ℕ) (comes : Bool) (i first band : ℕ) (bound : Ratio) (places : List ℕ) : Type 0 where
   pub stand : (p : ℕ) → Contains places p → Stands comes true at i p
   pub bound_is : IsBoundBy rows moved low places bound
-  pub whole : (p k : ℕ) → Stands comes true at i p → IsFoundAt rows low k p → ReachesBand k (ends (present_slots rows moved) p) → first ≤ k → k < band → Counts rows moved low bound places p
+  pub whole : (p k : ℕ) → Stands comes true at i p → OverlapsAt rows low k p → ReachesBand k (ends (present_slots rows moved) p) → first ≤ k → k < band → Counts rows moved low bound places p
 
 module _ (rows : List Row) (moved : List Moved) (low : Label) (at : ℕ) (comes : Bool) (i first : ℕ) where
   pub gathered_none : GatheredBelow rows moved low at comes i first first low.max []
@@ -176,7 +176,7 @@ module _ (rows : List Row) (moved : List Moved) (low : Label) (at : ℕ) (comes 
       | inl less ↦ counts_more rows moved low bound next places more are.kept are.upto p (so_far.whole p k s f r a less)
       | inr here ↦
           let e : k ≡ band = omega arith in
-          are.whole p (all.whole p (subst (λ (b : ℕ). IsFoundAt rows low b p) e f) (subst (λ (b : ℕ). ReachesBand b (ends (present_slots rows moved) p)) e r)) s
+          are.whole p (all.whole p (subst (λ (b : ℕ). OverlapsAt rows low b p) e f) (subst (λ (b : ℕ). ReachesBand b (ends (present_slots rows moved) p)) e r)) s
     ];
   }
 
@@ -189,7 +189,7 @@ module _ (rows : List Row) (moved : List Moved) (low : Label) (at : ℕ) (comes 
     whole = λ p k s f meets r.
         let from = band_from (value_of low.min) (value_of bound) k first meets starts in
         let upto = band_up_to (value_of low.min) (value_of bound) k b meets ends' in
-        let few : k < 28 = (f.1 low).kept.low in
+        let few : k < 28 = (f.1 low).low in
         let below : k < band = elim stop [ inl h ↦ omega arith | inr h ↦ omega arith ] in
         counts_more rows moved low bound bound places sorted (λ q h. (same q).1 h) (omega arith) p (done.whole p k s f r from below);
   }

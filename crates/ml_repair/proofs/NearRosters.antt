@@ -1,6 +1,6 @@
 -- What a search finds in a list of which one row may go, and into which one may come.
 use Rattle.std.proofs.Common.{◌≡◌, ◌≢◌, ℕ, zero, suc, ◌+◌, ◌-◌, ◌<◌, ◌≤◌, List, [], ◌∷◌, length, get_or, take, Contains, ◌⊎◌, inl, inr, refl, sym, ap, ◌∙◌, subst, arith, Option, Some, None}
-use Rattle.std.specs.Prelude.{◌↔◌, insert, All, IfSome, IsSome}
+use Rattle.std.specs.Prelude.{insert, All, IfSome, IsSome}
 use denote.Ref.{Bor}
 use Rattle.std.proofs.lemmas.Bool.{cases_lt, cases_eq, false≢true}
 use Rattle.std.proofs.lemmas.List.{get_or_default, get_or-map, length-map, take_more, take_all}
@@ -9,16 +9,17 @@ use Rattle.std.proofs.lemmas.List.Elements.{Contains-append_left, Contains-push,
 use Rattle.ml_ratio.specs.Fraction.{value_of, IsAtMost}
 use Rattle.ml_ratio.specs.declared.ratio.Ratio.{Ratio}
 use Rattle.ml_cone.specs.Slots.{no_slot}
+use Rattle.ml_cone.specs.Outline.{OverlapIn}
 use Rattle.ml_cone.specs.declared.label.Label.{Label}
 use Rattle.ml_cone.specs.declared.slot.Slot.{Slot}
 use Rattle.ml_store.specs.Rows.{numbers_in, labels_in, slots_in, IsFresh, HaveOwnNumbers}
-use Rattle.ml_store.specs.Search.{IsFoundIn, IsFoundFrom, IsNumberWith, Gathers}
+use Rattle.ml_store.specs.Search.{IsFoundIn, IsNumberWith, Gathers, AreOverlapping}
 use Rattle.ml_store.specs.Table.{IsRowAt}
 use Rattle.ml_store.specs.declared.row.Row.{Row}
 use Rattle.ml_store.proofs.Fresh.{differ_inserted, differ_removed}
 use Rattle.ml_store.proofs.Lists.{added_remove, added_insert, added_has, all_longer, all_shorter, map_insert, map_remove}
 use Rattle.ml_store.proofs.Naming.{number_read}
-use Rattle.ml_repair.specs.Roster.{left_rows, joined_rows, AreNumbered, AreFound, AreFoundFrom, PlacesCame}
+use Rattle.ml_repair.specs.Roster.{left_rows, joined_rows, AreNumbered, AreFound, AreOverlapped, PlacesCame}
 use Rattle.ml_repair.proofs.Rosters.{joined_above, left_most}
 
 pub row_there : (rows : List Row) (j : ℕ) → j < length rows → (r : Row) × (r ≡ get_or rows j r)
@@ -66,7 +67,7 @@ come_within None at _ rows le some = absurd (false≢true some)
 come_within (Some row) at gone rows le some = let long = length-insert (left_rows gone rows) at row.now le in omega arith
 
 module _ (come : Option (Bor Row)) (at : ℕ) (gone : Option ℕ) (rows : List Row) (Q : Row → Type 0) (numbers before middle after : List ℕ)
-    (in' : IfSome gone (λ g. g < length rows)) (le : IfSome come (λ row. at ≤ length (left_rows gone rows))) (found : (n : ℕ) → Contains numbers n ↔ IsNumberWith Q rows n)
+    (in' : IfSome gone (λ g. g < length rows)) (le : IfSome come (λ row. at ≤ length (left_rows gone rows))) (found : (r : Row) → Contains rows r → Q r → Contains numbers r.number)
     (came : PlacesCame (joined_rows come at (left_rows gone rows)) numbers before middle) (last : Gathers (λ p. IsSome come × (p ≡ at)) middle after) where
   -- what came in are places of the list
   place_there : (p : ℕ) → Contains after p → Contains before p ⊎ (p < length (joined_rows come at (left_rows gone rows)))
@@ -86,7 +87,7 @@ module _ (come : Option (Bor Row)) (at : ℕ) (gone : Option ℕ) (rows : List R
         | inl one ↦ (last p).1 (inr one)
         | inr some ↦
             let r : Row = some.0 in
-            let number = (found r.number).1 (r, some.1, refl, has r some.2) in
+            let number = found r some.1 (has r some.2) in
             (last p).1 (inl ((came p).1 (inr (r.number, number, (lt, number_read (joined_rows come at (left_rows gone rows)) p r lt some.2)))))
       ]
 
@@ -96,7 +97,7 @@ pub near_found : (come : Option (Bor Row)) (at : ℕ) (gone : Option ℕ) (rows 
     AreFound (joined_rows come at (left_rows gone rows)) a k before after
 near_found come at gone rows a k numbers before middle after in' le found came last =
     let all : List Row = joined_rows come at (left_rows gone rows) in
-    let just : (n : ℕ) → Contains numbers n ↔ IsNumberWith (λ r. IsFoundIn a r.label k) rows n = λ n. (λ h. elim ((found n).0 h) [ inl none ↦ absurd (let lt : none.0 < 0 = none.1 in omega arith) | inr is ↦ is ], λ h. (found n).1 (inr h)) in
+    let just : (r : Row) → Contains rows r → IsFoundIn a r.label k → Contains numbers r.number = λ r there has. (found r.number).1 (inr (r, there, refl, has)) in
     record {
       kept = λ p h. (last p).1 (inl ((came p).1 (inl h)));
       sound = place_there come at gone rows (λ r. IsFoundIn a r.label k) numbers before middle after in' le just came last;
@@ -104,21 +105,22 @@ near_found come at gone rows a k numbers before middle after in' le found came l
           (λ r read. subst (λ (b : Label). IsFoundIn a b k) (label_read all p r r.label h.0 read) (h.1 r.label));
     }
 
-pub near_from_found : (come : Option (Bor Row)) (at : ℕ) (gone : Option ℕ) (rows : List Row) (a : Label) (k : ℕ) (scale : Ratio) (numbers middle after : List ℕ) →
+pub overlapping_found : (come : Option (Bor Row)) (at : ℕ) (gone : Option ℕ) (rows : List Row) (a : Label) (k : ℕ) (scale : Ratio) (numbers middle after : List ℕ) →
     IfSome gone (λ g. g < length rows) → IfSome come (λ row. at ≤ length (left_rows gone rows)) →
-    ((n : ℕ) → Contains numbers n ↔ IsNumberWith (IsFoundFrom a k scale) rows n) → PlacesCame (joined_rows come at (left_rows gone rows)) numbers [] middle → Gathers (λ p. IsSome come × (p ≡ at)) middle after →
-    AreFoundFrom (joined_rows come at (left_rows gone rows)) a k scale after
-near_from_found come at gone rows a k scale numbers middle after in' le found came last =
+    AreOverlapping rows a k scale numbers → PlacesCame (joined_rows come at (left_rows gone rows)) numbers [] middle → Gathers (λ p. IsSome come × (p ≡ at)) middle after →
+    AreOverlapped (joined_rows come at (left_rows gone rows)) a k scale after
+overlapping_found come at gone rows a k scale numbers middle after in' le found came last =
     let all : List Row = joined_rows come at (left_rows gone rows) in
+    let just : (r : Row) → Contains rows r → OverlapIn a r.label k × IsAtMost (value_of scale) (value_of r.slot.until) → Contains numbers r.number = λ r there has. found r there has.0 has.1 in
     record {
       within = λ j d lt.
-          elim (place_there come at gone rows (IsFoundFrom a k scale) numbers [] middle after in' le found came last (get_or after j d) (j, lt, get_or_default after j (get_or after j d) d lt)) [
+          elim (place_there come at gone rows (λ r. OverlapIn a r.label k × IsAtMost (value_of scale) (value_of r.slot.until)) numbers [] middle after in' le just came last (get_or after j d) (j, lt, get_or_default after j (get_or after j d) d lt)) [
             | inl none ↦ absurd (let no : none.0 < 0 = none.1 in omega arith)
             | inr is ↦ is
           ];
-      whole = λ p h lasts. place_found come at gone rows (IsFoundFrom a k scale) numbers [] middle after in' le found came last p h.0
+      whole = λ p h lasts. place_found come at gone rows (λ r. OverlapIn a r.label k × IsAtMost (value_of scale) (value_of r.slot.until)) numbers [] middle after in' le just came last p h.0
           (λ r read. (
-            subst (λ (b : Label). IsFoundIn a b k) (label_read all p r r.label h.0 read) (h.1 r.label),
+            subst (λ (b : Label). OverlapIn a b k) (label_read all p r r.label h.0 read) (h.1 r.label),
             subst (λ (s : Slot). IsAtMost (value_of scale) (value_of s.until)) (slot_read all p r no_slot h.0 read) lasts,
           ));
     }

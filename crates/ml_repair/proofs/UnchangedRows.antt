@@ -5,14 +5,11 @@ use Rattle.std.specs.Cmp.Lexicographic.{pointwise}
 use Rattle.std.specs.Option.{option_map}
 use Rattle.ml_ratio.specs.contracts.ratio.Ratio as a_ratio
 use Rattle.ml_cone.specs.contracts.label.Label as a_label
-use Rattle.ml_cone.specs.declared.label.Label.{Label}
-use Rattle.ml_cone.specs.declared.slot.Span.{Span}
-use Rattle.ml_ratio.specs.declared.ratio.Ratio.{Ratio}
 use Rattle.ml_watch.specs.declared.change.Change.{Change}
 use Rattle.ml_store.specs.Rows.{labels_in, slots_in}
 use Rattle.ml_store.specs.declared.row.Row.{Row}
 use Rattle.ml_store.proofs.ByName.{ids_decide}
-use Rattle.ml_repair.specs.Changes.{Ranged, IsStateOf, IsStanding, IsChange, AreChanges, IsChanged, IsTold, StandsAmong, span_of}
+use Rattle.ml_repair.specs.Changes.{Ranged, IsStateOf, IsStanding, IsChange, AreChanges, IsChanged, IsTold, StandsAmong}
 use Rattle.ml_repair.specs.Settled.{IsSettled}
 use Rattle.ml_repair.proofs.Changing.{ranged, standing, standing_row, no_row, is_absent}
 use Rattle.ml_repair.proofs.Deciding.{same_or_not}

@@ -4,13 +4,14 @@ use Rattle.std.proofs.lemmas.Bool.{cases_lt, cases_eq}
 use Rattle.std.proofs.lemmas.List.{get_or_default}
 use Rattle.ml_ratio.specs.Fraction.{value_of}
 use Rattle.ml_ratio.specs.Band.{IsInBand}
+use Rattle.ml_cone.specs.Rivals.{AreRivals}
+use Rattle.ml_cone.specs.Cell.{SharedCell}
 use Rattle.ml_cone.specs.declared.label.Label.{Label}
 use Rattle.ml_store.specs.Rows.{labels_in}
 use Rattle.ml_store.specs.declared.row.Row.{Row}
 use Rattle.ml_repair.specs.Roster.{AreFound, IsFoundAt}
 use Rattle.ml_repair.specs.Repair.{AreSuspects, IsWokenBy}
 use Rattle.ml_repair.specs.Touched.{IsRivalBefore}
-use Rattle.ml_repair.proofs.Enough.{ShareLaw}
 use Rattle.ml_repair.proofs.Gathering.{band_from, band_up_to}
 use Rattle.ml_repair.proofs.Present.{length-labels}
 
@@ -34,6 +35,9 @@ suspects_more rows a first band places more so_far are = record {
     | inr here ↦ let e : k ≡ band = omega arith in are.whole p (subst (λ (b : ℕ). IsFoundAt rows a b p) e f)
   ];
 }
+
+abbrev pub ShareLaw : Type 0
+ShareLaw = (a b : Label) → AreRivals a b → SharedCell a b
 
 pub suspects_all : ShareLaw → (rows : List Row) (a : Label) (first band last : ℕ) (places : List ℕ) → SuspectsBelow rows a first band places → IsInBand (value_of a.min) first → IsInBand (value_of a.max) last → (last < band) ⊎ (28 ≤ band) → AreSuspects rows a places
 suspects_all law rows a first band last places done starts ends' stop = record {

@@ -13,7 +13,7 @@ use Rattle.ml_store.specs.Rows.{number_at, labels_in, slots_in}
 use Rattle.ml_store.specs.declared.row.Row.{Row}
 use Rattle.ml_repair.specs.declared.edit.Moved.{Moved}
 use Rattle.ml_repair.specs.Plan.{moved_rows, slot_for}
-use Rattle.ml_repair.specs.Roster.{IsFoundAt}
+use Rattle.ml_repair.specs.Roster.{OverlapsAt}
 use Rattle.ml_repair.specs.Touched.{IsRivalBefore}
 
 -- the slots of the rows, with the new ones
@@ -43,22 +43,22 @@ IsBoundBy rows moved low places bound =
 abbrev pub ReachesBand : ℕ → Fraction → Type 0
 ReachesBand k until = 0 < k → 2 ^ k * until.den ≤ until.num
 
--- places of the list, among them each that a search for the label in band k finds, and whose present active range reaches into the band
+-- places of the list, among them each of a label that the label overlaps in band k, and whose present active range reaches into the band
 pub record AreReaching (rows : List Row) (moved : List Moved) (low : Label) (k : ℕ) (places : List ℕ) : Type 0 where
   pub within : All (λ p. p < length rows) places
-  pub whole : (p : ℕ) → IsFoundAt rows low k p → ReachesBand k (ends (present_slots rows moved) p) → Contains places p
+  pub whole : (p : ℕ) → OverlapsAt rows low k p → ReachesBand k (ends (present_slots rows moved) p) → Contains places p
 
 -- a place counts: it is among the places, or its label sets no limit up to the bound
 abbrev pub Counts : List Row → List Moved → Label → Ratio → List ℕ → ℕ → Type 0
 Counts rows moved low bound places p =
     Contains places p ⊎ ((d : Label) → SetsNoneUpTo low (slice_index_or (labels_in rows) p d) (ends (present_slots rows moved) p) (value_of bound))
 
--- places before that of the label are enough for its slot: of those that a search finds in a band from its minimum up to some bound, and that reach into the band, each counts
+-- places before that of the label are enough for its slot: of those that it overlaps in a band from its minimum up to some bound, and that reach into the band, each counts
 pub record AreEnough (rows : List Row) (moved : List Moved) (low : Label) (at : ℕ) (comes : Bool) (i : ℕ) (places : List ℕ) : Type 0 where
   pub stand : (p : ℕ) → Contains places p → Stands comes true at i p
   pub bound : Ratio
   pub bound_is : IsBoundBy rows moved low places bound
-  pub whole : (p k : ℕ) → Stands comes true at i p → IsFoundAt rows low k p → MeetsBand k (value_of low.min) (value_of bound) → ReachesBand k (ends (present_slots rows moved) p) →
+  pub whole : (p k : ℕ) → Stands comes true at i p → OverlapsAt rows low k p → MeetsBand k (value_of low.min) (value_of bound) → ReachesBand k (ends (present_slots rows moved) p) →
       Counts rows moved low bound places p
 
 -- some of the places that were found came in, and the bound went down to their limits: only such as stand before that of the label, and each of these counts from then on

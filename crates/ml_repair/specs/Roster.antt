@@ -4,6 +4,7 @@ use denote.Ref.{Bor}
 use Rattle.ml_ratio.specs.Fraction.{value_of, IsAtMost}
 use Rattle.ml_ratio.specs.declared.ratio.Ratio.{Ratio}
 use Rattle.ml_cone.specs.Slots.{ends}
+use Rattle.ml_cone.specs.Outline.{OverlapIn}
 use Rattle.ml_store.specs.Rows.{numbers_in, labels_in, slots_in, HaveOwnNumbers}
 use Rattle.ml_store.specs.Search.{IsFoundIn}
 use Rattle.ml_store.specs.Table.{IsRowAt}
@@ -36,10 +37,14 @@ pub record AreFound (rows : List Row) (a : Label) (k : ℕ) (before after : List
   pub sound : (p : ℕ) → Contains after p → Contains before p ⊎ (p < length rows)
   pub whole : (p : ℕ) → IsFoundAt rows a k p → Contains after p
 
--- places of the list, among them each that a search for the label in band k finds, and whose own slot ends at the scale at the earliest
-pub record AreFoundFrom (rows : List Row) (a : Label) (k : ℕ) (scale : Ratio) (places : List ℕ) : Type 0 where
+-- the label overlaps that at the place in band k
+abbrev pub OverlapsAt : List Row → Label → ℕ → ℕ → Type 0
+OverlapsAt rows a k p = (p < length rows) × ((d : Label) → OverlapIn a (slice_index_or (labels_in rows) p d) k)
+
+-- places of the list, among them each of a label that the label overlaps in band k, and whose own slot ends at the scale at the earliest
+pub record AreOverlapped (rows : List Row) (a : Label) (k : ℕ) (scale : Ratio) (places : List ℕ) : Type 0 where
   pub within : All (λ p. p < length rows) places
-  pub whole : (p : ℕ) → IsFoundAt rows a k p → IsAtMost (value_of scale) (ends (slots_in rows) p) → Contains places p
+  pub whole : (p : ℕ) → OverlapsAt rows a k p → IsAtMost (value_of scale) (ends (slots_in rows) p) → Contains places p
 
 -- the places of the numbers came in, and nothing else changed
 abbrev pub PlacesCame : List Row → List ℕ → List ℕ → List ℕ → Type 0

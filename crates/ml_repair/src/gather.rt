@@ -61,7 +61,7 @@ fn last_scale(moves: &Moves, band: u8) -> Ratio
     }
 }
 
-// Places, among them those that a search for the label finds in the band and that reach into it.
+// Places, among them those of the labels that the label overlaps in the band and that reach into it.
 fn search(
     alloc: Global,
     roster: &Roster<'_>,
@@ -72,7 +72,7 @@ fn search(
     requires { band ≤ 27 }
     ensures { IfOk result (AreReaching roster.now moves.now low.now band) }
 {
-    roster.near_from(alloc, low, band, &last_scale(moves, band))
+    roster.overlapping(alloc, low, band, &last_scale(moves, band))
 }
 
 // A place comes in where it stands before `i` and its label sets a limit up to the bound; that limit is

@@ -3,7 +3,7 @@ ghost use Rattle.std.specs.Prelude.{ℕ, ◌≡◌, ◌+◌, ◌<◌, ◌≤◌,
 ghost use Rattle.ml_store.specs.Rows.{IsFresh};
 ghost use Rattle.ml_store.specs.Search.{Gathers};
 ghost use Rattle.ml_store.specs.Table.{IsRowAt};
-ghost use Rattle.ml_repair.specs.Roster.{left_rows, joined_rows, AreNumbered, AreFound, AreFoundFrom, PlacesCame, IsPlaceWithout};
+ghost use Rattle.ml_repair.specs.Roster.{left_rows, joined_rows, AreNumbered, AreFound, AreOverlapped, PlacesCame, IsPlaceWithout};
 
 use ml_cone::Label;
 use ml_ratio::{Ratio, Seq};
@@ -280,12 +280,13 @@ impl<'a> Roster<'a> {
         push_places(self, numbers.as_slice(), out)?;
         push_come(self.come, self.at, out)
     }
-    /// Places, among them those of all labels that are kept in a cell of the label's hull in the band, which
-    /// is at most 27, and whose own slots end at the scale at the earliest.
+
+    /// Places, among them those of all labels that the label overlaps in the band, which is at most 27, and
+    /// whose own slots end at the scale at the earliest.
     ///
     /// # Errors
     /// Want of memory.
-    pub fn near_from(
+    pub fn overlapping(
         &self,
         alloc: Global,
         label: &Label,
@@ -293,9 +294,9 @@ impl<'a> Roster<'a> {
         scale: &Ratio,
     ) -> Result<Seq<u32>, AllocError>
         requires { band ≤ 27 }
-        ensures { IfOk result (AreFoundFrom self.now label.now band scale.now) }
+        ensures { IfOk result (AreOverlapped self.now label.now band scale.now) }
     {
-        let numbers = self.store.near_from(alloc, label, band, scale)?;
+        let numbers = self.store.overlapping(alloc, label, band, scale)?;
         let mut places = Seq::new(alloc);
         push_places(self, numbers.as_slice(), &mut places)?;
         push_come(self.come, self.at, &mut places)?;

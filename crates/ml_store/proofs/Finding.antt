@@ -3,21 +3,25 @@ use Rattle.std.proofs.Common.{◌≡◌, ℕ, List, [], get_or, Contains, inl, i
 use Rattle.std.specs.Prelude.{◌↔◌, All, OnOk, IfOk}
 use Rattle.std.proofs.lemmas.List.Kept.{AllPairs-from_increasing}
 use Rattle.std.proofs.lemmas.List.Elements.{Contains-append_left, Contains-append_right, Contains-append_cases, All-contains}
-use Rattle.ml_ratio.specs.Fraction.{value_of, IsAtMost}
+use Rattle.ml_ratio.specs.Fraction.{value_of}
 use Rattle.ml_ratio.specs.declared.ratio.Ratio.{Ratio}
 use Rattle.ml_spans.specs.Spans.{entry_of}
 use Rattle.ml_cone.specs.Choice.{IsEnd, ActiveUntil}
 use Rattle.ml_cone.specs.Cell.{IsInCell}
 use Rattle.ml_cone.specs.Shown.{IsInView}
+use Rattle.ml_cone.specs.Outline.{OverlapIn, IsWithin, IsKeptAmong}
+use Rattle.ml_cone.specs.declared.cells.Cells.{Cells}
 use Rattle.ml_cone.specs.declared.label.Label.{Label}
+use Rattle.ml_cone.specs.declared.outline.Outline.{Outline}
 use Rattle.ml_cone.specs.declared.view.View.{View}
 use Rattle.ml_grid.specs.Cell.{cell_of}
 use Rattle.ml_grid.specs.Entry.{Entry, AreEntriesOf}
-use Rattle.ml_grid.specs.Found.{IsNumberOf, IsInHull, IsInHullFrom, IsSeen, Appends}
+use Rattle.ml_grid.specs.Found.{IsNumberOf, IsInHull, IsSeen, Appends}
+use Rattle.ml_grid.specs.Column.{IsAmongFrom}
 use Rattle.ml_grid.specs.Near.{IsNear}
 use Rattle.ml_store.specs.Rows.{HaveOwnNumbers}
-use Rattle.ml_store.specs.Search.{IsFoundIn, IsFoundFrom, IsNumberWith, Gathers, AreNearNumbers}
-use Rattle.ml_store.specs.Store.{IsIndex, IsEntryIn}
+use Rattle.ml_store.specs.Search.{IsFoundIn, IsNumberWith, Gathers, AreOverlapping, AreNearNumbers}
+use Rattle.ml_store.specs.Store.{IsIndex, IsEntryIn, AreWithin}
 use Rattle.ml_store.specs.declared.row.Row.{Row}
 use Rattle.ml_store.proofs.Lists.{added_remove}
 use Rattle.ml_store.proofs.Fresh.{fresh_removed}
@@ -63,20 +67,13 @@ module _ (rows : List Row) (entries : List Entry) (kept : IsIndex IsEntryIn rows
       let e = entry_of (cell_of k f.x f.y) r.slot.until r.number in
       (e, (kept e).1 (r, h.1, record { in_cell = f.kept; its_end = refl; its_number = refl }), h.2, (refl, f.among))
 
-  -- the same of those that are active up to a scale
-  pub found_from : (a : Label) (k : ℕ) (scale : Ratio) (n : ℕ) → IsNumberOf (IsInHullFrom a k scale) entries n ↔ IsNumberWith (IsFoundFrom a k scale) rows n
-  found_from a k scale n = (
-    λ h.
-        let e = h.0 in
-        let some = (kept e).0 h.1 in
-        let r : Row = some.0 in
-        (r, some.1, sym some.2.its_number ∙ h.2, (found_here a k e r h.3.0 some.2, subst (λ (u : Ratio). IsAtMost (value_of scale) (value_of u)) some.2.its_end h.3.1)),
-    λ h.
-        let r : Row = h.0 in
-        let f = h.3.0 in
-        let e = entry_of (cell_of k f.x f.y) r.slot.until r.number in
-        (e, (kept e).1 (r, h.1, record { in_cell = f.kept; its_end = refl; its_number = refl }), h.2, ((refl, f.among), h.3.1)),
-  )
+  -- where labels within an outline are kept that a label overlaps, their numbers are found
+  pub found_overlapping : (o : Outline) → AreWithin o rows → (a : Label) (k : ℕ) (scale : Ratio) (cells : Cells) → ((b : Label) → IsWithin o b → OverlapIn a b k → IsKeptAmong cells b) →
+      (numbers : List ℕ) → ((n : ℕ) → Contains numbers n ↔ IsNumberOf (IsAmongFrom cells scale) entries n) → AreOverlapping rows a k scale numbers
+  found_overlapping o within a k scale cells whole numbers found r there over lasts =
+      let f = whole r.label (All-contains (λ (s : Row). IsWithin o s.label) rows r within there) over in
+      let e = entry_of (cell_of cells.band f.x f.y) r.slot.until r.number in
+      (found r.number).1 (e, (kept e).1 (r, there, record { in_cell = f.kept; its_end = refl; its_number = refl }), refl, ((refl, f.among), lasts))
 
   pub found_near : (a : Label) (k : ℕ) (before after : List ℕ) → Appends (IsInHull a k) entries before after → Gathers (IsNumberWith (λ r. IsFoundIn a r.label k) rows) before after
   found_near a k before after app n = (

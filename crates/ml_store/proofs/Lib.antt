@@ -7,3 +7,4 @@ pub mod Tables
 pub mod Fresh
 pub mod Index
 pub mod Finding
+pub mod Within

@@ -5,6 +5,7 @@ use Rattle.ml_ratio.specs.declared.ratio.Ratio.{Ratio}
 use Rattle.ml_cone.specs.Cells.{IsAmongCells}
 use Rattle.ml_cone.specs.Cell.{IsInCell}
 use Rattle.ml_cone.specs.Hull.{hull_of}
+use Rattle.ml_cone.specs.Outline.{OverlapIn}
 use Rattle.ml_cone.specs.declared.label.Label.{Label}
 use Rattle.ml_cone.specs.declared.view.View.{View}
 use Rattle.ml_grid.specs.Near.{IsNear}
@@ -18,9 +19,10 @@ pub record IsFoundIn (one other : Label) (k : ℕ) : Type 0 where
   pub among : IsAmongCells (hull_of one k) x y
   pub kept : IsInCell other k x y
 
--- a search for the label in band k finds the row's, which is active up to the scale at least
-abbrev pub IsFoundFrom : Label → ℕ → Ratio → Row → Type 0
-IsFoundFrom a k scale r = IsFoundIn a r.label k × IsAtMost (value_of scale) (value_of r.slot.until)
+-- among the numbers are those of all labels that the label overlaps in band k and that are active up to the scale at least
+abbrev pub AreOverlapping : List Row → Label → ℕ → Ratio → List ℕ → Type 0
+AreOverlapping rows a k scale numbers =
+    (r : Row) → Contains rows r → OverlapIn a r.label k → IsAtMost (value_of scale) (value_of r.slot.until) → Contains numbers r.number
 
 -- the number of a row with the property
 abbrev pub IsNumberWith : (Row → Type 0) → List Row → ℕ → Type 0

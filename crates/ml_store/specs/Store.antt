@@ -1,5 +1,7 @@
 -- Live labels with the grid and the index of blockers, which agree with them.
-use Rattle.std.specs.Prelude.{ℕ, ◌≡◌, ◌↔◌, List, Contains, Option, MatchOption}
+use Rattle.std.specs.Prelude.{ℕ, ◌≡◌, ◌↔◌, List, Contains, All, Option, MatchOption}
+use Rattle.ml_cone.specs.Outline.{IsWithin}
+use Rattle.ml_cone.specs.declared.outline.Outline.{Outline}
 use Rattle.ml_grid.specs.Entry.{Entry, IsEntryOf}
 use Rattle.ml_spans.specs.Spans.{entry_of}
 use Rattle.ml_spans.specs.declared.entry.Entry.{Entry as SpanEntry}
@@ -25,6 +27,10 @@ IsPairIn r p = IsPairBy r.number r.slot.blocker p
 -- an index holds exactly what belongs to the rows
 abbrev pub IsIndex : {X : Type 0} → (Row → X → Type 0) → List Row → List X → Type 0
 IsIndex {X} Q rows index = (x : X) → Contains index x ↔ ((r : Row) × Contains rows r × Q r x)
+
+-- the labels of the rows are within the outline
+abbrev pub AreWithin : Outline → List Row → Type 0
+AreWithin outline rows = All (λ r. IsWithin outline r.label) rows
 
 -- no two rows have one number, the grid holds exactly the entries of the rows, and the index of blockers exactly their pairs
 pub record IsStored (rows : List Row) (entries : List Entry) (pairs : List Pair) : Type 0 where

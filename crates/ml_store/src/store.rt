@@ -6,9 +6,9 @@ ghost use Rattle.ml_cone.specs.Shown.{IsInView};
 ghost use Rattle.ml_grid.specs.Count.{entry_count};
 ghost use Rattle.ml_store.specs.Pairs.{pair_count};
 ghost use Rattle.ml_store.specs.Rows.{numbers_in, labels_in, IsFresh, HasId, HaveOwnNumbers, IsNumberOf};
-ghost use Rattle.ml_store.specs.Search.{IsFoundIn, IsFoundFrom, IsNumberWith, Gathers, AreNearNumbers};
+ghost use Rattle.ml_store.specs.Search.{IsFoundIn, IsNumberWith, Gathers, AreOverlapping, AreNearNumbers};
 ghost use Rattle.ml_grid.specs.Entry.{IsFree, Adds, Drops, AreEntriesOf};
-ghost use Rattle.ml_store.specs.Store.{IsStored, IsIndex, IsEntryIn, IsPairIn, Pair};
+ghost use Rattle.ml_store.specs.Store.{IsStored, AreWithin, IsIndex, IsEntryIn, IsPairIn, Pair};
 ghost use Rattle.ml_store.specs.Table.{IsRowAt, with_slot, slot_at};
 ghost use Rattle.ml_store.specs.declared.row.Row.{Row};
 
@@ -16,7 +16,7 @@ use crate::entries::move_entries;
 use crate::pairs::{Pairs, change_pair, put_pair, take_pair};
 use crate::row::Row;
 use crate::table::Table;
-use ml_cone::{Label, Slot, Span, View};
+use ml_cone::{Label, Outline, Slot, Span, View};
 use ml_grid::Grid;
 use ml_grid::laws::{seen_are_near, shown_seen};
 use ml_ratio::{Ratio, Seq, Steps, Text};
@@ -28,24 +28,25 @@ use std::sync::ledger::Ledger;
 /// The live labels, and room for more.
 ///
 /// Contracts see the rows in order, and how many labels, entries of the grid and pairs of the index may
-/// come in without memory. That the grid holds exactly the rows' entries, and the index exactly their
-/// pairs, is kept here and seen nowhere above.
+/// come in without memory. That the grid holds exactly the rows' entries, the index exactly their pairs,
+/// and that each label is within the outline, is kept here and seen nowhere above.
 #[derive(Drop)]
 pub struct Store {
     table: Table,
     grid: Grid,
     pairs: Pairs,
+    outline: Outline,
 }
 
 impl Model for Store {
     ghost use Rattle.ml_store.specs.Rows.{Stored};
-    ghost use Rattle.ml_store.specs.Store.{IsStored};
+    ghost use Rattle.ml_store.specs.Store.{IsStored, AreWithin};
 
     ghost Value = { Stored };
 
     ghost view = { λ s. record { rows = s.table.rows; labels = s.table.room; cells = s.grid.spare; blocks = s.pairs.spare } };
 
-    ghost invariant = { λ s. IsStored s.table.rows s.grid.entries s.pairs.entries };
+    ghost invariant = { λ s. IsStored s.table.rows s.grid.entries s.pairs.entries × AreWithin s.outline s.table.rows };
 }
 
 // The row at `at` gets another slot, and so do its entries and its pair.
@@ -154,21 +155,23 @@ fn find_near(
     grid.near(label, band, out)
 }
 
-// The numbers of the labels that are kept in a cell of the label's hull in the band and are active up to
+// Numbers, among them those of all labels that the label overlaps in the band and that are active up to
 // the scale at least.
-fn find_near_from(
+fn find_overlapping(
     alloc: Global,
     rows: &Table,
     grid: &Grid,
+    outline: &Outline,
     label: &Label,
     band: u8,
     scale: &Ratio,
 ) -> Result<Seq<u32>, AllocError>
     requires band { band ≤ 27 }
     requires kept { IsIndex IsEntryIn rows.now.rows grid.now.entries }
-    ensures { IfOk result (λ numbers. (n : ℕ) → Contains numbers n ↔ IsNumberWith (IsFoundFrom label.now band scale.now) rows.now.rows n) }
+    requires within { AreWithin outline.now rows.now.rows }
+    ensures { IfOk result (AreOverlapping rows.now.rows label.now band scale.now) }
 {
-    grid.near_from(alloc, label, band, scale)
+    grid.in_cells(alloc, &outline.around(label, band), scale)
 }
 
 // The numbers of the labels near the view, each once.
@@ -207,6 +210,7 @@ impl Store {
             table,
             grid: Grid::new(alloc),
             pairs: SpanTree::new(alloc),
+            outline: Outline::none(),
         })
     }
 
@@ -266,6 +270,7 @@ impl Store {
         ensures cells { self.new.cells + entry_count row.value.label ≡ self.old.cells }
         ensures blocks { self.new.blocks + pair_count row.value.slot.blocker ≡ self.old.blocks }
     {
+        self.outline = self.outline.with(&row.label);
         put_row(&mut self.table, &mut self.grid, &mut self.pairs, at, row);
     }
 
@@ -342,12 +347,12 @@ impl Store {
         find_near(&self.table, &self.grid, label, band, out)
     }
 
-    /// The numbers of the labels that are kept in a cell of the label's hull in the band, which is at most
-    /// 27, and are active up to the scale at least; in whatever order and however often.
+    /// Numbers, among them those of all labels that the label overlaps in the band, which is at most 27, and
+    /// that are active up to the scale at least; in whatever order and however often.
     ///
     /// # Errors
     /// Want of memory.
-    pub fn near_from(
+    pub fn overlapping(
         &self,
         alloc: Global,
         label: &Label,
@@ -355,9 +360,17 @@ impl Store {
         scale: &Ratio,
     ) -> Result<Seq<u32>, AllocError>
         requires { band ≤ 27 }
-        ensures { IfOk result (λ numbers. (n : ℕ) → Contains numbers n ↔ IsNumberWith (IsFoundFrom label.now band scale.now) self.now.rows n) }
+        ensures { IfOk result (AreOverlapping self.now.rows label.now band scale.now) }
     {
-        find_near_from(alloc, &self.table, &self.grid, label, band, scale)
+        find_overlapping(
+            alloc,
+            &self.table,
+            &self.grid,
+            &self.outline,
+            label,
+            band,
+            scale,
+        )
     }
 
     /// The numbers of the labels near the view, each once: among them all that it shows. It spends a step

@@ -166,12 +166,12 @@ fn grid_with(alloc: Global, label: &Label) -> Result<Grid, Fail> {
     Ok(grid)
 }
 
-/// Whether a search in band 1 finds the label of a grid, and whether one does for labels that last until a
-/// scale.
+/// Whether a search in band 1 finds the label of a grid, and whether one does in the same cells for labels
+/// that last until a scale.
 fn near_told(alloc: Global, grid: &Grid, other: &Label, scale: &str) -> Result<String, Fail> {
     let mut numbers = Seq::new(alloc);
     grid.near(other, 1, &mut numbers)?;
-    let lasting = grid.near_from(alloc, other, 1, &fraction(scale)?)?;
+    let lasting = grid.in_cells(alloc, &hull(other, 1), &fraction(scale)?)?;
     let near = numbers.as_slice() == [7].as_slice();
     Ok(format!(in alloc; "{near} {}", lasting.as_slice().contains(&7))?)
 }

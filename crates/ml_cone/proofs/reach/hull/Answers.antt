@@ -2,9 +2,9 @@ use Rattle.std.proofs.Common.{◌≡◌, ℕ, arith, rules, refl, w32, w64, ℤ,
 use Rattle.std.proofs.lemmas.Int.{ints, to_z-of_z}
 use Rattle.ml_cone.specs.Plane.{IsReach}
 use Rattle.ml_cone.specs.Cells.{cell_at}
-use Rattle.ml_cone.specs.Hull.{reach_of, hull_of}
+use Rattle.ml_cone.specs.Hull.{reach_of, hull_of, IsStretch}
 use Rattle.ml_cone.specs.declared.label.BoxPx.{BoxPx}
-use Rattle.ml_cone.proofs.Hulls.{reach_extent, few_columns, IsStretch}
+use Rattle.ml_cone.proofs.Hulls.{reach_extent, few_columns}
 use Rattle.ml_cone.proofs.reach.hull.Goals as goal
 
 -- both ends of a stretch are in reach

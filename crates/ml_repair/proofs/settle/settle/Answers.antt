@@ -9,7 +9,7 @@ invariant_of-chosen g c = record { in_roster = rw c.deref.ensures.value (all_wit
 
 pub returns-clause-own : goal.returns-clause-own
 returns-clause-own g c d =
-    enough_own c.rivals_or_free.ensures c.rivals_share.ensures c.bound_shares.ensures c.blocking.ensures.blocks c.smaller_ends.ensures c.allowed_up_to.ensures c.carried.ensures c.joined.ensures
+    enough_own c.rivals_or_free.ensures c.rivals_overlap.ensures c.bound_overlaps.ensures c.blocking.ensures.blocks c.smaller_ends.ensures c.allowed_up_to.ensures c.carried.ensures c.joined.ensures
     c.args.roster.now c.args.moves.now c.row-row.result.now.label c.args.at c.args.comes c.args.i c.in_ok-places.places.items c.evaluate.result c.requires.is_place c.requires.ends
     c.in_ok-places.ensures.ascending c.in_ok-places.ensures.enough (rw c.deref.ensures.value at c.evaluate.ensures.own) d
     (λ e. label_read c.args.roster.now c.args.i c.row-row.result.now e c.requires.is_place (sym (c.row-row.ensures c.row-row.result.now)))

@@ -1,0 +1,205 @@
+-- Where the anchors of labels lie that a label overlaps in a band.
+use Rattle.std.proofs.Common.{◌≡◌, ap, ℕ, ◌+◌, ◌*◌, ◌^◌, ◌<◌, ◌≤◌, arith, ℤ, pos, negsuc, ◌+ℤ◌, ◌-ℤ◌, ◌*ℤ◌, ◌<ℤ◌, ◌≤ℤ◌, lit<}
+use Rattle.std.specs.Int.{int_div_euclid}
+use Rattle.std.proofs.lemmas.Int.{ints, by_lt_z}
+use Rattle.std.proofs.lemmas.Nat.{mul-le, pow-add}
+use Rattle.std.proofs.Math.Nat.{pow-le-pow_right}
+use Rattle.ml_ratio.specs.Fraction.{Fraction, value_of, IsAtMost}
+use Rattle.ml_ratio.specs.Band.{MeetsBand}
+use Rattle.ml_ratio.proofs.Fractions.{at_most_trans}
+use Rattle.ml_cone.specs.Plane.{IsBelow, SidesMeet, edge}
+use Rattle.ml_cone.specs.Cells.{cell_side, column_of, cell_at}
+use Rattle.ml_cone.specs.Hull.{Holds, IsStretch, IsExtent, area_of, join, reach_of, hull_of}
+use Rattle.ml_cone.specs.Overlap.{widened, BoxesOverlap, Overlap}
+use Rattle.ml_cone.specs.Outline.{OverlapIn, IsWithin, IsKeptAmong}
+use Rattle.ml_cone.specs.declared.cells.Cells.{Cells}
+use Rattle.ml_cone.specs.declared.label.BoxPx.{BoxPx}
+use Rattle.ml_cone.specs.declared.label.Label.{Label}
+use Rattle.ml_cone.specs.declared.outline.Outline.{Outline}
+use Rattle.ml_cone.proofs.Hulls.{Holds-trans, stretch_join, reach_extent, reach_holds, side_pos, mul_mono, distrib, column_le, floor_low, floor_high}
+use Rattle.ml_cone.proofs.Meetings.{mul_twice, left_grows, right_grows, at_place, cells_of_overlap, meets_here}
+
+-- a place that is not below another lies in no column before its
+floor_mono : (t v : ℤ) (side : ℕ) → 0 < side → t ≤ℤ v → int_div_euclid t (pos side) ≤ℤ int_div_euclid v (pos side)
+floor_mono t v side h le = column_le (int_div_euclid t (pos side)) (int_div_euclid v (pos side)) t v side (floor_low t side h) le (floor_high v side h)
+
+-- what is less after all was multiplied is less
+less_back : (a b : ℤ) (d : ℕ) → (a *ℤ pos d) <ℤ (b *ℤ pos d) → a <ℤ b
+less_back a b d h =
+    by_lt_z a b
+    (λ less. less)
+    (λ ge. let m = mul_mono b a d ge in absurd (omega (arith, ints)))
+
+-- (l - r) * n is l * n - r * n
+difference_times : (l r : ℤ) (n : ℕ) → (l *ℤ pos n) ≡ (((l -ℤ r) *ℤ pos n) +ℤ (r *ℤ pos n))
+difference_times l r n =
+    let k : ((l -ℤ r) +ℤ r) ≡ l = omega (arith, ints) in
+    let e : (((l -ℤ r) +ℤ r) *ℤ pos n) ≡ (l *ℤ pos n) = ap (λ (z : ℤ). z *ℤ pos n) k in
+    let d = distrib (l -ℤ r) r n in
+    omega (arith, ints)
+
+-- a side that begins at `from` or later begins below the end, at `to` or before, of one about y: so y is not far below x
+near_below : (x y l r from to : ℤ) (p : ℕ) (s : Fraction) → s.num ≤ p * s.den → from ≤ℤ l → r ≤ℤ to → (from -ℤ to) ≤ℤ pos 0 → edge x l s <ℤ edge y r s → (x +ℤ ((from -ℤ to) *ℤ pos p)) ≤ℤ y
+near_below x y l r from to p s below first last left less =
+    let u : ℤ = from -ℤ to in
+    let le : u ≤ℤ (l -ℤ r) = omega (arith, ints) in
+    let m = mul_mono u (l -ℤ r) s.num le in
+    let e = difference_times l r s.num in
+    let g = left_grows u s.num (p * s.den) left below in
+    let t = mul_twice u p s.den in
+    let d = distrib x (u *ℤ pos p) s.den in
+    let h : (x +ℤ (u *ℤ pos p)) <ℤ y = less_back (x +ℤ (u *ℤ pos p)) y s.den (omega (arith, ints)) in
+    omega (arith, ints)
+
+-- and a side that ends at `to` or before ends above the beginning, at `from` or later, of one about y: so y is not far above x
+near_above : (x y l r from to : ℤ) (p : ℕ) (s : Fraction) → s.num ≤ p * s.den → from ≤ℤ l → r ≤ℤ to → pos 0 ≤ℤ (to -ℤ from) → edge y l s <ℤ edge x r s → y ≤ℤ (x +ℤ ((to -ℤ from) *ℤ pos p))
+near_above x y l r from to p s below first last right less =
+    let v : ℤ = to -ℤ from in
+    let le : (r -ℤ l) ≤ℤ v = omega (arith, ints) in
+    let m = mul_mono (r -ℤ l) v s.num le in
+    let e = difference_times r l s.num in
+    let g = right_grows v s.num (p * s.den) right below in
+    let t = mul_twice v p s.den in
+    let d = distrib x (v *ℤ pos p) s.den in
+    let h : y <ℤ (x +ℤ (v *ℤ pos p)) = less_back y (x +ℤ (v *ℤ pos p)) s.den (omega (arith, ints)) in
+    omega (arith, ints)
+
+-- the anchor's column is among those of a stretch
+anchor_column : (x l r : ℤ) (k : ℕ) → IsStretch l r → (cell_at x l k ≤ℤ int_div_euclid x (pos (cell_side k))) × (int_div_euclid x (pos (cell_side k)) ≤ℤ cell_at x r k)
+anchor_column x l r k h =
+    let p : ℕ = 2 ^ (k + 1) in
+    let down = mul_mono l (pos 0) p h.left in
+    let up = mul_mono (pos 0) r p h.right in (
+      floor_mono (x +ℤ (l *ℤ pos p)) x (cell_side k) (side_pos k) (omega (arith, ints)),
+      floor_mono x (x +ℤ (r *ℤ pos p)) (cell_side k) (side_pos k) (omega (arith, ints)),
+    )
+
+-- a stretch of so many pixels takes one to four columns of cells whose sides are a third of it at least
+pub few_about : (x u v : ℤ) (k j : ℕ) → u ≤ℤ v → ((v -ℤ u) *ℤ pos (2 ^ (k + 1))) ≤ℤ pos (3 * cell_side j) → (column_of x u k j ≤ℤ column_of x v k j) × (column_of x v k j ≤ℤ (column_of x u k j +ℤ pos 3))
+few_about x u v k j le few =
+    let p : ℕ = 2 ^ (k + 1) in
+    let side : ℕ = cell_side j in
+    let s = side_pos j in
+    let a : ℤ = column_of x u k j in
+    let b : ℤ = column_of x v k j in
+    let rise = mul_mono u v p le in
+    let gap = difference_times v u p in
+    let low = floor_low (x +ℤ (u *ℤ pos p)) side s in
+    let high = floor_high (x +ℤ (u *ℤ pos p)) side s in
+    let from = floor_low (x +ℤ (v *ℤ pos p)) side s in
+    let until = floor_high (x +ℤ (v *ℤ pos p)) side s in
+    let e2 = distrib a (pos 1) side in
+    let e3 = distrib (a +ℤ pos 3) (pos 1) side in
+    let e4 = distrib a (pos 3) side in (
+      column_le a b (x +ℤ (u *ℤ pos p)) (x +ℤ (v *ℤ pos p)) side low (omega (arith, ints)) until,
+      column_le b (a +ℤ pos 3) (x +ℤ (v *ℤ pos p)) (x +ℤ (v *ℤ pos p)) side from (omega (arith, ints)) (omega (arith, ints)),
+    )
+
+-- the column of a label's anchor is among those of the area, where sides of both labels meet
+column_about : (x y l r m t : ℤ) (from to : ℤ) (first last : ℤ) (k j : ℕ) (s : Fraction) → s.num < 2 ^ (k + 1) * s.den → IsStretch from to → IsStretch first last → from ≤ℤ l → r ≤ℤ to → first ≤ℤ m → t ≤ℤ last → SidesMeet x l r y m t s →
+    (column_of x (from -ℤ last) k j ≤ℤ int_div_euclid y (pos (cell_side j))) × (int_div_euclid y (pos (cell_side j)) ≤ℤ column_of x (to -ℤ first) k j)
+unfolding IsBelow
+column_about x y l r m t from to first last k j s below own other h0 h1 h2 h3 meet =
+    let o0 = own.left in let o1 = own.right in let q0 = other.left in let q1 = other.right in
+    let p : ℕ = 2 ^ (k + 1) in
+    let low = near_below x y l t from last p s (omega arith) h0 h3 (omega (arith, ints)) meet.0 in
+    let high = near_above x y m r first to p s (omega arith) h2 h1 (omega (arith, ints)) meet.1 in (
+      floor_mono (x +ℤ ((from -ℤ last) *ℤ pos p)) y (cell_side j) (side_pos j) low,
+      floor_mono y (x +ℤ ((to -ℤ first) *ℤ pos p)) (cell_side j) (side_pos j) high,
+    )
+
+abbrev pub about : Label → BoxPx → ℕ → ℕ → Cells
+about a area k j = record { band = j; x0 = column_of a.x area.l k j; y0 = column_of a.y area.b k j; x1 = column_of a.x area.r k j; y1 = column_of a.y area.t k j }
+
+-- a label that begins in a band up to j and is overlapped in band k, from j on, is kept in band j
+meets_lower : (o : Outline) (a b : Label) (k j : ℕ) → o.low ≤ j → j ≤ k → IsWithin o b → OverlapIn a b k → MeetsBand j (value_of b.min) (value_of b.max)
+meets_lower o a b k j from upto within over = record {
+  begins =
+      let p : 2 ^ (o.low + 1) ≤ 2 ^ (j + 1) = pow-le-pow_right (omega arith) (omega arith) in
+      let q = mul-le (2 ^ (o.low + 1)) b.min.den (2 ^ (j + 1)) b.min.den p (omega arith) in
+      let h = within.begins in
+      omega arith;
+  reaches = λ some.
+      let s : Fraction = over.scale in
+      let low : Fraction = record { num = 2 ^ j; den = 1; positive = lit< tt } in
+      let p : 2 ^ j ≤ 2 ^ k = pow-le-pow_right (omega arith) upto in
+      let q = mul-le (2 ^ j) s.den (2 ^ k) s.den p (omega arith) in
+      let h = over.in_band.from (omega arith) in
+      let one : IsAtMost low s = omega arith in
+      let two' = at_most_trans low s (value_of b.max) one over.lasts in
+      omega arith;
+}
+
+-- the label is kept in a cell of the area about one that it is overlapped by
+pub kept_about : (o : Outline) (a b : Label) (k j : ℕ) → o.low ≤ j → j ≤ k → IsWithin o b → OverlapIn a b k → IsKeptAmong (about a (area_of (reach_of a) o.reach) k j) b
+unfolding Overlap BoxesOverlap hull_of
+kept_about o a b k j from upto within over =
+    let any = over.over in
+    let p = any.1 in
+    let other = any.4 in
+    let q = other.1 in
+    let boxes = other.4 in
+    let wide_p = widened a p in
+    let wide_q = widened b q in
+    let hp : Holds (reach_of a) wide_p = at_place (λ o. Holds (reach_of a) (widened a o)) a.boxes any.0 p (reach_holds a) any.2 any.3 in
+    let hb : Holds (reach_of b) wide_q = at_place (λ o. Holds (reach_of b) (widened b o)) b.boxes other.0 q (reach_holds b) other.2 other.3 in
+    let hq = Holds-trans o.reach (reach_of b) wide_q within.reach hb in
+    let ea = reach_extent a in
+    let eb = reach_extent b in
+    let s : Fraction = over.scale in
+    let xs = column_about a.x b.x wide_p.l wide_p.r wide_q.l wide_q.r (reach_of a).l (reach_of a).r o.reach.l o.reach.r k j s over.in_band.below ea.wide o.extent.wide hp.l hp.r hq.l hq.r boxes.0 in
+    let ys = column_about a.y b.y wide_p.b wide_p.t wide_q.b wide_q.t (reach_of a).b (reach_of a).t o.reach.b o.reach.t k j s over.in_band.below ea.high o.extent.high hp.b hp.t hq.b hq.t boxes.1 in
+    let hx = anchor_column b.x (reach_of b).l (reach_of b).r j eb.wide in
+    let hy = anchor_column b.y (reach_of b).b (reach_of b).t j eb.high in
+    let few = over.low in
+    record {
+      x = int_div_euclid b.x (pos (cell_side j));
+      y = int_div_euclid b.y (pos (cell_side j));
+      among = (xs.0, xs.1, ys.0, ys.1);
+      kept = record { low = omega arith; meets = meets_lower o a b k j from upto within over; among = (hx.0, hx.1, hy.0, hy.1) };
+    }
+
+-- and in one of the label's hull
+pub kept_in_hull : (a b : Label) (k : ℕ) → OverlapIn a b k → IsKeptAmong (hull_of a k) b
+unfolding hull_of
+kept_in_hull a b k over =
+    let cell = cells_of_overlap a b k over.scale over.in_band.below over.over in
+    record {
+      x = cell.0;
+      y = cell.1;
+      among = cell.2;
+      kept = record { low = over.low; meets = meets_here b over.scale k over.begins over.lasts over.in_band; among = cell.3 };
+    }
+
+-- the least box that holds two that reach over 0 does so too
+pub extent_join : (a p : BoxPx) → IsExtent a → IsExtent p → IsExtent (join a p)
+extent_join a p h k =
+    let w = k.wide in let t = k.high in
+    let w0 = w.from in let w1 = w.until in let t0 = t.from in let t1 = t.until in
+    record { wide = stretch_join a.l a.r p.l p.r h.wide w0 w1; high = stretch_join a.b a.t p.b p.t h.high t0 t1 }
+
+-- the area has its left side left of its right
+pub wide_area : (a p : BoxPx) → IsExtent a → IsExtent p → (area_of a p).l ≤ℤ (area_of a p).r
+wide_area a p h k =
+    let a0 = h.wide.left in let a1 = h.wide.right in let p0 = k.wide.left in let p1 = k.wide.right in
+    omega (arith, ints)
+
+-- what begins in a band has begun in each band above
+pub begins_more : (num den k m : ℕ) → k ≤ m → num < 2 ^ (k + 1) * den → num < 2 ^ (m + 1) * den
+begins_more num den k m le h =
+    let p : 2 ^ (k + 1) ≤ 2 ^ (m + 1) = pow-le-pow_right (omega arith) (omega arith) in
+    let q = mul-le (2 ^ (k + 1)) den (2 ^ (m + 1)) den p (omega arith) in
+    omega arith
+
+-- a side that is narrow enough to go n bands down takes few cells of a band that is no further down
+pub finer_few : (w : ℤ) (n k j : ℕ) → k ≤ j + n → (w *ℤ pos (2 ^ (n + 1))) ≤ℤ pos 2048 → (w *ℤ pos (2 ^ (k + 1))) ≤ℤ pos (3 * cell_side j)
+finer_few (pos u) n k j le narrow =
+    let p : 2 ^ (k + 1) ≤ 2 ^ (j + (n + 1)) = pow-le-pow_right (omega arith) (omega arith) in
+    let e = pow-add 2 j (n + 1) in
+    let q = mul-le u (2 ^ (k + 1)) u (2 ^ (j + (n + 1))) (omega arith) p in
+    let few : u * 2 ^ (n + 1) ≤ 2048 = omega (arith, ints) in
+    let m = mul-le (u * 2 ^ (n + 1)) (2 ^ j) 2048 (2 ^ j) few (omega arith) in
+    let f : u * (2 ^ j * 2 ^ (n + 1)) ≡ u * 2 ^ (n + 1) * 2 ^ j = omega arith in
+    let g : u * 2 ^ (j + (n + 1)) ≡ u * (2 ^ j * 2 ^ (n + 1)) = ap (λ (t : ℕ). u * t) e in
+    omega (arith, ints)
+finer_few (negsuc u) n k j le narrow = let m = mul_mono (negsuc u) (pos 0) (2 ^ (k + 1)) (omega (arith, ints)) in omega (arith, ints)
