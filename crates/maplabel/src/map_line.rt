@@ -10,6 +10,7 @@ use ml_editor::{Editor, LoadRefused};
 use ml_ratio::{Feature, Seq};
 use ml_style::Style;
 use std::alloc::{AllocError, Global};
+use std::mem::forget;
 
 /// The line of the view of the map of these features under a style, each label active as the longest
 /// choice says.
@@ -29,6 +30,8 @@ pub fn map_line(
     let editor = loaded(alloc, style, features)?;
     let mut line = view_json(alloc, &editor, view)?;
     line.push(b'\n')?;
+    // The run ends here, and the system takes back all memory at once.
+    forget(editor);
     Ok(line)
 }
 

@@ -13,6 +13,7 @@ use ml_tile::Tiles;
 use ml_watch::{Crowd, Watcher};
 use std::alloc::Global;
 use std::marker::Brand;
+use std::mem::forget;
 use std::sync::ledger::{Blank, Ledger};
 
 /// Serves one connection over the map, from the input to the output.
@@ -62,6 +63,8 @@ fn pipe_counted<L: Ledger, S: Source, K: Sink, W: Watcher>(
         &mut tiles,
         &mut steps,
     );
+    // The run ends here, and the system takes back all memory at once.
+    forget(editor);
     status_of_link(end)
 }
 
@@ -138,6 +141,8 @@ fn serve_counted<L: Ledger, K: Sink, D: Door, W: Watcher>(
         port,
         count,
     );
+    // The run ends here, and the system takes back all memory at once.
+    forget(editor);
     status_of_serving(end)
 }
 
