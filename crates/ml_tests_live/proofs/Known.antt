@@ -1,5 +1,5 @@
 -- A label that is found by its id is there.
-use Rattle.std.proofs.Common.{◌≡◌, ℕ, List}
+use Rattle.std.proofs.Common.{ℕ, List}
 use Rattle.ml_store.specs.Rows.{labels_in, HasId, IsNumberOf}
 use Rattle.ml_store.specs.declared.row.Row.{Row}
 use Rattle.ml_store.proofs.Lists.{contains_map}

@@ -6,55 +6,59 @@ use ml_pass::read_boxes;
 use ml_ratio::lines::parts_of;
 use ml_ratio::{Seq, Text};
 use std::alloc::Global;
-use std::test::Fail;
+use std::process::Abort;
 
 /// The pieces of a text that has a `/` before each but the first.
-fn pieces_of(alloc: Global, text: &str) -> Result<Seq<Text>, Fail> {
+fn pieces_of(rt: &impl Abort, alloc: Global, text: &str) -> Seq<Text> {
     let mut pieces = Seq::new(alloc);
     for piece in text.split('/') {
-        pieces.push(Text::of(alloc, piece)?)?;
+        pieces
+            .push(Text::of(alloc, piece).expect(rt, "memory"))
+            .expect(rt, "memory");
     }
-    Ok(pieces)
+    pieces
 }
 
 /// The order of the label with an id.
-fn order_of(alloc: Global, id: &str) -> Result<Order, Fail> {
-    let id = Text::of(alloc, id)?;
-    Ok(Order {
+fn order_of(rt: &impl Abort, alloc: Global, id: &str) -> Order {
+    let id = Text::of(alloc, id).expect(rt, "memory");
+    Order {
         class: 3,
         rank: 7,
         id,
-    })
+    }
 }
 
 /// The boxes that the words after two others write.
-fn boxes_of(alloc: Global, words: &[&str]) -> Result<Seq<BoxPx>, Fail> {
-    let words = words.get(2..).ok_or("two words and boxes")?;
-    Ok(read_boxes(alloc, words)?.ok_or("boxes")?)
+fn boxes_of(rt: &impl Abort, alloc: Global, words: &[&str]) -> Seq<BoxPx> {
+    let words = words.get(2..).expect(rt, "two words and boxes");
+    read_boxes(alloc, words)
+        .expect(rt, "memory")
+        .expect(rt, "boxes")
 }
 
 /// The label of an id, of places that a text writes as `X Y BOX ..`, and of pieces.
-pub fn label_of(alloc: Global, id: &str, places: &str, pieces: &str) -> Result<Label, Fail> {
-    let words = parts_of(alloc, places, ' ')?;
-    let x = whole(&words, 0)?;
-    let y = whole(&words, 1)?;
-    let min = fraction("0")?;
-    let max = fraction("1000")?;
-    let boxes = boxes_of(alloc, &words)?;
-    let pieces = pieces_of(alloc, pieces)?;
-    let order = order_of(alloc, id)?;
+pub fn label_of(rt: &impl Abort, alloc: Global, id: &str, places: &str, pieces: &str) -> Label {
+    let words = parts_of(alloc, places, ' ').expect(rt, "memory");
+    let x = whole(rt, &words, 0);
+    let y = whole(rt, &words, 1);
+    let min = fraction(rt, "0");
+    let max = fraction(rt, "1000");
+    let boxes = boxes_of(rt, alloc, &words);
+    let pieces = pieces_of(rt, alloc, pieces);
+    let order = order_of(rt, alloc, id);
     let label = Label::of(order, x, y, boxes, pieces, min, max, 7);
-    Ok(label.ok_or("within bounds")?)
+    label.expect(rt, "within bounds")
 }
 
 /// Adds the label that a text writes, as `UNTIL;PLACES;PIECES;ID`.
-fn add(alloc: Global, view: &mut JsonView, text: &str) -> Result<(), Fail> {
-    let (until, rest) = text.split_once(";").ok_or("an end")?;
-    let (places, rest) = rest.split_once(";").ok_or("places")?;
-    let (pieces, id) = rest.split_once(";").ok_or("pieces")?;
-    let until = fraction(until)?;
-    view.add(&label_of(alloc, id, places, pieces)?, until)?;
-    Ok(())
+fn add(rt: &impl Abort, alloc: Global, view: &mut JsonView, text: &str) {
+    let (until, rest) = text.split_once(";").expect(rt, "an end");
+    let (places, rest) = rest.split_once(";").expect(rt, "places");
+    let (pieces, id) = rest.split_once(";").expect(rt, "pieces");
+    let until = fraction(rt, until);
+    view.add(&label_of(rt, alloc, id, places, pieces), until)
+        .expect(rt, "memory");
 }
 
 /// A scale and labels, with a bar before each, and the text of the view.
@@ -64,20 +68,20 @@ impl Table for JsonViews {
     const LINES: &'static str = r#"1 => {"labels":[],"scale":"1/1"}
 38/4|1000;0 0 -10,-5,10,5;A;A|20/7;-1800000000 900000000 -30,-6,-10,4 -10,-5,10,5 10,-4,512,6;Zü/ri/ch;w:1 => {"labels":[{"at":[0,0],"boxes":[[-10,-5,10,5]],"id":"A","text":"A","until":"1000/1"},{"at":[-1800000000,900000000],"boxes":[[-30,-6,-10,4],[-10,-5,10,5],[10,-4,512,6]],"id":"w:1","text":"Zürich","until":"20/7"}],"scale":"19/2"}"#;
 
-    fn told(alloc: Global, input: &str) -> Result<String, Fail> {
+    fn told(rt: &impl Abort, alloc: Global, input: &str) -> String {
         let mut parts = input.split('|');
-        let scale = fraction(parts.next().ok_or("a scale")?)?;
-        let mut view = JsonView::new(alloc, scale)?;
+        let scale = fraction(rt, parts.next().expect(rt, "a scale"));
+        let mut view = JsonView::new(alloc, scale).expect(rt, "memory");
         for part in parts {
-            add(alloc, &mut view, part)?;
+            add(rt, alloc, &mut view, part);
         }
-        text_of(view.finish()?)
+        text_of(rt, view.finish().expect(rt, "memory"))
     }
 }
 
 #[test]
-fn a_view_is_written_label_by_label(rt: HostRuntime) -> Result<(), Fail> {
-    hold::<JsonViews>(rt.alloc())
+fn a_view_is_written_label_by_label(rt: HostRuntime) {
+    hold::<JsonViews>(&rt, rt.alloc())
 }
 
 /// What the text of a view with one label has before the label's id.
@@ -97,11 +101,12 @@ fn quoted_in(view: &str) -> Option<&str> {
 }
 
 /// The text of a view of one label with this id and this text.
-fn view_told(alloc: Global, text: &str) -> Result<String, Fail> {
-    let until = fraction("5/2")?;
-    let mut view = JsonView::new(alloc, fraction("1")?)?;
-    view.add(&label_of(alloc, text, "1 -2 -10,-5,10,5", text)?, until)?;
-    text_of(view.finish()?)
+fn view_told(rt: &impl Abort, alloc: Global, text: &str) -> String {
+    let until = fraction(rt, "5/2");
+    let mut view = JsonView::new(alloc, fraction(rt, "1")).expect(rt, "memory");
+    view.add(&label_of(rt, alloc, text, "1 -2 -10,-5,10,5", text), until)
+        .expect(rt, "memory");
+    text_of(rt, view.finish().expect(rt, "memory"))
 }
 
 /// Ids and texts, with a pilcrow for a line feed, and how JSON writes them.
@@ -120,14 +125,17 @@ a\tb¶\r => a\\tb\\n\\r
 \u{0}\u{1}\u{1f} => \\u0000\\u0001\\u001f
 \u{7f}\u{1f30d} => \u{7f}\u{1f30d}";
 
-    fn told(alloc: Global, input: &str) -> Result<String, Fail> {
-        let raw = input.replace(alloc, "¶", "\n")?;
-        let view = view_told(alloc, &raw)?;
-        Ok(quoted_in(&view).ok_or("a quoted id")?.to_string(alloc)?)
+    fn told(rt: &impl Abort, alloc: Global, input: &str) -> String {
+        let raw = input.replace(alloc, "¶", "\n").expect(rt, "memory");
+        let view = view_told(rt, alloc, &raw);
+        quoted_in(&view)
+            .expect(rt, "a quoted id")
+            .to_string(alloc)
+            .expect(rt, "memory")
     }
 }
 
 #[test]
-fn ids_and_texts_are_quoted(rt: HostRuntime) -> Result<(), Fail> {
-    hold::<Quoted>(rt.alloc())
+fn ids_and_texts_are_quoted(rt: HostRuntime) {
+    hold::<Quoted>(&rt, rt.alloc())
 }

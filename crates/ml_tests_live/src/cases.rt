@@ -7,7 +7,7 @@ use ml_ratio::{Ratio, Seq, Text, read_whole};
 use ml_view::read_view;
 use ml_watch::{Change, LineWatcher, Watcher};
 use std::alloc::Global;
-use std::test::Fail;
+use std::process::Abort;
 
 /// Cases of one kind, each a line `input => answer`.
 pub trait Table {
@@ -15,119 +15,122 @@ pub trait Table {
     const LINES: &'static str;
 
     /// The answer to an input.
-    fn told(alloc: Global, input: &str) -> Result<String, Fail>;
+    fn told(rt: &impl Abort, alloc: Global, input: &str) -> String;
 }
 
 /// Fails where the answer to a case is another one.
-fn holds<T: Table>(alloc: Global, line: &str) -> Result<(), Fail> {
-    let (input, want) = line.split_once(" => ").ok_or("a case")?;
-    let told = T::told(alloc, input)?;
-    if told.as_str() == want {
-        return Ok(());
-    }
-    Err(Fail::new(format!(in alloc; "{line}, not {told}")?))
+fn holds<T: Table>(rt: &impl Abort, alloc: Global, line: &str) {
+    let (input, want) = line.split_once(" => ").expect(rt, "a case");
+    let told = T::told(rt, alloc, input);
+    assert!(rt; told.as_str() == want, "{line}, not {told}");
 }
 
 /// Fails at the first case of a table that has another answer.
-pub fn hold<T: Table>(alloc: Global) -> Result<(), Fail> {
+pub fn hold<T: Table>(rt: &impl Abort, alloc: Global) {
     for line in T::LINES.lines() {
-        holds::<T>(alloc, line)?;
+        holds::<T>(rt, alloc, line);
     }
-    Ok(())
 }
 
 /// The parts of an input, with ` | ` between the first and the rest.
-pub fn first(input: &str) -> Result<(&str, &str), Fail> {
-    Ok(input.split_once(" | ").ok_or("two parts")?)
+pub fn first<'a>(rt: &impl Abort, input: &'a str) -> (&'a str, &'a str) {
+    input.split_once(" | ").expect(rt, "two parts")
 }
 
 /// The text with a line feed for each bar.
-pub fn lines_of(alloc: Global, text: &str) -> Result<String, Fail> {
-    Ok(text.replace(alloc, "|", "\n")?)
+pub fn lines_of(rt: &impl Abort, alloc: Global, text: &str) -> String {
+    text.replace(alloc, "|", "\n").expect(rt, "memory")
 }
 
 /// The text with a line feed for each ` / `.
-pub fn rows_of(alloc: Global, text: &str) -> Result<String, Fail> {
-    Ok(text.replace(alloc, " / ", "\n")?)
+pub fn rows_of(rt: &impl Abort, alloc: Global, text: &str) -> String {
+    text.replace(alloc, " / ", "\n").expect(rt, "memory")
 }
 
 /// The text that bytes are, with a bar for each line feed.
-pub fn lines_told(alloc: Global, bytes: &[u8]) -> Result<String, Fail> {
-    let text = std::str::from_utf8(bytes).ok().ok_or("a text")?;
-    Ok(text.replace(alloc, "\n", "|")?)
+pub fn lines_told(rt: &impl Abort, alloc: Global, bytes: &[u8]) -> String {
+    let text = std::str::from_utf8(bytes).ok().expect(rt, "a text");
+    text.replace(alloc, "\n", "|").expect(rt, "memory")
 }
 
 /// One of the words of an input.
-pub fn word<'a>(words: &[&'a str], place: usize) -> Result<&'a str, Fail> {
-    Ok(words.get(place).copied().ok_or("a further word")?)
+pub fn word<'a>(rt: &impl Abort, words: &[&'a str], place: usize) -> &'a str {
+    words.get(place).copied().expect(rt, "a further word")
 }
 
 /// The whole number that a word writes.
-pub fn whole(words: &[&str], place: usize) -> Result<i64, Fail> {
-    Ok(read_whole(word(words, place)?).ok_or("a whole number")?)
+pub fn whole(rt: &impl Abort, words: &[&str], place: usize) -> i64 {
+    read_whole(word(rt, words, place)).expect(rt, "a whole number")
 }
 
 /// The number without a sign that a word writes.
-pub fn number(words: &[&str], place: usize) -> Result<u64, Fail> {
-    Ok(word(words, place)?.parse::<u64>().ok().ok_or("a number")?)
+pub fn number(rt: &impl Abort, words: &[&str], place: usize) -> u64 {
+    word(rt, words, place)
+        .parse::<u64>()
+        .ok()
+        .expect(rt, "a number")
 }
 
 /// The fraction that a text writes.
-pub fn fraction(text: &str) -> Result<Ratio, Fail> {
-    Ok(Ratio::read(text).ok_or("a fraction")?)
+pub fn fraction(rt: &impl Abort, text: &str) -> Ratio {
+    Ratio::read(text).expect(rt, "a fraction")
 }
 
 /// The view that a text writes, as `CX CY W H SCALE`.
-pub fn view_of(alloc: Global, text: &str) -> Result<View, Fail> {
-    let words = parts_of(alloc, text, ' ')?;
-    let cx = word(&words, 0)?;
-    let cy = word(&words, 1)?;
-    let w = word(&words, 2)?;
-    let h = word(&words, 3)?;
-    Ok(
-        read_view(cx, cy, w, h, word(&words, 4)?)
-            .ok()
-            .ok_or("a view")?,
-    )
+pub fn view_of(rt: &impl Abort, alloc: Global, text: &str) -> View {
+    let words = parts_of(alloc, text, ' ').expect(rt, "memory");
+    let cx = word(rt, &words, 0);
+    let cy = word(rt, &words, 1);
+    let w = word(rt, &words, 2);
+    let h = word(rt, &words, 3);
+    read_view(cx, cy, w, h, word(rt, &words, 4))
+        .ok()
+        .expect(rt, "a view")
 }
 
 /// The label that a row writes.
-pub fn label_of(alloc: Global, row: &str) -> Result<Label, Fail> {
-    let mut labels = read_table(alloc, row.as_bytes())?.into_vec();
-    Ok(labels.pop().ok_or("a label")?)
+pub fn label_of(rt: &impl Abort, alloc: Global, row: &str) -> Label {
+    let mut labels = read_table(alloc, row.as_bytes())
+        .expect(rt, "a table")
+        .into_vec();
+    labels.pop().expect(rt, "a label")
 }
 
 /// The span that a word writes, as `0/1..20/1`, or `-` for none.
-fn span_of(word: &str) -> Result<Option<Span>, Fail> {
+fn span_of(rt: &impl Abort, word: &str) -> Option<Span> {
     if word == "-" {
-        return Ok(None);
+        return None;
     }
-    let (min, until) = word.split_once("..").ok_or("a span")?;
-    let min = fraction(min)?;
-    let until = fraction(until)?;
-    Ok(Some(Span { min, until }))
+    let (min, until) = word.split_once("..").expect(rt, "a span");
+    let min = fraction(rt, min);
+    let until = fraction(rt, until);
+    Some(Span { min, until })
 }
 
 /// The change that a text writes, as `ID SPAN SPAN`.
-pub fn change_of(alloc: Global, text: &str) -> Result<Change, Fail> {
-    let (id, spans) = text.split_once(" ").ok_or("an id")?;
-    let (before, after) = spans.split_once(" ").ok_or("two spans")?;
-    let before = span_of(before)?;
-    let after = span_of(after)?;
-    let id = Text::of(alloc, id)?;
-    Ok(Change { id, before, after })
+pub fn change_of(rt: &impl Abort, alloc: Global, text: &str) -> Change {
+    let (id, spans) = text.split_once(" ").expect(rt, "an id");
+    let (before, after) = spans.split_once(" ").expect(rt, "two spans");
+    let before = span_of(rt, before);
+    let after = span_of(rt, after);
+    let id = Text::of(alloc, id).expect(rt, "memory");
+    Change { id, before, after }
 }
 
 /// The text that bytes are.
-pub fn text_of(bytes: Seq<u8>) -> Result<String, Fail> {
-    Ok(String::from_utf8(bytes.into_vec()).ok().ok_or("a text")?)
+pub fn text_of(rt: &impl Abort, bytes: Seq<u8>) -> String {
+    String::from_utf8(bytes.into_vec())
+        .ok()
+        .expect(rt, "a text")
 }
 
 /// The lines of changes, as a watcher writes them, with a bar for each line feed.
-pub fn changes_told(alloc: Global, changes: &Seq<Change>) -> Result<String, Fail> {
-    let mut watcher = LineWatcher::new(MemSink::new(alloc, 500, Vec::new(alloc))?);
+pub fn changes_told(rt: &impl Abort, alloc: Global, changes: &Seq<Change>) -> String {
+    let mut watcher = LineWatcher::new(MemSink::new(alloc, 500, Vec::new(alloc)).expect(
+        rt, "memory",
+    ));
     for change in changes.as_slice() {
-        watcher.tell(change)?;
+        watcher.tell(change).expect(rt, "memory");
     }
-    lines_told(alloc, watcher.sink().bytes())
+    lines_told(rt, alloc, watcher.sink().bytes())
 }

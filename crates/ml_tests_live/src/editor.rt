@@ -14,8 +14,8 @@ use ml_style::{Style, read_style};
 use ml_watch::{Crowd, MemWatcher};
 use std::alloc::Global;
 use std::marker::Brand;
+use std::process::Abort;
 use std::sync::ledger::{Blank, Ledger};
-use std::test::Fail;
 
 /// A style of towns, each letter ten pixels wide, but for its margin.
 const TOWNS: &str = r#"version = 2
@@ -112,75 +112,83 @@ add - A 0 2 ab => 1 {"changes":[{"after":["0/1","0/1"],"before":null,"id":"A"}],
 rev - - => {"features":32768,"labels":2,"rev":3}"#;
 
 /// A style with this margin, or the text itself.
-fn style_of(alloc: Global, words: &str) -> Result<String, Fail> {
+fn style_of(rt: &impl Abort, alloc: Global, words: &str) -> String {
     match words {
-        "version" => Ok(String::from_str(alloc, "version = 3")?),
-        "x" => Ok(String::from_str(alloc, "x")?),
-        margin => Ok(format!(in alloc; "{TOWNS}{margin}\n")?),
+        "version" => String::from_str(alloc, "version = 3").expect(rt, "memory"),
+        "x" => String::from_str(alloc, "x").expect(rt, "memory"),
+        margin => format!(in alloc; "{TOWNS}{margin}\n").expect(rt, "memory"),
     }
 }
 
 /// The feature that four words write.
-fn feature_of(alloc: Global, words: &[&str]) -> Result<String, Fail> {
-    let id = word(words, 0)?;
-    let x = word(words, 1)?;
-    let pop = word(words, 2)?;
-    let name = word(words, 3)?;
+fn feature_of(rt: &impl Abort, alloc: Global, words: &[&str]) -> String {
+    let id = word(rt, words, 0);
+    let x = word(rt, words, 1);
+    let pop = word(rt, words, 2);
+    let name = word(rt, words, 3);
     let name = if name == "-" { "" } else { name };
-    Ok(format!(in alloc;
+    format!(in alloc;
         r#"{{"type":"Feature","id":"{id}","geometry":{{"type":"Point","coordinates":[{x}e-7,0]}},"properties":{{"name":"{name}","place":"city","pop":{pop}}}}}"#
-    )?)
+    ).expect(rt, "memory")
 }
 
 /// The feature that words write, or the words themselves.
-fn body_of(alloc: Global, text: &str) -> Result<String, Fail> {
-    let words = parts_of(alloc, text, ' ')?;
+fn body_of(rt: &impl Abort, alloc: Global, text: &str) -> String {
+    let words = parts_of(alloc, text, ' ').expect(rt, "memory");
     if words.len() == 4 {
-        return feature_of(alloc, &words);
+        return feature_of(rt, alloc, &words);
     }
-    Ok(text.to_string(alloc)?)
+    text.to_string(alloc).expect(rt, "memory")
 }
 
 /// The style of towns.
-fn towns(alloc: Global) -> Result<Style, Fail> {
-    let style = style_of(alloc, "0")?;
-    Ok(read_style(alloc, style.as_bytes())?)
+fn towns(rt: &impl Abort, alloc: Global) -> Style {
+    let style = style_of(rt, alloc, "0");
+    read_style(alloc, style.as_bytes()).expect(rt, "a style")
 }
 
 /// A map without features; at its last revision for the word `last`, and with as many features as a map
 /// may have, none of them with a label, for the word `full`.
-fn fresh(alloc: Global, word: &str) -> Result<Editor, Fail> {
-    let style = towns(alloc)?;
+fn fresh(rt: &impl Abort, alloc: Global, word: &str) -> Editor {
+    let style = towns(rt, alloc);
     match word {
-        "last" => Ok(Editor::load_at(alloc, style, Seq::new(alloc), 9007199254740992)?),
-        "full" => full(alloc, style),
-        _ => Ok(Editor::load(alloc, style, Seq::new(alloc))?),
+        "last" => Editor::load_at(alloc, style, Seq::new(alloc), 9007199254740992).expect(
+            rt, "memory",
+        ),
+        "full" => full(rt, alloc, style),
+        _ => Editor::load(alloc, style, Seq::new(alloc)).expect(rt, "memory"),
     }
 }
 
 /// The text of as many features as there may be, none of which has a label.
-fn full_text(alloc: Global) -> Result<String, Fail> {
-    let mut text = r#"{"type":"FeatureCollection","features":["#.to_string(alloc)?;
+fn full_text(rt: &impl Abort, alloc: Global) -> String {
+    let mut text = r#"{"type":"FeatureCollection","features":["#
+        .to_string(alloc)
+        .expect(rt, "memory");
     for i in 0..32768 {
         let comma = if i == 0 { "" } else { "," };
         text.push_str(&format!(in alloc;
             r#"{comma}{{"type":"Feature","id":"{i}","geometry":null,"properties":null}}"#
-        )?)?;
+        ).expect(rt, "memory"))
+            .expect(rt, "memory");
     }
-    text.push_str("]}")?;
-    Ok(text)
+    text.push_str("]}").expect(rt, "memory");
+    text
 }
 
 /// A map of as many features as there may be, none of which has a label.
-fn full(alloc: Global, style: Style) -> Result<Editor, Fail> {
-    let text = full_text(alloc)?;
-    let features = read_collection(alloc, text.as_bytes())?;
-    Ok(Editor::load(alloc, style, features)?)
+fn full(rt: &impl Abort, alloc: Global, style: Style) -> Editor {
+    let text = full_text(rt, alloc);
+    let features = read_collection(alloc, text.as_bytes()).expect(rt, "a map");
+    Editor::load(alloc, style, features).expect(rt, "memory")
 }
 
 /// The text of how many features and labels there are.
-fn counted(alloc: Global, editor: &Editor) -> Result<String, Fail> {
-    text_of(rev_json(alloc, editor.rev(), editor.features(), editor.labels())?)
+fn counted(rt: &impl Abort, alloc: Global, editor: &Editor) -> String {
+    text_of(
+        rt,
+        rev_json(alloc, editor.rev(), editor.features(), editor.labels()).expect(rt, "memory"),
+    )
 }
 
 /// The revision that a word asks for; `-` asks for none.
@@ -193,64 +201,70 @@ fn rev_of(word: &str) -> Option<u64> {
 
 /// The edit that a word names, made ready.
 fn prepared<L: Ledger>(
+    rt: &impl Abort,
     alloc: Global,
     editor: &mut Editor,
     word: &str,
     rev: Option<u64>,
     words: &str,
     steps: &mut Steps<L>,
-) -> Result<Result<Ready, EditFault>, Fail>
-    ensures { IfOk result (λ made. IfOk made (λ ready. IsReady ready editor.new.state editor.new.engine.rows × HasRoomFor ready editor.new)) }
+) -> Result<Ready, EditFault>
+    ensures { IfOk result (λ ready. IsReady ready editor.new.state editor.new.engine.rows × HasRoomFor ready editor.new) }
 {
     match word {
         "add" => {
-            let body = body_of(alloc, words)?;
-            Ok(editor.prepare_add(alloc, rev, body.as_bytes(), steps))
+            let body = body_of(rt, alloc, words);
+            editor.prepare_add(alloc, rev, body.as_bytes(), steps)
         }
         "put" => {
-            let body = body_of(alloc, words)?;
-            Ok(editor.prepare_replace(alloc, rev, body.as_bytes(), steps))
+            let body = body_of(rt, alloc, words);
+            editor.prepare_replace(alloc, rev, body.as_bytes(), steps)
         }
         "del" => {
-            let id = Text::of(alloc, words)?;
-            Ok(editor.prepare_remove(alloc, rev, &id, steps))
+            let id = Text::of(alloc, words).expect(rt, "memory");
+            editor.prepare_remove(alloc, rev, &id, steps)
         }
         _ => {
-            let style = style_of(alloc, words)?;
-            Ok(editor.prepare_style(alloc, rev, style.as_bytes()))
+            let style = style_of(rt, alloc, words);
+            editor.prepare_style(alloc, rev, style.as_bytes())
         }
     }
 }
 
 /// The text of what an edit changed, behind how many labels were evaluated for it.
-fn ready_told(alloc: Global, ready: &Ready) -> Result<String, Fail> {
-    let text = text_of(edit_json(alloc, ready.rev(), ready.changes())?)?;
-    Ok(format!(in alloc; "{} {text}", ready.evaluated())?)
+fn ready_told(rt: &impl Abort, alloc: Global, ready: &Ready) -> String {
+    let text = text_of(
+        rt,
+        edit_json(alloc, ready.rev(), ready.changes()).expect(rt, "memory"),
+    );
+    format!(in alloc; "{} {text}", ready.evaluated()).expect(rt, "memory")
 }
 
 /// Why an edit is refused.
-fn fault_told(alloc: Global, fault: &EditFault) -> Result<String, Fail> {
-    let text = text_of(fault_json(alloc, fault)?)?;
-    Ok(format!(in alloc; "- {text}")?)
+fn fault_told(rt: &impl Abort, alloc: Global, fault: &EditFault) -> String {
+    let text = text_of(rt, fault_json(alloc, fault).expect(rt, "memory"));
+    format!(in alloc; "- {text}").expect(rt, "memory")
 }
 
 /// Carries out an edit and tells the watchers; the text of what it changed.
 fn committed(
+    rt: &impl Abort,
     alloc: Global,
     editor: &mut Editor,
     crowd: &mut Crowd<MemWatcher>,
     ready: Ready,
-) -> Result<String, Fail>
+) -> String
     requires ready { IsReady ready editor.old.state editor.old.engine.rows }
     requires room { HasRoomFor ready editor.old }
 {
-    let told = ready_told(alloc, &ready)?;
+    let told = ready_told(rt, alloc, &ready);
     editor.commit(ready, crowd);
-    Ok(told)
+    told
 }
 
 /// Makes an edit and tells the watchers; the text of what it changed, or why it was refused.
 fn edited<L: Ledger>(
+    rt: &impl Abort,
     alloc: Global,
     editor: &mut Editor,
     crowd: &mut Crowd<MemWatcher>,
@@ -258,51 +272,57 @@ fn edited<L: Ledger>(
     rev: Option<u64>,
     words: &str,
     steps: &mut Steps<L>,
-) -> Result<String, Fail> {
-    match prepared(alloc, editor, word, rev, words, steps)? {
-        Ok(ready) => committed(alloc, editor, crowd, ready),
-        Err(fault) => fault_told(alloc, &fault),
+) -> String {
+    match prepared(rt, alloc, editor, word, rev, words, steps) {
+        Ok(ready) => committed(rt, alloc, editor, crowd, ready),
+        Err(fault) => fault_told(rt, alloc, &fault),
     }
 }
 
-/// How many features and labels there are beside a ready addition.
-fn given_up(alloc: Global, editor: &Editor, ready: &Ready) -> Result<String, Fail> {
-    if ready.edited_id().is_none() {
-        return Err(Fail::new("an id"));
+/// Whether an edit is ready, of a feature with an id.
+fn is_of_an_id(made: &Result<Ready, EditFault>) -> bool {
+    match made {
+        Ok(ready) => ready.edited_id().is_some(),
+        Err(_fault) => false,
     }
-    counted(alloc, editor)
 }
 
-/// Makes an addition ready and gives it up.
+/// Makes an addition ready and gives it up; how many features and labels there are beside it.
 fn tried<L: Ledger>(
+    rt: &impl Abort,
     alloc: Global,
     editor: &mut Editor,
     words: &str,
     steps: &mut Steps<L>,
-) -> Result<String, Fail> {
-    match prepared(alloc, editor, "add", None, words, steps)? {
-        Ok(ready) => given_up(alloc, editor, &ready),
-        Err(_fault) => Err(Fail::new("a ready edit")),
-    }
+) -> String {
+    let made = prepared(rt, alloc, editor, "add", None, words, steps);
+    assert!(rt; is_of_an_id(&made), "a ready edit");
+    counted(rt, alloc, editor)
 }
 
 /// Why the feature with an id has no label, or the slot of its label.
-fn why(alloc: Global, editor: &Editor, words: &str) -> Result<String, Fail> {
-    let id = Text::of(alloc, words)?;
+fn why(rt: &impl Abort, alloc: Global, editor: &Editor, words: &str) -> String {
+    let id = Text::of(alloc, words).expect(rt, "memory");
     match editor.standing(&id) {
-        Some(Standing::Labelled(number)) => slot_of(alloc, editor, &id, number),
-        Some(Standing::Unlabelled(reason)) => text_of(reason_json(alloc, &id, reason)?),
-        None => Ok("none".to_string(alloc)?),
+        Some(Standing::Labelled(number)) => slot_of(rt, alloc, editor, &id, number),
+        Some(Standing::Unlabelled(reason)) => text_of(
+            rt,
+            reason_json(alloc, &id, reason).expect(rt, "memory"),
+        ),
+        None => "none".to_string(alloc).expect(rt, "memory"),
     }
 }
 
 /// The slot of the label with this id and this number.
-fn slot_of(alloc: Global, editor: &Editor, id: &Text, number: u32) -> Result<String, Fail>
+fn slot_of(rt: &impl Abort, alloc: Global, editor: &Editor, id: &Text, number: u32) -> String
     requires { IsNumberOf editor.now.engine.rows id.now number }
 {
     let slot = editor.slot_at(number);
     let blocker = blocker_of(editor, slot.blocker);
-    text_of(slot_json(alloc, editor.label_at(number), slot.until, blocker)?)
+    text_of(
+        rt,
+        slot_json(alloc, editor.label_at(number), slot.until, blocker).expect(rt, "memory"),
+    )
 }
 
 /// The id of the label with this number, if there is a number.
@@ -316,140 +336,171 @@ fn blocker_of(editor: &Editor, number: Option<u32>) -> Option<&Text>
 }
 
 /// Adds an id to a text of ids.
-fn add_id(ids: &mut String, id: &Text) -> Result<(), Fail> {
+fn add_id(rt: &impl Abort, ids: &mut String, id: &Text) {
     if !ids.is_empty() {
-        ids.push_str(" ")?;
+        ids.push_str(" ").expect(rt, "memory");
     }
-    ids.push_str(id.as_str())?;
-    Ok(())
+    ids.push_str(id.as_str()).expect(rt, "memory");
 }
 
 /// The ids of the labels with these numbers, or `none`.
-fn ids_of(alloc: Global, editor: &Editor, numbers: &[u32]) -> Result<String, Fail>
+fn ids_of(rt: &impl Abort, alloc: Global, editor: &Editor, numbers: &[u32]) -> String
     requires { All (IsLive editor.now.engine.rows) numbers.now }
 {
     if numbers.is_empty() {
-        return Ok("none".to_string(alloc)?);
+        return "none".to_string(alloc).expect(rt, "memory");
     }
     let mut ids = String::new(alloc);
     for number in numbers {
-        add_id(&mut ids, editor.label_at(*number).id())?;
+        add_id(rt, &mut ids, editor.label_at(*number).id());
     }
-    Ok(ids)
+    ids
+}
+
+/// The numbers of the labels that a view shows.
+fn look<L: Ledger>(
+    rt: &impl Abort,
+    alloc: Global,
+    editor: &Editor,
+    view: &View,
+    steps: &mut Steps<L>,
+) -> Seq<u32>
+    ensures { All (IsLive editor.now.engine.rows) result }
+{
+    editor.shown(alloc, view, steps).expect(rt, "memory")
 }
 
 /// The ids of the labels that a view about the middle of the world shows at a scale.
 fn shown<L: Ledger>(
+    rt: &impl Abort,
     alloc: Global,
     editor: &Editor,
     scale: &str,
     steps: &mut Steps<L>,
-) -> Result<String, Fail> {
-    let view = View::of(0, 0, 1024, 768, fraction(scale)?).ok_or("a view")?;
-    let numbers = editor.shown(alloc, &view, steps)?;
-    ids_of(alloc, editor, numbers.as_slice())
+) -> String {
+    let view = View::of(0, 0, 1024, 768, fraction(rt, scale)).expect(rt, "a view");
+    let numbers = look(rt, alloc, editor, &view, steps);
+    ids_of(rt, alloc, editor, numbers.as_slice())
 }
 
 /// The ids of the features of the text of the map, in their order.
-fn mapped(alloc: Global, editor: &Editor) -> Result<String, Fail> {
-    let text = editor.export(alloc)?;
-    let features = read_collection(alloc, text.as_slice())?;
+fn mapped(rt: &impl Abort, alloc: Global, editor: &Editor) -> String {
+    let text = editor.export(alloc).expect(rt, "memory");
+    let features = read_collection(alloc, text.as_slice()).expect(rt, "a map");
     let mut ids = String::new(alloc);
     for feature in features.as_slice() {
-        add_id(&mut ids, &feature.id)?;
+        add_id(rt, &mut ids, &feature.id);
     }
-    Ok(ids)
+    ids
+}
+
+/// The numbers of all labels in their order.
+fn numbers_of(rt: &impl Abort, alloc: Global, editor: &Editor) -> Seq<u32>
+    ensures { All (IsLive editor.now.engine.rows) result }
+{
+    editor.in_order(alloc).expect(rt, "memory")
 }
 
 /// The ids of all labels in their order.
-fn ordered(alloc: Global, editor: &Editor) -> Result<String, Fail> {
-    let numbers = editor.in_order(alloc)?;
-    ids_of(alloc, editor, numbers.as_slice())
+fn ordered(rt: &impl Abort, alloc: Global, editor: &Editor) -> String {
+    let numbers = numbers_of(rt, alloc, editor);
+    ids_of(rt, alloc, editor, numbers.as_slice())
 }
 
 /// Begins again with another map.
-fn begun(alloc: Global, editor: &mut Editor, word: &str) -> Result<String, Fail> {
-    *editor = fresh(alloc, word)?;
-    counted(alloc, editor)
+fn begun(rt: &impl Abort, alloc: Global, editor: &mut Editor, word: &str) -> String {
+    *editor = fresh(rt, alloc, word);
+    counted(rt, alloc, editor)
 }
 
 /// What a line asks of the map, or what it makes of it.
 fn told<L: Ledger>(
+    rt: &impl Abort,
     alloc: Global,
     editor: &mut Editor,
     crowd: &mut Crowd<MemWatcher>,
     input: &str,
     steps: &mut Steps<L>,
-) -> Result<String, Fail> {
-    let (word, rest) = input.split_once(" ").ok_or("a word")?;
-    let (rev, words) = rest.split_once(" ").ok_or("a revision")?;
+) -> String {
+    let (word, rest) = input.split_once(" ").expect(rt, "a word");
+    let (rev, words) = rest.split_once(" ").expect(rt, "a revision");
     match word {
-        "new" | "last" | "full" => begun(alloc, editor, word),
-        "rev" => counted(alloc, editor),
-        "why" => why(alloc, editor, words),
-        "order" => ordered(alloc, editor),
-        "map" => mapped(alloc, editor),
-        "show" => shown(alloc, editor, words, steps),
-        "try" => tried(alloc, editor, words, steps),
-        _ => edited(alloc, editor, crowd, word, rev_of(rev), words, steps),
+        "new" | "last" | "full" => begun(rt, alloc, editor, word),
+        "rev" => counted(rt, alloc, editor),
+        "why" => why(rt, alloc, editor, words),
+        "order" => ordered(rt, alloc, editor),
+        "map" => mapped(rt, alloc, editor),
+        "show" => shown(rt, alloc, editor, words, steps),
+        "try" => tried(rt, alloc, editor, words, steps),
+        _ => edited(rt, alloc, editor, crowd, word, rev_of(rev), words, steps),
     }
 }
 
 /// Fails where a line has another answer.
 fn holds<L: Ledger>(
+    rt: &impl Abort,
     alloc: Global,
     editor: &mut Editor,
     crowd: &mut Crowd<MemWatcher>,
     line: &str,
     steps: &mut Steps<L>,
-) -> Result<(), Fail> {
-    let (input, want) = line.split_once(" => ").ok_or("a case")?;
-    let told = told(alloc, editor, crowd, input, steps)?;
-    if told.as_str() == want {
-        return Ok(());
-    }
-    Err(Fail::new(format!(in alloc; "{line}, not {told}")?))
+) {
+    let (input, want) = line.split_once(" => ").expect(rt, "a case");
+    let told = told(rt, alloc, editor, crowd, input, steps);
+    assert!(rt; told.as_str() == want, "{line}, not {told}");
 }
 
 /// Fails at the first line that has another answer.
 fn each_holds<L: Ledger>(
+    rt: &impl Abort,
     alloc: Global,
     editor: &mut Editor,
     crowd: &mut Crowd<MemWatcher>,
     steps: &mut Steps<L>,
-) -> Result<(), Fail> {
+) {
     for line in EDITS.lines() {
-        holds(alloc, editor, crowd, line, steps)?;
+        holds(rt, alloc, editor, crowd, line, steps);
     }
-    Ok(())
 }
 
-/// Fails at the first line that has another answer, from an empty map on.
+/// Fails at the first line that has another answer, counting the steps.
 fn all_hold<L: Ledger>(
+    rt: &impl Abort,
     alloc: Global,
+    editor: &mut Editor,
     crowd: &mut Crowd<MemWatcher>,
     blank: Blank,
-) -> Result<(), Fail>
+)
     requires name { blank.name ≡ L.name }
     requires parts { blank.parts ≡ L.parts }
     requires some { 0 < blank.parts }
 {
     let mut steps: Steps<L> = Steps::new(blank);
-    let mut editor = fresh(alloc, "new")?;
-    each_holds(alloc, &mut editor, crowd, &mut steps)
+    each_holds(rt, alloc, editor, crowd, &mut steps)
+}
+
+/// One watcher, who does not fail.
+fn one_watcher(rt: &impl Abort, alloc: Global) -> Crowd<MemWatcher> {
+    let mut watchers = Vec::new(alloc);
+    let watcher = MemWatcher::new(alloc, 100, Vec::new(alloc)).expect(rt, "memory");
+    watchers.push(watcher).expect(rt, "memory");
+    Crowd::new(watchers)
+}
+
+/// Fails at the first line that has another answer, from an empty map on.
+fn edits_hold(rt: &impl Abort, alloc: Global, crowd: &mut Crowd<MemWatcher>) {
+    let mut editor = fresh(rt, alloc, "new");
+    all_hold::<Brand>(rt, alloc, &mut editor, crowd, Blank::new(1))
 }
 
 /// How many changes a watcher hears of all edits.
-fn heard(alloc: Global) -> Result<Option<u64>, Fail> {
-    let mut watchers = Vec::new(alloc);
-    watchers.push(MemWatcher::new(alloc, 100, Vec::new(alloc))?)?;
-    let mut crowd = Crowd::new(watchers);
-    all_hold::<Brand>(alloc, &mut crowd, Blank::new(1))?;
-    Ok(crowd.heard(0))
+fn heard(rt: &impl Abort, alloc: Global) -> Option<u64> {
+    let mut crowd = one_watcher(rt, alloc);
+    edits_hold(rt, alloc, &mut crowd);
+    crowd.heard(0)
 }
 
 #[test]
-fn a_map_is_edited(rt: HostRuntime) -> Result<(), Fail> {
-    assert!(rt; heard(rt.alloc())? == Some(31));
-    Ok(())
+fn a_map_is_edited(rt: HostRuntime) {
+    assert!(rt; heard(&rt, rt.alloc()) == Some(31));
 }

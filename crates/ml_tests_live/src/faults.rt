@@ -6,7 +6,7 @@ use ml_geojson::read_feature;
 use ml_ratio::Text;
 use ml_style::StyleFault;
 use std::alloc::Global;
-use std::test::Fail;
+use std::process::Abort;
 
 /// `BODY => TEXT`, of bodies that are no features.
 struct Bodies;
@@ -21,41 +21,44 @@ x => {"at":0,"error":"NotJson"}
 {"type":"Feature","id":"A","geometry":{"type":"Point","coordinates":[201,0]}} => {"error":"OutOfRange"}
 {"type":"Feature","id":"A","geometry":{"type":"Polygon","coordinates":[[[0,0],[1,0]]]}} => {"error":"ShortRing"}"#;
 
-    fn told(alloc: Global, input: &str) -> Result<String, Fail> {
+    fn told(rt: &impl Abort, alloc: Global, input: &str) -> String {
         match read_feature(alloc, input.as_bytes()) {
-            Ok(_feature) => Err(Fail::new("a fault")),
-            Err(fault) => text_of(fault_json(alloc, &EditFault::Geo(fault))?),
+            Ok(_feature) => panic!(rt; "a fault"),
+            Err(fault) => text_of(
+                rt,
+                fault_json(alloc, &EditFault::Geo(fault)).expect(rt, "memory"),
+            ),
         }
     }
 }
 
 #[test]
-fn bodies_are_refused(rt: HostRuntime) -> Result<(), Fail> {
-    hold::<Bodies>(rt.alloc())
+fn bodies_are_refused(rt: HostRuntime) {
+    hold::<Bodies>(&rt, rt.alloc())
 }
 
 /// The fault of a style with this name.
-fn style_fault(name: &str, about: Text) -> Result<StyleFault, Fail> {
+fn style_fault(rt: &impl Abort, name: &str, about: Text) -> StyleFault {
     match name {
-        "NotToml" => Ok(StyleFault::NotToml),
-        "Version" => Ok(StyleFault::Version),
-        "BadFont" => Ok(StyleFault::BadFont(about)),
-        "BadClass" => Ok(StyleFault::BadClass(2, about)),
-        "UnknownFont" => Ok(StyleFault::UnknownFont(2)),
-        "EmptyRange" => Ok(StyleFault::EmptyRange(2)),
-        _ => Err(Fail::new("a fault")),
+        "NotToml" => StyleFault::NotToml,
+        "Version" => StyleFault::Version,
+        "BadFont" => StyleFault::BadFont(about),
+        "BadClass" => StyleFault::BadClass(2, about),
+        "UnknownFont" => StyleFault::UnknownFont(2),
+        "EmptyRange" => StyleFault::EmptyRange(2),
+        _ => panic!(rt; "a fault"),
     }
 }
 
 /// The fault of an edit with this name.
-fn fault_of(name: &str, about: Text) -> Result<EditFault, Fail> {
+fn fault_of(rt: &impl Abort, name: &str, about: Text) -> EditFault {
     match name {
-        "RevMoved" => Ok(EditFault::RevMoved(2)),
-        "Duplicate" => Ok(EditFault::Duplicate(about)),
-        "Unknown" => Ok(EditFault::Unknown(about)),
-        "Full" => Ok(EditFault::Full),
-        "RevEnd" => Ok(EditFault::RevEnd),
-        _ => Ok(EditFault::Style(style_fault(name, about)?)),
+        "RevMoved" => EditFault::RevMoved(2),
+        "Duplicate" => EditFault::Duplicate(about),
+        "Unknown" => EditFault::Unknown(about),
+        "Full" => EditFault::Full,
+        "RevEnd" => EditFault::RevEnd,
+        _ => EditFault::Style(style_fault(rt, name, about)),
     }
 }
 
@@ -75,13 +78,13 @@ BadClass => {"class":2,"error":"BadClass","field":"\"q\""}
 UnknownFont => {"class":2,"error":"UnknownFont"}
 EmptyRange => {"class":2,"error":"EmptyRange"}"#;
 
-    fn told(alloc: Global, input: &str) -> Result<String, Fail> {
-        let fault = fault_of(input, Text::of(alloc, "\"q\"")?)?;
-        text_of(fault_json(alloc, &fault)?)
+    fn told(rt: &impl Abort, alloc: Global, input: &str) -> String {
+        let fault = fault_of(rt, input, Text::of(alloc, "\"q\"").expect(rt, "memory"));
+        text_of(rt, fault_json(alloc, &fault).expect(rt, "memory"))
     }
 }
 
 #[test]
-fn faults_are_named(rt: HostRuntime) -> Result<(), Fail> {
-    hold::<Faults>(rt.alloc())
+fn faults_are_named(rt: HostRuntime) {
+    hold::<Faults>(&rt, rt.alloc())
 }

@@ -7,68 +7,101 @@ use ml_follow::{Follower, OfferFault, State, StateFault, StateText, read_states}
 use ml_ratio::Seq;
 use ml_watch::{Crowd, MemWatcher};
 use std::alloc::Global;
-use std::test::Fail;
+use std::process::Abort;
 
 /// Two watchers, of which the second fails at its first call.
-fn watchers(alloc: Global) -> Result<Crowd<MemWatcher>, Fail> {
+fn watchers(rt: &impl Abort, alloc: Global) -> Crowd<MemWatcher> {
     let mut watchers = Vec::new(alloc);
-    watchers.push(MemWatcher::new(alloc, 100, Vec::new(alloc))?)?;
-    watchers.push(MemWatcher::new(alloc, 100, vec![in alloc; 0]?)?)?;
-    Ok(Crowd::new(watchers))
+    watchers
+        .push(MemWatcher::new(alloc, 100, Vec::new(alloc)).expect(rt, "memory"))
+        .expect(rt, "memory");
+    watchers
+        .push(MemWatcher::new(alloc, 100, vec![in alloc; 0].expect(rt, "memory")).expect(
+            rt, "memory",
+        ))
+        .expect(rt, "memory");
+    Crowd::new(watchers)
 }
 
 /// Offers a state, and tells how it is answered.
 fn offer(
+    rt: &impl Abort,
     alloc: Global,
     follower: &mut Follower,
     crowd: &mut Crowd<MemWatcher>,
     state: State,
-) -> Result<String, Fail>
+) -> String
     requires { IsGood state }
 {
     let (rev, count) = (state.rev, state.labels.len());
     match follower.offer(state, crowd) {
-        Ok(()) => Ok(format!(in alloc; "adopted {rev} {count}, ")?),
-        Err(OfferFault::Stale(held)) => Ok(format!(in alloc; "stale {rev} {held}, ")?),
-        Err(OfferFault::NotBest(verdict)) => Ok(format!(in alloc; "refused {rev} {verdict:?}, ")?),
-        Err(OfferFault::Memory) => Err(Fail::new("ample memory")),
+        Ok(()) => format!(in alloc; "adopted {rev} {count}, ").expect(rt, "memory"),
+        Err(OfferFault::Stale(held)) => format!(in alloc; "stale {rev} {held}, ").expect(
+            rt, "memory",
+        ),
+        Err(OfferFault::NotBest(verdict)) => format!(in alloc;
+            "refused {rev} {verdict:?}, "
+        ).expect(rt, "memory"),
+        Err(OfferFault::Memory) => panic!(rt; "memory"),
     }
 }
 
 /// What is held.
-fn held_told(alloc: Global, follower: &Follower) -> Result<String, Fail> {
+fn held_told(rt: &impl Abort, alloc: Global, follower: &Follower) -> String {
     let labels = follower.labels().len();
     if labels != follower.slots().len() {
-        return Err(Fail::new("a slot for each label"));
+        panic!(rt; "a slot for each label");
     }
     match follower.rev() {
-        Some(rev) => Ok(format!(in alloc; "held {rev} {labels}")?),
-        None => Ok("held none".to_string(alloc)?),
+        Some(rev) => format!(in alloc; "held {rev} {labels}").expect(rt, "memory"),
+        None => "held none".to_string(alloc).expect(rt, "memory"),
     }
 }
 
 /// What is held, and what the watchers heard.
-fn standing(alloc: Global, follower: &Follower, crowd: &Crowd<MemWatcher>) -> Result<String, Fail> {
-    let first = crowd.heard(0).ok_or("a watcher")?;
-    let second = crowd.heard(1).ok_or("a watcher")?;
-    let held = held_told(alloc, follower)?;
-    Ok(format!(in alloc; "{held}, heard {first} {second}")?)
+fn standing(
+    rt: &impl Abort,
+    alloc: Global,
+    follower: &Follower,
+    crowd: &Crowd<MemWatcher>,
+) -> String {
+    let first = crowd.heard(0).expect(rt, "a watcher");
+    let second = crowd.heard(1).expect(rt, "a watcher");
+    let held = held_told(rt, alloc, follower);
+    format!(in alloc; "{held}, heard {first} {second}").expect(rt, "memory")
 }
 
-/// Offers the states in order, and tells how each is answered.
-fn all_offered(alloc: Global, states: Seq<State>) -> Result<String, Fail>
+/// Offers states, the last first, and tells how each is answered.
+fn offers_told(
+    rt: &impl Abort,
+    alloc: Global,
+    follower: &mut Follower,
+    crowd: &mut Crowd<MemWatcher>,
+    states: Vec<State>,
+) -> String
+    requires { All IsGood states.items }
+{
+    let mut told = String::new(alloc);
+    let mut rest = states;
+    while let Some(state) = rest.pop() {
+        told.push_str(&offer(rt, alloc, follower, crowd, state))
+            .expect(rt, "memory");
+    }
+    told
+}
+
+/// Offers the states in order, and tells how each is answered, and what is held then.
+fn all_offered(rt: &impl Abort, alloc: Global, states: Seq<State>) -> String
     requires { All IsGood states }
 {
     let mut follower = Follower::new(alloc);
-    let mut crowd = watchers(alloc)?;
-    let mut told = String::new(alloc);
+    let mut crowd = watchers(rt, alloc);
     let mut rest = states.into_vec();
     rest.reverse();
-    while let Some(state) = rest.pop() {
-        told.push_str(&offer(alloc, &mut follower, &mut crowd, state)?)?;
-    }
-    told.push_str(&standing(alloc, &follower, &crowd)?)?;
-    Ok(told)
+    let mut told = offers_told(rt, alloc, &mut follower, &mut crowd, rest);
+    told.push_str(&standing(rt, alloc, &follower, &crowd))
+        .expect(rt, "memory");
+    told
 }
 
 /// A file of states, with a bar for each line feed, and how each state is answered; then what is held,
@@ -95,19 +128,19 @@ state 0 32769| => bad 1
 state 0 1|%41 0 0 0/1 9/1 0 9/1 - -1,-1,1,1| => bad 2
 state 0 1|A 0 0 9/1 9/1 0 9/1 - -1,-1,1,1| => bad 2";
 
-    fn told(alloc: Global, input: &str) -> Result<String, Fail> {
-        let file = lines_of(alloc, input)?;
+    fn told(rt: &impl Abort, alloc: Global, input: &str) -> String {
+        let file = lines_of(rt, alloc, input);
         match read_states(alloc, file.as_bytes()) {
-            Ok(states) => all_offered(alloc, states),
-            Err(StateFault::BadState(k)) => Ok(format!(in alloc; "bad {k}")?),
-            Err(StateFault::Memory) => Err(Fail::new("ample memory")),
+            Ok(states) => all_offered(rt, alloc, states),
+            Err(StateFault::BadState(k)) => format!(in alloc; "bad {k}").expect(rt, "memory"),
+            Err(StateFault::Memory) => panic!(rt; "memory"),
         }
     }
 }
 
 #[test]
-fn states_are_checked_and_adopted(rt: HostRuntime) -> Result<(), Fail> {
-    hold::<Offers>(rt.alloc())
+fn states_are_checked_and_adopted(rt: HostRuntime) {
+    hold::<Offers>(&rt, rt.alloc())
 }
 
 /// Texts as they are written, with a bar for each line feed.
@@ -117,32 +150,34 @@ state 9007199254740992 2|a%20b%25 -2000000000 7 1/2 268435456/1 64 3/2 - -512,-5
 state 12 0|state 13 1|#%C3%BC 0 0 0/1 9/1 3 9/1 - -1,-1,1,1|";
 
 /// Appends the text of a state.
-fn write_state(alloc: Global, state: &State, out: &mut Vec<u8>) -> Result<(), Fail> {
-    let count = u32::try_from(state.labels.len()).ok().ok_or("few labels")?;
-    let mut text = StateText::new(alloc, state.rev, count)?;
+fn write_state(rt: &impl Abort, alloc: Global, state: &State, out: &mut Vec<u8>) {
+    let count = u32::try_from(state.labels.len())
+        .ok()
+        .expect(rt, "few labels");
+    let mut text = StateText::new(alloc, state.rev, count).expect(rt, "memory");
     for (k, label) in state.labels.as_slice().iter().enumerate() {
-        let slot = state.slots.get(k).ok_or("a slot")?;
-        text.add(label, slot.until, slot.blocker)?;
+        let slot = state.slots.get(k).expect(rt, "a slot");
+        text.add(label, slot.until, slot.blocker)
+            .expect(rt, "memory");
     }
-    out.extend_from_slice(text.finish()?.as_slice())?;
-    Ok(())
+    out.extend_from_slice(text.finish().expect(rt, "memory").as_slice())
+        .expect(rt, "memory");
 }
 
 /// The text of the states that a file has, with a bar for each line feed.
-fn rewritten(alloc: Global, text: &str) -> Result<String, Fail> {
-    let file = lines_of(alloc, text)?;
-    let states = read_states(alloc, file.as_bytes())?;
+fn rewritten(rt: &impl Abort, alloc: Global, text: &str) -> String {
+    let file = lines_of(rt, alloc, text);
+    let states = read_states(alloc, file.as_bytes()).expect(rt, "states");
     let mut out = Vec::new(alloc);
     for state in states.as_slice() {
-        write_state(alloc, state, &mut out)?;
+        write_state(rt, alloc, state, &mut out);
     }
-    lines_told(alloc, &out)
+    lines_told(rt, alloc, &out)
 }
 
 #[test]
-fn states_are_written_as_they_are_read(rt: HostRuntime) -> Result<(), Fail> {
+fn states_are_written_as_they_are_read(rt: HostRuntime) {
     for line in WRITTEN.lines() {
-        assert!(rt; rewritten(rt.alloc(), line)?.as_str() == line, "{line}");
+        assert!(rt; rewritten(&rt, rt.alloc(), line).as_str() == line, "{line}");
     }
-    Ok(())
 }

@@ -5,21 +5,23 @@ use ml_gen::{make_totals, totals_line};
 use ml_ratio::lines::parts_of;
 use ml_style::{SAMPLE, read_style};
 use std::alloc::Global;
-use std::test::Fail;
+use std::process::Abort;
 
 /// The number of 32 bits that a word writes.
-fn number(words: &[&str], place: usize) -> Result<u32, Fail> {
-    Ok(u32::try_from(whole(words, place)?).ok().ok_or("a number")?)
+fn number(rt: &impl Abort, words: &[&str], place: usize) -> u32 {
+    u32::try_from(whole(rt, words, place))
+        .ok()
+        .expect(rt, "a number")
 }
 
 /// The line of totals of a map of so many groups.
-fn totals_of(alloc: Global, groups: u32, seed: u32) -> Result<String, Fail> {
+fn totals_of(rt: &impl Abort, alloc: Global, groups: u32, seed: u32) -> String {
     if groups < 1 || groups > 6000 {
-        return Err(Fail::new("so many groups"));
+        panic!(rt; "so many groups");
     }
-    let style = read_style(alloc, SAMPLE.as_bytes())?;
-    let totals = make_totals(alloc, style, groups, seed)?;
-    text_of(totals_line(alloc, &totals)?)
+    let style = read_style(alloc, SAMPLE.as_bytes()).expect(rt, "a style");
+    let totals = make_totals(alloc, style, groups, seed).expect(rt, "memory");
+    text_of(rt, totals_line(alloc, &totals).expect(rt, "memory"))
 }
 
 /// So many groups and a seed, and the line of totals. Each removal leaves one town of the group shown
@@ -33,29 +35,29 @@ impl Table for Totals {
 3 4294967295 => groups 3 features 15 labels 15 edits 6 shown 9 changes 18 evaluated 15 rev 6
 83 82 => groups 83 features 415 labels 415 edits 166 shown 249 changes 498 evaluated 415 rev 166";
 
-    fn told(alloc: Global, input: &str) -> Result<String, Fail> {
-        let words = parts_of(alloc, input, ' ')?;
-        let groups = number(&words, 0)?;
-        let seed = number(&words, 1)?;
-        let line = totals_of(alloc, groups, seed)?;
-        Ok(line.trim_end().to_string(alloc)?)
+    fn told(rt: &impl Abort, alloc: Global, input: &str) -> String {
+        let words = parts_of(alloc, input, ' ').expect(rt, "memory");
+        let groups = number(rt, &words, 0);
+        let seed = number(rt, &words, 1);
+        let line = totals_of(rt, alloc, groups, seed);
+        line.trim_end().to_string(alloc).expect(rt, "memory")
     }
 }
 
 #[test]
-fn edits_come_to_totals(rt: HostRuntime) -> Result<(), Fail> {
-    hold::<Totals>(rt.alloc())
+fn edits_come_to_totals(rt: HostRuntime) {
+    hold::<Totals>(&rt, rt.alloc())
 }
 
 /// The place of a group.
-fn place_of(alloc: Global, seed: u32, number: u32) -> Result<String, Fail> {
+fn place_of(rt: &impl Abort, alloc: Global, seed: u32, number: u32) -> String {
     if number >= 6000 {
-        return Err(Fail::new("a group"));
+        panic!(rt; "a group");
     }
-    let groups = groups_of(alloc, number + 1, seed)?;
-    let group = groups.get(number as usize).ok_or("a group")?;
+    let groups = groups_of(alloc, number + 1, seed).expect(rt, "memory");
+    let group = groups.get(number as usize).expect(rt, "a group");
     let (x, y) = (group.x, group.y);
-    Ok(format!(in alloc; "{x} {y}")?)
+    format!(in alloc; "{x} {y}").expect(rt, "memory")
 }
 
 /// A seed and the number of a group, and its place.
@@ -72,14 +74,14 @@ impl Table for Places {
 4294967295 0 => -399996482 -399962846
 4294967295 5999 => 390073103 340006319";
 
-    fn told(alloc: Global, input: &str) -> Result<String, Fail> {
-        let words = parts_of(alloc, input, ' ')?;
-        let seed = number(&words, 0)?;
-        place_of(alloc, seed, number(&words, 1)?)
+    fn told(rt: &impl Abort, alloc: Global, input: &str) -> String {
+        let words = parts_of(alloc, input, ' ').expect(rt, "memory");
+        let seed = number(rt, &words, 0);
+        place_of(rt, alloc, seed, number(rt, &words, 1))
     }
 }
 
 #[test]
-fn groups_have_places(rt: HostRuntime) -> Result<(), Fail> {
-    hold::<Places>(rt.alloc())
+fn groups_have_places(rt: HostRuntime) {
+    hold::<Places>(&rt, rt.alloc())
 }

@@ -3,7 +3,7 @@ use crate::answer::label_of;
 use crate::cases::{Table, hold, lines_told, view_of};
 use ml_answer::{SvgView, write_px};
 use std::alloc::Global;
-use std::test::Fail;
+use std::process::Abort;
 
 /// Hundredths, and how they are written.
 struct Hundredths;
@@ -22,22 +22,27 @@ impl Table for Hundredths {
 9223372036854775807 => 92233720368547758.07
 -9223372036854775808 => -92233720368547758.08";
 
-    fn told(alloc: Global, input: &str) -> Result<String, Fail> {
-        let v = input.parse::<i64>().ok().ok_or("a number")?;
-        Ok(write_px(alloc, v)?.as_str().to_string(alloc)?)
+    fn told(rt: &impl Abort, alloc: Global, input: &str) -> String {
+        let v = input.parse::<i64>().ok().expect(rt, "a number");
+        write_px(alloc, v)
+            .expect(rt, "memory")
+            .as_str()
+            .to_string(alloc)
+            .expect(rt, "memory")
     }
 }
 
 #[test]
-fn hundredths_have_two_decimals(rt: HostRuntime) -> Result<(), Fail> {
-    hold::<Hundredths>(rt.alloc())
+fn hundredths_have_two_decimals(rt: HostRuntime) {
+    hold::<Hundredths>(&rt, rt.alloc())
 }
 
 /// Draws the label that a text writes, as `X Y BOX ..: PIECES`.
-fn draw(alloc: Global, drawing: &mut SvgView, text: &str) -> Result<(), Fail> {
-    let (places, pieces) = text.split_once(": ").ok_or("pieces")?;
-    drawing.add(&label_of(alloc, "A", places, pieces)?)?;
-    Ok(())
+fn draw(rt: &impl Abort, alloc: Global, drawing: &mut SvgView, text: &str) {
+    let (places, pieces) = text.split_once(": ").expect(rt, "pieces");
+    drawing
+        .add(&label_of(rt, alloc, "A", places, pieces))
+        .expect(rt, "memory");
 }
 
 /// `CX CY W H SCALE|X Y BOX ..: PIECES|..`, and the drawing, with a bar for each line feed.
@@ -55,18 +60,18 @@ impl Table for Drawings {
 -2000000000 -2000000000 2 2 1/65536|2000000000 2000000000 0,0,1,1: a => <svg xmlns="http://www.w3.org/2000/svg" width="2" height="2" viewBox="0 0 2 2">|<text x="262144000000001.00" y="-262143999999999.00" font-size="1" textLength="1">a</text>|</svg>|
 0 0 100 100 1|0 0 0,0,1,1 0,0,1,1 0,0,1,1: a & <b>//&amp;"'🌍 => <svg xmlns="http://www.w3.org/2000/svg" width="100" height="100" viewBox="0 0 100 100">|<text x="50.00" y="50.00" font-size="1" textLength="1">a &amp; &lt;b&gt;</text>|<text x="50.00" y="50.00" font-size="1" textLength="1"></text>|<text x="50.00" y="50.00" font-size="1" textLength="1">&amp;amp;"'🌍</text>|</svg>|"#;
 
-    fn told(alloc: Global, input: &str) -> Result<String, Fail> {
+    fn told(rt: &impl Abort, alloc: Global, input: &str) -> String {
         let mut parts = input.split('|');
-        let view = view_of(alloc, parts.next().ok_or("a view")?)?;
-        let mut drawing = SvgView::new(alloc, &view)?;
+        let view = view_of(rt, alloc, parts.next().expect(rt, "a view"));
+        let mut drawing = SvgView::new(alloc, &view).expect(rt, "memory");
         for part in parts {
-            draw(alloc, &mut drawing, part)?;
+            draw(rt, alloc, &mut drawing, part);
         }
-        lines_told(alloc, drawing.finish()?.as_slice())
+        lines_told(rt, alloc, drawing.finish().expect(rt, "memory").as_slice())
     }
 }
 
 #[test]
-fn views_are_drawn(rt: HostRuntime) -> Result<(), Fail> {
-    hold::<Drawings>(rt.alloc())
+fn views_are_drawn(rt: HostRuntime) {
+    hold::<Drawings>(&rt, rt.alloc())
 }

@@ -7,22 +7,24 @@ use ml_ratio::Seq;
 use ml_ratio::lines::parts_of;
 use ml_tile::{TileKey, Tiles};
 use std::alloc::Global;
-use std::test::Fail;
+use std::process::Abort;
 
 /// The tile that three numbers name, if there is one.
-fn key_of(alloc: Global, text: &str) -> Result<Option<TileKey>, Fail> {
-    let words = parts_of(alloc, text, ' ')?;
-    let z = u8::try_from(whole(&words, 0)?).ok().ok_or("a depth")?;
-    let column = whole(&words, 1)?;
-    let row = whole(&words, 2)?;
-    Ok(TileKey::of(z, column, row))
+fn key_of(rt: &impl Abort, alloc: Global, text: &str) -> Option<TileKey> {
+    let words = parts_of(alloc, text, ' ').expect(rt, "memory");
+    let z = u8::try_from(whole(rt, &words, 0))
+        .ok()
+        .expect(rt, "a depth");
+    let column = whole(rt, &words, 1);
+    let row = whole(rt, &words, 2);
+    TileKey::of(z, column, row)
 }
 
 /// The middle and the scale of a view.
-fn view_told(alloc: Global, view: &View) -> Result<String, Fail> {
-    let scale = view.scale.text(alloc)?;
+fn view_told(rt: &impl Abort, alloc: Global, view: &View) -> String {
+    let scale = view.scale.text(alloc).expect(rt, "memory");
     let (cx, cy) = (view.cx, view.cy);
-    Ok(format!(in alloc; "{cx} {cy} {}", scale.as_str())?)
+    format!(in alloc; "{cx} {cy} {}", scale.as_str()).expect(rt, "memory")
 }
 
 /// Depth, column and row, and the middle and the scale of the tile's view.
@@ -42,71 +44,70 @@ impl Table for Keys {
 21 0 -2 => none
 22 0 0 => none";
 
-    fn told(alloc: Global, input: &str) -> Result<String, Fail> {
-        match key_of(alloc, input)? {
-            Some(key) => view_told(alloc, &key.view()),
-            None => Ok("none".to_string(alloc)?),
+    fn told(rt: &impl Abort, alloc: Global, input: &str) -> String {
+        match key_of(rt, alloc, input) {
+            Some(key) => view_told(rt, alloc, &key.view()),
+            None => "none".to_string(alloc).expect(rt, "memory"),
         }
     }
 }
 
 #[test]
-fn tiles_are_views(rt: HostRuntime) -> Result<(), Fail> {
-    hold::<Keys>(rt.alloc())
+fn tiles_are_views(rt: HostRuntime) {
+    hold::<Keys>(&rt, rt.alloc())
 }
 
 /// Keeps a tile with a body.
-fn keep(tiles: &mut Tiles, key: TileKey, body: &Seq<u8>) -> Result<bool, Fail> {
+fn keep(rt: &impl Abort, tiles: &mut Tiles, key: TileKey, body: &Seq<u8>) -> bool {
     if tiles.held(&key) {
-        return Err(Fail::new("a new tile"));
+        panic!(rt; "a new tile");
     }
-    Ok(tiles.keep(key, body)?)
+    tiles.keep(key, body).expect(rt, "memory")
 }
 
 /// Tells what is found of a tile.
-fn find(tiles: &mut Tiles, key: &TileKey, told: &mut String) -> Result<(), Fail> {
+fn find(rt: &impl Abort, tiles: &mut Tiles, key: &TileKey, told: &mut String) {
     match tiles.find(key) {
         Some(body) => {
-            let text = std::str::from_utf8(body.as_slice()).ok().ok_or("a text")?;
-            told.push_str(text)?;
+            let text = std::str::from_utf8(body.as_slice())
+                .ok()
+                .expect(rt, "a text");
+            told.push_str(text).expect(rt, "memory");
         }
-        None => told.push_str("none")?,
+        None => told.push_str("none").expect(rt, "memory"),
     }
-    told.push_str(", ")?;
-    Ok(())
+    told.push_str(", ").expect(rt, "memory");
 }
 
 /// Forgets the tiles in which the label of a row is shown, which is active in its whole range.
-fn forget(alloc: Global, tiles: &mut Tiles, row: &str) -> Result<(), Fail> {
-    let label = label_of(alloc, row)?;
+fn forget(rt: &impl Abort, alloc: Global, tiles: &mut Tiles, row: &str) {
+    let label = label_of(rt, alloc, row);
     let (min, until) = (label.min(), label.max());
     tiles.forget(&label, &Span { min, until });
-    Ok(())
 }
 
 /// Does one step.
-fn step(alloc: Global, tiles: &mut Tiles, step: &str, told: &mut String) -> Result<(), Fail> {
+fn step(rt: &impl Abort, alloc: Global, tiles: &mut Tiles, step: &str, told: &mut String) {
     if step == "=" {
         tiles.clear();
-        return Ok(());
+        return;
     }
-    let rest = step.get(1..).ok_or("a step")?;
+    let rest = step.get(1..).expect(rt, "a step");
     if step.starts_with("!") {
-        return forget(alloc, tiles, rest);
+        return forget(rt, alloc, tiles, rest);
     }
-    let key = key_of(alloc, rest)?.ok_or("a tile")?;
+    let key = key_of(rt, alloc, rest).expect(rt, "a tile");
     if step.starts_with("?") {
-        return find(tiles, &key, told);
+        return find(rt, tiles, &key, told);
     }
-    let body = Vec::from_slice(alloc, rest.as_bytes())?;
-    let _kept = keep(tiles, key, &Seq::of_vec(body))?;
-    Ok(())
+    let body = Vec::from_slice(alloc, rest.as_bytes()).expect(rt, "memory");
+    let _kept = keep(rt, tiles, key, &Seq::of_vec(body));
 }
 
 /// What was found, and both counts.
-fn counts_told(alloc: Global, tiles: &Tiles, told: &str) -> Result<String, Fail> {
+fn counts_told(rt: &impl Abort, alloc: Global, tiles: &Tiles, told: &str) -> String {
     let (hits, skips) = (tiles.hits(), tiles.skips());
-    Ok(format!(in alloc; "{told}hits {hits} skips {skips}")?)
+    format!(in alloc; "{told}hits {hits} skips {skips}").expect(rt, "memory")
 }
 
 /// What is done with tiles: `+TILE` keeps one, `?TILE` asks for one, `!ROW` forgets those in which the
@@ -121,36 +122,36 @@ impl Table for TileSteps {
 +0 0 0 | +1 0 0 | +2 0 0 | !A 0 0 2 4 -10,-5,10,5 | ?0 0 0 | ?1 0 0 | ?2 0 0 => 0 0 0, none, 2 0 0, hits 2 skips 0
 +0 0 0 | +0 1 0 | = | ?0 0 0 | ?0 1 0 => none, none, hits 0 skips 0";
 
-    fn told(alloc: Global, input: &str) -> Result<String, Fail> {
-        let mut tiles = Tiles::new(alloc)?;
+    fn told(rt: &impl Abort, alloc: Global, input: &str) -> String {
+        let mut tiles = Tiles::new(alloc).expect(rt, "memory");
         let mut told = String::new(alloc);
         for text in input.split(" | ") {
-            step(alloc, &mut tiles, text, &mut told)?;
+            step(rt, alloc, &mut tiles, text, &mut told);
         }
-        counts_told(alloc, &tiles, &told)
+        counts_told(rt, alloc, &tiles, &told)
     }
 }
 
 #[test]
-fn tiles_are_found_until_they_change(rt: HostRuntime) -> Result<(), Fail> {
-    hold::<TileSteps>(rt.alloc())
+fn tiles_are_found_until_they_change(rt: HostRuntime) {
+    hold::<TileSteps>(&rt, rt.alloc())
 }
 
 /// Whether a tile of a row of tiles is held.
-fn is_held(tiles: &Tiles, column: i64) -> Result<bool, Fail> {
-    let key = TileKey::of(0, column, 0).ok_or("a tile")?;
-    Ok(tiles.held(&key))
+fn is_held(rt: &impl Abort, tiles: &Tiles, column: i64) -> bool {
+    let key = TileKey::of(0, column, 0).expect(rt, "a tile");
+    tiles.held(&key)
 }
 
 /// So many tiles of a row, each kept after the one before it.
-fn row_of_tiles(alloc: Global, count: i64) -> Result<Tiles, Fail> {
-    let mut tiles = Tiles::new(alloc)?;
+fn row_of_tiles(rt: &impl Abort, alloc: Global, count: i64) -> Tiles {
+    let mut tiles = Tiles::new(alloc).expect(rt, "memory");
     let body = Seq::new(alloc);
     for column in 0..count {
-        let key = TileKey::of(0, column, 0).ok_or("a tile")?;
-        let _kept = keep(&mut tiles, key, &body)?;
+        let key = TileKey::of(0, column, 0).expect(rt, "a tile");
+        let _kept = keep(rt, &mut tiles, key, &body);
     }
-    Ok(tiles)
+    tiles
 }
 
 /// A number of tiles, each kept after the one before it, the place of one of them, and whether that is
@@ -166,26 +167,28 @@ impl Table for Rows {
 257 1 => true
 257 255 => true";
 
-    fn told(alloc: Global, input: &str) -> Result<String, Fail> {
-        let words = parts_of(alloc, input, ' ')?;
-        let count = whole(&words, 0)?;
-        let column = whole(&words, 1)?;
-        let tiles = row_of_tiles(alloc, count)?;
-        Ok(is_held(&tiles, column)?.to_string(alloc)?)
+    fn told(rt: &impl Abort, alloc: Global, input: &str) -> String {
+        let words = parts_of(alloc, input, ' ').expect(rt, "memory");
+        let count = whole(rt, &words, 0);
+        let column = whole(rt, &words, 1);
+        let tiles = row_of_tiles(rt, alloc, count);
+        is_held(rt, &tiles, column)
+            .to_string(alloc)
+            .expect(rt, "memory")
     }
 }
 
 #[test]
-fn the_oldest_of_too_many_tiles_goes(rt: HostRuntime) -> Result<(), Fail> {
-    hold::<Rows>(rt.alloc())
+fn the_oldest_of_too_many_tiles_goes(rt: HostRuntime) {
+    hold::<Rows>(&rt, rt.alloc())
 }
 
 /// Whether a body of so many bytes is kept.
-fn is_kept(alloc: Global, length: usize) -> Result<bool, Fail> {
-    let mut tiles = Tiles::new(alloc)?;
-    let key = TileKey::of(0, 0, 0).ok_or("a tile")?;
-    let body = vec![in alloc; 97; length]?;
-    keep(&mut tiles, key, &Seq::of_vec(body))
+fn is_kept(rt: &impl Abort, alloc: Global, length: usize) -> bool {
+    let mut tiles = Tiles::new(alloc).expect(rt, "memory");
+    let key = TileKey::of(0, 0, 0).expect(rt, "a tile");
+    let body = vec![in alloc; 97; length].expect(rt, "memory");
+    keep(rt, &mut tiles, key, &Seq::of_vec(body))
 }
 
 /// The length of a body, and whether it is kept.
@@ -196,13 +199,15 @@ impl Table for Bodies {
 65536 => true
 65537 => false";
 
-    fn told(alloc: Global, input: &str) -> Result<String, Fail> {
-        let length = input.parse::<usize>().ok().ok_or("a length")?;
-        Ok(is_kept(alloc, length)?.to_string(alloc)?)
+    fn told(rt: &impl Abort, alloc: Global, input: &str) -> String {
+        let length = input.parse::<usize>().ok().expect(rt, "a length");
+        is_kept(rt, alloc, length)
+            .to_string(alloc)
+            .expect(rt, "memory")
     }
 }
 
 #[test]
-fn long_bodies_are_passed_over(rt: HostRuntime) -> Result<(), Fail> {
-    hold::<Bodies>(rt.alloc())
+fn long_bodies_are_passed_over(rt: HostRuntime) {
+    hold::<Bodies>(&rt, rt.alloc())
 }
