@@ -7,13 +7,13 @@ use ml_cone::{Label, Slot};
 use ml_pass::{assign, read_table, write_slots};
 use ml_ratio::{Ratio, Seq};
 use std::alloc::Global;
-use std::test::Fail;
+use std::process::Abort;
 
 /// The text of the slots of a table's labels.
-fn slots_of(alloc: Global, table: &str) -> Result<Seq<u8>, Fail> {
-    let labels = read_table(alloc, table.as_bytes())?;
-    let slots = assign(alloc, labels.as_slice())?;
-    Ok(write_slots(alloc, labels.as_slice(), slots.as_slice())?)
+fn slots_of(rt: &impl Abort, alloc: Global, table: &str) -> Seq<u8> {
+    let labels = read_table(alloc, table.as_bytes()).expect(rt, "a table");
+    let slots = assign(alloc, labels.as_slice()).expect(rt, "memory");
+    write_slots(alloc, labels.as_slice(), slots.as_slice()).expect(rt, "memory")
 }
 
 /// Tables, and the slots of their labels, with a bar for each line feed. In order:
@@ -42,24 +42,26 @@ A 7 7 0 1000 -10,-5,10,5|B 7 7 0 1000 -10,-5,10,5| => A 1000/1 -|B 0/1 A|
 A 7 7 0 1000 -10,-5,0,5|B 7 7 0 1000 0,-5,10,5| => A 1000/1 -|B 1000/1 -|
 A -1800000000 0 0 268435456 -10,-5,10,5|B 1800000000 0 0 268435456 -10,-5,10,5| => A 268435456/1 -|B 180000000/1 A|";
 
-    fn told(alloc: Global, input: &str) -> Result<String, Fail> {
-        let table = lines_of(alloc, input)?;
-        lines_told(alloc, slots_of(alloc, &table)?.as_slice())
+    fn told(rt: &impl Abort, alloc: Global, input: &str) -> String {
+        let table = lines_of(rt, alloc, input);
+        lines_told(rt, alloc, slots_of(rt, alloc, &table).as_slice())
     }
 }
 
 #[test]
-fn each_range_is_as_long_as_those_before_it_allow(rt: HostRuntime) -> Result<(), Fail> {
-    hold::<Choices>(rt.alloc())
+fn each_range_is_as_long_as_those_before_it_allow(rt: HostRuntime) {
+    hold::<Choices>(&rt, rt.alloc())
 }
 
 /// The labels that a text writes, with ` | ` between.
-fn labels_of(alloc: Global, text: &str) -> Result<Vec<Label>, Fail> {
+fn labels_of(rt: &impl Abort, alloc: Global, text: &str) -> Vec<Label> {
     let mut labels = Vec::new(alloc);
     for part in text.split(" | ") {
-        labels.push(good_label(alloc, part)?)?;
+        labels
+            .push(good_label(rt, alloc, part))
+            .expect(rt, "memory");
     }
-    Ok(labels)
+    labels
 }
 
 /// The labels, where a choice may have so many.
@@ -70,15 +72,16 @@ fn few(labels: &[Label]) -> &[Label]
 }
 
 /// The ends of slots, and the place of the last one's blocker.
-fn ends_told(alloc: Global, slots: &[Slot]) -> Result<String, Fail> {
+fn ends_told(rt: &impl Abort, alloc: Global, slots: &[Slot]) -> String {
     let mut told = String::new(alloc);
     for slot in slots {
-        told.push_str(&ratio_told(alloc, Some(slot.until))?)?;
-        told.push_str(", ")?;
+        told.push_str(&ratio_told(rt, alloc, Some(slot.until)))
+            .expect(rt, "memory");
+        told.push_str(", ").expect(rt, "memory");
     }
-    let last = slots.last().ok_or("a slot")?;
-    let blocker = last.blocker.ok_or("a blocker")?;
-    Ok(format!(in alloc; "{told}{blocker}")?)
+    let last = slots.last().expect(rt, "a slot");
+    let blocker = last.blocker.expect(rt, "a blocker");
+    format!(in alloc; "{told}{blocker}").expect(rt, "memory")
 }
 
 /// Three labels with margins, each 400 units from the next, and their ends; then the place of the
@@ -89,23 +92,23 @@ impl Table for Margins {
     const LINES: &'static str = "\
 0 0 0 1000 5 1 -10,-10,10,10 | 400 0 0 1000 5 1 -10,-10,10,10 | 800 0 0 1000 5 1 -10,-10,10,10 => 1000/1, 40/3, 80/3, 0";
 
-    fn told(alloc: Global, input: &str) -> Result<String, Fail> {
-        let labels = labels_of(alloc, input)?;
-        let slots = assign(alloc, few(&labels))?;
-        ends_told(alloc, slots.as_slice())
+    fn told(rt: &impl Abort, alloc: Global, input: &str) -> String {
+        let labels = labels_of(rt, alloc, input);
+        let slots = assign(alloc, few(&labels)).expect(rt, "memory");
+        ends_told(rt, alloc, slots.as_slice())
     }
 }
 
 #[test]
-fn margins_of_both_keep_labels_apart(rt: HostRuntime) -> Result<(), Fail> {
-    hold::<Margins>(rt.alloc())
+fn margins_of_both_keep_labels_apart(rt: HostRuntime) {
+    hold::<Margins>(&rt, rt.alloc())
 }
 
 /// Why bytes are no table, or `none`.
-fn fault_told(alloc: Global, bytes: &[u8]) -> Result<String, Fail> {
+fn fault_told(rt: &impl Abort, alloc: Global, bytes: &[u8]) -> String {
     match read_table(alloc, bytes) {
-        Ok(_labels) => Ok("none".to_string(alloc)?),
-        Err(fault) => Ok(format!(in alloc; "{fault:?}")?),
+        Ok(_labels) => "none".to_string(alloc).expect(rt, "memory"),
+        Err(fault) => format!(in alloc; "{fault:?}").expect(rt, "memory"),
     }
 }
 
@@ -148,15 +151,15 @@ A 0 0 0 1 0,0,1,1|A 9 9 0 1 0,0,1,1| => SameId(2)
 |A 0 0 0 1 0,0,1,1|||A 0 0 0 1 0,0,1,1 => SameId(5)
 A 0 0 0 1 0,0,1,1|A 0 0 0 1 0,0,1,1|B| => SameId(2)";
 
-    fn told(alloc: Global, input: &str) -> Result<String, Fail> {
-        let table = lines_of(alloc, input)?;
-        fault_told(alloc, table.as_bytes())
+    fn told(rt: &impl Abort, alloc: Global, input: &str) -> String {
+        let table = lines_of(rt, alloc, input);
+        fault_told(rt, alloc, table.as_bytes())
     }
 }
 
 #[test]
-fn the_first_line_at_fault_decides(rt: HostRuntime) -> Result<(), Fail> {
-    hold::<BadTables>(rt.alloc())
+fn the_first_line_at_fault_decides(rt: HostRuntime) {
+    hold::<BadTables>(&rt, rt.alloc())
 }
 
 /// A table, and the parts of its labels.
@@ -166,31 +169,34 @@ impl Table for GoodTables {
     const LINES: &'static str = "\
 \r|A! -7 9 1/2 14/6 -30,-7,4,8 4,-6,33,9\r||~ 0 0 0 1 -0,0,0001,1 => 0 0 A! -7 9 1/2 7/3 0 -30,-7,4,8:A! 4,-6,33,9:, 1 0 ~ 0 0 0/1 1/1 0 0,0,1,1:~, ";
 
-    fn told(alloc: Global, input: &str) -> Result<String, Fail> {
-        let table = lines_of(alloc, input)?;
-        let labels = read_table(alloc, table.as_bytes())?;
+    fn told(rt: &impl Abort, alloc: Global, input: &str) -> String {
+        let table = lines_of(rt, alloc, input);
+        let labels = read_table(alloc, table.as_bytes()).expect(rt, "a table");
         let mut told = String::new(alloc);
         for label in labels.as_slice() {
-            told.push_str(&label_told(alloc, label)?)?;
-            told.push_str(", ")?;
+            told.push_str(&label_told(rt, alloc, label))
+                .expect(rt, "memory");
+            told.push_str(", ").expect(rt, "memory");
         }
-        Ok(told)
+        told
     }
 }
 
 #[test]
-fn a_line_writes_these_parts(rt: HostRuntime) -> Result<(), Fail> {
-    hold::<GoodTables>(rt.alloc())
+fn a_line_writes_these_parts(rt: HostRuntime) {
+    hold::<GoodTables>(&rt, rt.alloc())
 }
 
 /// A table of 32,768 labels, and a further line.
-fn long_table(alloc: Global, last: &str) -> Result<String, Fail> {
+fn long_table(rt: &impl Abort, alloc: Global, last: &str) -> String {
     let mut table = String::new(alloc);
     for i in 0..32768u32 {
-        table.push_str(&format!(in alloc; "L{i} {i} 0 0 1 0,0,1,1\n")?)?;
+        table
+            .push_str(&format!(in alloc; "L{i} {i} 0 0 1 0,0,1,1\n").expect(rt, "memory"))
+            .expect(rt, "memory");
     }
-    table.push_str(last)?;
-    Ok(table)
+    table.push_str(last).expect(rt, "memory");
+    table
 }
 
 /// The last line of a table of 32,768 other labels, and why that is no table.
@@ -202,15 +208,15 @@ L7 0 0 0 1 0,0,1,1 => SameId(32769)
  => none
 L 0 0 0 1 0,0,1,1 => Full";
 
-    fn told(alloc: Global, input: &str) -> Result<String, Fail> {
-        let table = long_table(alloc, input)?;
-        fault_told(alloc, table.as_bytes())
+    fn told(rt: &impl Abort, alloc: Global, input: &str) -> String {
+        let table = long_table(rt, alloc, input);
+        fault_told(rt, alloc, table.as_bytes())
     }
 }
 
 #[test]
-fn a_table_has_at_most_32768_labels(rt: HostRuntime) -> Result<(), Fail> {
-    hold::<LongTables>(rt.alloc())
+fn a_table_has_at_most_32768_labels(rt: HostRuntime) {
+    hold::<LongTables>(&rt, rt.alloc())
 }
 
 /// A table of two labels.
@@ -226,29 +232,38 @@ fn table_of(word: &str) -> &'static str {
 }
 
 /// The words of a clash.
-fn clash_told(alloc: Global, i: usize, j: usize, limit: &Ratio) -> Result<String, Fail> {
-    let limit = limit.text(alloc)?;
-    Ok(format!(in alloc; "Clash {i} {j} {}", limit.as_str())?)
+fn clash_told(rt: &impl Abort, alloc: Global, i: usize, j: usize, limit: &Ratio) -> String {
+    let limit = limit.text(alloc).expect(rt, "memory");
+    format!(in alloc; "Clash {i} {j} {}", limit.as_str()).expect(rt, "memory")
 }
 
 /// The words of a verdict.
-fn verdict_told(alloc: Global, verdict: Verdict) -> Result<String, Fail> {
+fn verdict_told(rt: &impl Abort, alloc: Global, verdict: Verdict) -> String {
     let (word, place) = match verdict {
-        Verdict::Best => return Ok("Best".to_string(alloc)?),
-        Verdict::Clash(i, j, limit) => return clash_told(alloc, i, j, &limit),
+        Verdict::Best => return "Best".to_string(alloc).expect(rt, "memory"),
+        Verdict::Clash(i, j, limit) => return clash_told(rt, alloc, i, j, &limit),
         Verdict::BadEnd(i) => ("BadEnd", i),
         Verdict::Uncovered(i) => ("Uncovered", i),
         Verdict::BadBlocker(i) => ("BadBlocker", i),
     };
-    Ok(format!(in alloc; "{word} {place}")?)
+    format!(in alloc; "{word} {place}").expect(rt, "memory")
 }
 
 /// What the judge says of the labels of a table and their slots.
-fn judged(alloc: Global, labels: &[Label], slots: &[Slot]) -> Result<String, Fail> {
+fn judged(rt: &impl Abort, alloc: Global, labels: &[Label], slots: &[Slot]) -> String {
     if slots.len() != labels.len() {
-        return Err(Fail::new("a slot for each label"));
+        panic!(rt; "a slot for each label");
     }
-    verdict_told(alloc, check(labels, slots))
+    verdict_told(rt, alloc, check(labels, slots))
+}
+
+/// What the judge says of the labels of a table and the slots that a text writes.
+fn judged_in(rt: &impl Abort, alloc: Global, labels: &[Label], text: &str) -> String
+    requires { length labels.now ≤ 32768 }
+{
+    let text = lines_of(rt, alloc, text);
+    let slots = read_slots(alloc, labels, text.as_bytes()).expect(rt, "slots");
+    judged(rt, alloc, labels, slots.as_slice())
 }
 
 /// A table, slots with a bar for each line feed, and the verdict's words; a clash has its limit behind
@@ -267,41 +282,53 @@ two | A 1000/1 B|B 30/1 -| => BadBlocker 0
 tied | A 1000/1 -|B 40/1 A|C 20/1 A| => Best
 tied | A 1000/1 -|B 40/1 A|C 20/1 B| => BadBlocker 2";
 
-    fn told(alloc: Global, input: &str) -> Result<String, Fail> {
-        let (name, slots) = first(input)?;
-        let labels = read_table(alloc, table_of(name).as_bytes())?;
-        let slots = lines_of(alloc, slots)?;
-        let slots = read_slots(alloc, labels.as_slice(), slots.as_bytes())?;
-        judged(alloc, labels.as_slice(), slots.as_slice())
+    fn told(rt: &impl Abort, alloc: Global, input: &str) -> String {
+        let (name, slots) = first(rt, input);
+        let labels = read_table(alloc, table_of(name).as_bytes()).expect(rt, "a table");
+        judged_in(rt, alloc, labels.as_slice(), slots)
     }
 }
 
 #[test]
-fn the_first_wrong_slot_is_judged(rt: HostRuntime) -> Result<(), Fail> {
-    hold::<Verdicts>(rt.alloc())
+fn the_first_wrong_slot_is_judged(rt: HostRuntime) {
+    hold::<Verdicts>(&rt, rt.alloc())
+}
+
+/// The id of the label at a place, or `-` for no place.
+fn blocker_told<'a>(rt: &impl Abort, labels: &'a [Label], place: Option<u32>) -> &'a str {
+    match place {
+        Some(place) => {
+            let label = labels.get(place as usize).expect(rt, "a place");
+            label.id().as_str()
+        }
+        None => "-",
+    }
+}
+
+/// A slot as it is written again, with a bar for the line feed.
+fn row_told(rt: &impl Abort, alloc: Global, id: &str, slot: &Slot, blocker: &str) -> String {
+    let until = slot.until.text(alloc).expect(rt, "memory");
+    let until = until.as_str();
+    format!(in alloc; "{id} {until} {blocker}|").expect(rt, "memory")
 }
 
 /// Slots as they are written again, with a bar for each line feed.
-fn written(alloc: Global, labels: &[Label], slots: &[Slot]) -> Result<String, Fail> {
+fn written(rt: &impl Abort, alloc: Global, labels: &[Label], slots: &[Slot]) -> String {
     let mut told = String::new(alloc);
     for (label, slot) in labels.iter().zip(slots) {
-        let until = slot.until.text(alloc)?;
-        let blocker = match slot.blocker {
-            Some(place) => labels.get(place as usize).ok_or("a place")?.id().as_str(),
-            None => "-",
-        };
-        let (id, until) = (label.id().as_str(), until.as_str());
-        told.push_str(&format!(in alloc; "{id} {until} {blocker}|")?)?;
+        let blocker = blocker_told(rt, labels, slot.blocker);
+        told.push_str(&row_told(rt, alloc, label.id().as_str(), slot, blocker))
+            .expect(rt, "memory");
     }
-    Ok(told)
+    told
 }
 
 /// The slots of the two labels that bytes write, as they are written again, or the line at fault.
-fn slots_told(alloc: Global, bytes: &[u8]) -> Result<String, Fail> {
-    let labels = read_table(alloc, TWO.as_bytes())?;
+fn slots_told(rt: &impl Abort, alloc: Global, bytes: &[u8]) -> String {
+    let labels = read_table(alloc, TWO.as_bytes()).expect(rt, "a table");
     match read_slots(alloc, labels.as_slice(), bytes) {
-        Ok(slots) => written(alloc, labels.as_slice(), slots.as_slice()),
-        Err(fault) => Ok(format!(in alloc; "{fault:?}")?),
+        Ok(slots) => written(rt, alloc, labels.as_slice(), slots.as_slice()),
+        Err(fault) => format!(in alloc; "{fault:?}").expect(rt, "memory"),
     }
 }
 
@@ -326,21 +353,20 @@ A 1000/1| => BadLine(1)
 A 5/0 -| => BadLine(1)
 A 1000/1 -|B 20/1 A\r => BadLine(2)";
 
-    fn told(alloc: Global, input: &str) -> Result<String, Fail> {
-        let text = lines_of(alloc, input)?;
-        slots_told(alloc, text.as_bytes())
+    fn told(rt: &impl Abort, alloc: Global, input: &str) -> String {
+        let text = lines_of(rt, alloc, input);
+        slots_told(rt, alloc, text.as_bytes())
     }
 }
 
 #[test]
-fn texts_are_read_as_slots(rt: HostRuntime) -> Result<(), Fail> {
-    hold::<SlotTexts>(rt.alloc())
+fn texts_are_read_as_slots(rt: HostRuntime) {
+    hold::<SlotTexts>(&rt, rt.alloc())
 }
 
 #[test]
-fn bytes_that_are_no_text_are_refused(rt: HostRuntime) -> Result<(), Fail> {
-    let table = fault_told(rt.alloc(), b"A\xff 0 0 0 1 0,0,1,1\n")?;
-    let slots = slots_told(rt.alloc(), b"A 1000/1 \xff\n")?;
+fn bytes_that_are_no_text_are_refused(rt: HostRuntime) {
+    let table = fault_told(&rt, rt.alloc(), b"A\xff 0 0 0 1 0,0,1,1\n");
+    let slots = slots_told(&rt, rt.alloc(), b"A 1000/1 \xff\n");
     assert!(rt; table.as_str() == "BadLine(1)" && slots.as_str() == "BadLine(1)");
-    Ok(())
 }

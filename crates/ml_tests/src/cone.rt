@@ -8,7 +8,7 @@ use ml_cone::{BoxPx, Label, Order, Span, active, meets, overlaps};
 use ml_ratio::lines::parts_of;
 use ml_ratio::{Seq, Text};
 use std::alloc::Global;
-use std::test::Fail;
+use std::process::Abort;
 
 /// Parts of a label, and whether they make one.
 struct Parts;
@@ -52,30 +52,33 @@ impl Table for Parts {
 0 0 0 1000 65 1 -512,-512,512,512 => false
 0 0 0 1000 4294967295 1 -10,-5,10,5 => false";
 
-    fn told(alloc: Global, input: &str) -> Result<String, Fail> {
-        Ok(label_of(alloc, input)?.is_some().to_string(alloc)?)
+    fn told(rt: &impl Abort, alloc: Global, input: &str) -> String {
+        label_of(rt, alloc, input)
+            .is_some()
+            .to_string(alloc)
+            .expect(rt, "memory")
     }
 }
 
 #[test]
-fn labels_have_parts_within_bounds(rt: HostRuntime) -> Result<(), Fail> {
-    hold::<Parts>(rt.alloc())
+fn labels_have_parts_within_bounds(rt: HostRuntime) {
+    hold::<Parts>(&rt, rt.alloc())
 }
 
 /// A label with so many boxes and pieces, if there is one.
-fn label_with(alloc: Global, boxes: u32, pieces: u32) -> Result<Option<Label>, Fail> {
+fn label_with(rt: &impl Abort, alloc: Global, boxes: u32, pieces: u32) -> Option<Label> {
     let usual = BoxPx {
         l: -10,
         b: -5,
         r: 10,
         t: 5,
     };
-    let boxes = Seq::of_vec(vec![in alloc; usual; boxes as usize]?);
-    let pieces = pieces_of(alloc, pieces)?;
-    let order = order_of(alloc, "0 0 A")?;
-    let min = fraction("0")?;
-    let max = fraction("1000")?;
-    Ok(Label::of(order, 0, 0, boxes, pieces, min, max, 0))
+    let boxes = Seq::of_vec(vec![in alloc; usual; boxes as usize].expect(rt, "memory"));
+    let pieces = pieces_of(rt, alloc, pieces);
+    let order = order_of(rt, alloc, "0 0 A");
+    let min = fraction(rt, "0");
+    let max = fraction(rt, "1000");
+    Label::of(order, 0, 0, boxes, pieces, min, max, 0)
 }
 
 /// Numbers of boxes and of pieces, and whether a label may have so many.
@@ -88,21 +91,21 @@ impl Table for Counts {
 64 63 => false
 64 65 => false";
 
-    fn told(alloc: Global, input: &str) -> Result<String, Fail> {
-        let words = parts_of(alloc, input, ' ')?;
-        let label = label_with(alloc, count(&words, 0)?, count(&words, 1)?)?;
-        Ok(label.is_some().to_string(alloc)?)
+    fn told(rt: &impl Abort, alloc: Global, input: &str) -> String {
+        let words = parts_of(alloc, input, ' ').expect(rt, "memory");
+        let label = label_with(rt, alloc, count(rt, &words, 0), count(rt, &words, 1));
+        label.is_some().to_string(alloc).expect(rt, "memory")
     }
 }
 
 #[test]
-fn labels_have_1_to_64_boxes_with_a_piece_each(rt: HostRuntime) -> Result<(), Fail> {
-    hold::<Counts>(rt.alloc())
+fn labels_have_1_to_64_boxes_with_a_piece_each(rt: HostRuntime) {
+    hold::<Counts>(&rt, rt.alloc())
 }
 
 /// The parts of a copy of a label.
-fn copy_told(alloc: Global, label: &Label) -> Result<String, Fail> {
-    label_told(alloc, &label.copy()?)
+fn copy_told(rt: &impl Abort, alloc: Global, label: &Label) -> String {
+    label_told(rt, alloc, &label.copy().expect(rt, "memory"))
 }
 
 /// Parts of a label, and the parts of the label and of a copy.
@@ -112,26 +115,27 @@ impl Table for Copies {
     const LINES: &'static str = "\
 -7 9 1/2 7/3 5 2 -30,-7,4,8 4,-6,33,9 => 0 0 A -7 9 1/2 7/3 5 -30,-7,4,8:a 4,-6,33,9:a, copied 0 0 A -7 9 1/2 7/3 5 -30,-7,4,8:a 4,-6,33,9:a";
 
-    fn told(alloc: Global, input: &str) -> Result<String, Fail> {
-        let mut told = label_told(alloc, &good_label(alloc, input)?)?;
-        told.push_str(", copied ")?;
-        told.push_str(&copy_told(alloc, &good_label(alloc, input)?)?)?;
-        Ok(told)
+    fn told(rt: &impl Abort, alloc: Global, input: &str) -> String {
+        let mut told = label_told(rt, alloc, &good_label(rt, alloc, input));
+        told.push_str(", copied ").expect(rt, "memory");
+        told.push_str(&copy_told(rt, alloc, &good_label(rt, alloc, input)))
+            .expect(rt, "memory");
+        told
     }
 }
 
 #[test]
-fn a_label_and_its_copy_have_its_parts(rt: HostRuntime) -> Result<(), Fail> {
-    hold::<Copies>(rt.alloc())
+fn a_label_and_its_copy_have_its_parts(rt: HostRuntime) {
+    hold::<Copies>(&rt, rt.alloc())
 }
 
 /// The order that a text writes, as `CLASS RANK ID`.
-fn order_of(alloc: Global, text: &str) -> Result<Order, Fail> {
-    let words = parts_of(alloc, text, ' ')?;
-    let class = count(&words, 0)?;
-    let rank = number(&words, 1)?;
-    let id = Text::of(alloc, word(&words, 2)?)?;
-    Ok(Order { class, rank, id })
+fn order_of(rt: &impl Abort, alloc: Global, text: &str) -> Order {
+    let words = parts_of(alloc, text, ' ').expect(rt, "memory");
+    let class = count(rt, &words, 0);
+    let rank = number(rt, &words, 1);
+    let id = Text::of(alloc, word(rt, &words, 2)).expect(rt, "memory");
+    Order { class, rank, id }
 }
 
 /// Each stands before the next.
@@ -146,15 +150,14 @@ const ORDERS: &str = "\
 4294967295 9 A";
 
 #[test]
-fn priority_goes_by_class_then_rank_downwards_then_id(rt: HostRuntime) -> Result<(), Fail> {
+fn priority_goes_by_class_then_rank_downwards_then_id(rt: HostRuntime) {
     let mut orders = Vec::new(rt.alloc());
     for line in ORDERS.lines() {
-        let order = order_of(rt.alloc(), line)?;
-        assert!(rt; order.copy()? == order, "{line}");
-        orders.push(order)?;
+        let order = order_of(&rt, rt.alloc(), line);
+        assert!(rt; order.copy().expect(&rt, "memory") == order, "{line}");
+        orders.push(order).expect(&rt, "memory");
     }
     assert!(rt; is_rising(&orders));
-    Ok(())
 }
 
 /// Parts of a view, and whether they make one.
@@ -178,14 +181,17 @@ impl Table for Views {
 5 -6 2 2 268435456 => false
 5 -6 2 2 4294967295/16 => true";
 
-    fn told(alloc: Global, input: &str) -> Result<String, Fail> {
-        Ok(view_of(alloc, input)?.is_some().to_string(alloc)?)
+    fn told(rt: &impl Abort, alloc: Global, input: &str) -> String {
+        view_of(rt, alloc, input)
+            .is_some()
+            .to_string(alloc)
+            .expect(rt, "memory")
     }
 }
 
 #[test]
-fn views_have_even_sides_and_a_scale(rt: HostRuntime) -> Result<(), Fail> {
-    hold::<Views>(rt.alloc())
+fn views_have_even_sides_and_a_scale(rt: HostRuntime) {
+    hold::<Views>(&rt, rt.alloc())
 }
 
 /// Parts of a view, and the words of the view.
@@ -195,14 +201,14 @@ impl Table for ViewParts {
     const LINES: &'static str = "\
 5 -6 4096 2 38/4 => 5 -6 4096 2 19/2";
 
-    fn told(alloc: Global, input: &str) -> Result<String, Fail> {
-        view_told(alloc, &good_view(alloc, input)?)
+    fn told(rt: &impl Abort, alloc: Global, input: &str) -> String {
+        view_told(rt, alloc, &good_view(rt, alloc, input))
     }
 }
 
 #[test]
-fn a_view_has_its_parts(rt: HostRuntime) -> Result<(), Fail> {
-    hold::<ViewParts>(rt.alloc())
+fn a_view_has_its_parts(rt: HostRuntime) {
+    hold::<ViewParts>(&rt, rt.alloc())
 }
 
 /// A range, a scale, and whether a label with the range is active there.
@@ -219,18 +225,20 @@ impl Table for Ranges {
 1/2 7/3 8/3 => false
 5 5 5 => false";
 
-    fn told(alloc: Global, input: &str) -> Result<String, Fail> {
-        let words = parts_of(alloc, input, ' ')?;
-        let min = fraction_at(&words, 0)?;
-        let until = fraction_at(&words, 1)?;
-        let scale = fraction_at(&words, 2)?;
-        Ok(active(&Span { min, until }, &scale).to_string(alloc)?)
+    fn told(rt: &impl Abort, alloc: Global, input: &str) -> String {
+        let words = parts_of(alloc, input, ' ').expect(rt, "memory");
+        let min = fraction_at(rt, &words, 0);
+        let until = fraction_at(rt, &words, 1);
+        let scale = fraction_at(rt, &words, 2);
+        active(&Span { min, until }, &scale)
+            .to_string(alloc)
+            .expect(rt, "memory")
     }
 }
 
 #[test]
-fn a_range_has_its_beginning_and_not_its_end(rt: HostRuntime) -> Result<(), Fail> {
-    hold::<Ranges>(rt.alloc())
+fn a_range_has_its_beginning_and_not_its_end(rt: HostRuntime) {
+    hold::<Ranges>(&rt, rt.alloc())
 }
 
 /// Two labels, a scale, and whether they overlap there. The first pair covers 10s..30s and
@@ -282,21 +290,21 @@ impl Table for Meetings {
 -2000000000 0 0 1 64 1 -512,-512,512,512 | 2000000000 0 0 1 64 1 -512,-512,512,512 | 31250000/9 => false
 -2000000000 0 0 1 64 1 -512,-512,512,512 | 2000000000 0 0 1 64 1 -512,-512,512,512 | 31250001/9 => true";
 
-    fn told(alloc: Global, input: &str) -> Result<String, Fail> {
-        told_of_pair::<Meetings>(alloc, input)
+    fn told(rt: &impl Abort, alloc: Global, input: &str) -> String {
+        told_of_pair::<Meetings>(rt, alloc, input)
     }
 }
 
 impl OfPair for Meetings {
-    fn told_of(alloc: Global, a: &Label, b: &Label, scale: &str) -> Result<String, Fail> {
-        let scale = fraction(scale)?;
-        both_told(alloc, overlaps(a, b, &scale), overlaps(b, a, &scale))
+    fn told_of(rt: &impl Abort, alloc: Global, a: &Label, b: &Label, scale: &str) -> String {
+        let scale = fraction(rt, scale);
+        both_told(rt, alloc, overlaps(a, b, &scale), overlaps(b, a, &scale))
     }
 }
 
 #[test]
-fn boxes_overlap_in_an_open_interval_of_scales(rt: HostRuntime) -> Result<(), Fail> {
-    hold::<Meetings>(rt.alloc())
+fn boxes_overlap_in_an_open_interval_of_scales(rt: HostRuntime) {
+    hold::<Meetings>(&rt, rt.alloc())
 }
 
 /// A label, a view, and whether a box of the label meets it. At scale 1 the first box covers -10..10
@@ -332,19 +340,19 @@ impl Table for Windows {
 -2000000000 0 0 1000 0 1 -512,-5,512,5 | 2000000000 0 4096 4096 1/65536 => false
 -2000000000 0 0 1000 0 1 -512,-5,512,5 | -2000000000 0 4096 4096 1/65536 => true";
 
-    fn told(alloc: Global, input: &str) -> Result<String, Fail> {
-        told_of_label::<Windows>(alloc, input)
+    fn told(rt: &impl Abort, alloc: Global, input: &str) -> String {
+        told_of_label::<Windows>(rt, alloc, input)
     }
 }
 
 impl OfLabel for Windows {
-    fn told_of(alloc: Global, label: &Label, view: &str) -> Result<String, Fail> {
-        let view = good_view(alloc, view)?;
-        Ok(meets(label, &view).to_string(alloc)?)
+    fn told_of(rt: &impl Abort, alloc: Global, label: &Label, view: &str) -> String {
+        let view = good_view(rt, alloc, view);
+        meets(label, &view).to_string(alloc).expect(rt, "memory")
     }
 }
 
 #[test]
-fn a_label_that_touches_the_window_is_outside(rt: HostRuntime) -> Result<(), Fail> {
-    hold::<Windows>(rt.alloc())
+fn a_label_that_touches_the_window_is_outside(rt: HostRuntime) {
+    hold::<Windows>(&rt, rt.alloc())
 }

@@ -11,14 +11,14 @@ use ml_ratio::lines::parts_of;
 use ml_ratio::{Ratio, Steps};
 use std::alloc::Global;
 use std::marker::Brand;
+use std::process::Abort;
 use std::sync::ledger::{Blank, Ledger};
-use std::test::Fail;
 
 /// The ends of an interval, with `-` where it has no end.
-fn ends_told(alloc: Global, low: Ratio, end: Option<Ratio>) -> Result<String, Fail> {
-    let low = ratio_told(alloc, Some(low))?;
-    let end = ratio_told(alloc, end)?;
-    Ok(format!(in alloc; "{low} {end}")?)
+fn ends_told(rt: &impl Abort, alloc: Global, low: Ratio, end: Option<Ratio>) -> String {
+    let low = ratio_told(rt, alloc, Some(low));
+    let end = ratio_told(rt, alloc, end);
+    format!(in alloc; "{low} {end}").expect(rt, "memory")
 }
 
 /// Two labels of one box, and the ends of the interval of scales at which the boxes overlap. The
@@ -46,23 +46,23 @@ impl Table for Intervals {
 -2000000000 0 0 1 64 1 -512,-512,512,512 | 2000000000 0 0 1 64 1 -512,-512,512,512 => 31250000/9 -
 -2000000000 0 0 1 64 1 -512,-1,512,1 | 1999999999 0 0 1 63 1 -512,-1,512,1 => 3999999999/1151 -";
 
-    fn told(alloc: Global, input: &str) -> Result<String, Fail> {
-        told_of_pair::<Intervals>(alloc, input)
+    fn told(rt: &impl Abort, alloc: Global, input: &str) -> String {
+        told_of_pair::<Intervals>(rt, alloc, input)
     }
 }
 
 impl OfPair for Intervals {
-    fn told_of(alloc: Global, a: &Label, b: &Label, _rest: &str) -> Result<String, Fail> {
+    fn told_of(rt: &impl Abort, alloc: Global, a: &Label, b: &Label, _rest: &str) -> String {
         match interval(a, 0, b, 0) {
-            Some((low, end)) => ends_told(alloc, low, end),
-            None => Ok("none".to_string(alloc)?),
+            Some((low, end)) => ends_told(rt, alloc, low, end),
+            None => "none".to_string(alloc).expect(rt, "memory"),
         }
     }
 }
 
 #[test]
-fn boxes_overlap_in_these_intervals(rt: HostRuntime) -> Result<(), Fail> {
-    hold::<Intervals>(rt.alloc())
+fn boxes_overlap_in_these_intervals(rt: HostRuntime) {
+    hold::<Intervals>(&rt, rt.alloc())
 }
 
 /// A label, an earlier one, until where that is active, and the limit that it sets.
@@ -110,21 +110,21 @@ impl Table for Limits {
 400 0 0 1000 5 1 -10,-5,10,5 | 0 0 0 1000 0 1 -10,-5,10,5 | 1000 => 16/1
 400 0 0 1000 0 1 -10,-5,10,5 | 0 0 0 1000 5 1 -10,-5,10,5 | 1000 => 16/1";
 
-    fn told(alloc: Global, input: &str) -> Result<String, Fail> {
-        told_of_pair::<Limits>(alloc, input)
+    fn told(rt: &impl Abort, alloc: Global, input: &str) -> String {
+        told_of_pair::<Limits>(rt, alloc, input)
     }
 }
 
 impl OfPair for Limits {
-    fn told_of(alloc: Global, low: &Label, high: &Label, until: &str) -> Result<String, Fail> {
-        let until = fraction(until)?;
-        ratio_told(alloc, first_block(low, high, &until))
+    fn told_of(rt: &impl Abort, alloc: Global, low: &Label, high: &Label, until: &str) -> String {
+        let until = fraction(rt, until);
+        ratio_told(rt, alloc, first_block(low, high, &until))
     }
 }
 
 #[test]
-fn a_limit_is_where_overlap_begins_in_both_ranges(rt: HostRuntime) -> Result<(), Fail> {
-    hold::<Limits>(rt.alloc())
+fn a_limit_is_where_overlap_begins_in_both_ranges(rt: HostRuntime) {
+    hold::<Limits>(&rt, rt.alloc())
 }
 
 /// Two labels, and whether they are rivals.
@@ -141,20 +141,20 @@ impl Table for Rivals {
 19999 0 0 2000 0 1 -10,-5,10,5 | 0 0 0 1000 0 1 -10,-5,10,5 => true
 20000 0 0 2000 0 1 -10,-5,10,5 | 0 0 0 1000 1 1 -10,-5,10,5 => true";
 
-    fn told(alloc: Global, input: &str) -> Result<String, Fail> {
-        told_of_pair::<Rivals>(alloc, input)
+    fn told(rt: &impl Abort, alloc: Global, input: &str) -> String {
+        told_of_pair::<Rivals>(rt, alloc, input)
     }
 }
 
 impl OfPair for Rivals {
-    fn told_of(alloc: Global, a: &Label, b: &Label, _rest: &str) -> Result<String, Fail> {
-        both_told(alloc, are_rivals(a, b), are_rivals(b, a))
+    fn told_of(rt: &impl Abort, alloc: Global, a: &Label, b: &Label, _rest: &str) -> String {
+        both_told(rt, alloc, are_rivals(a, b), are_rivals(b, a))
     }
 }
 
 #[test]
-fn rivals_overlap_at_a_scale_in_both_ranges(rt: HostRuntime) -> Result<(), Fail> {
-    hold::<Rivals>(rt.alloc())
+fn rivals_overlap_at_a_scale_in_both_ranges(rt: HostRuntime) {
+    hold::<Rivals>(&rt, rt.alloc())
 }
 
 /// A rival: its number, its label and its end.
@@ -202,41 +202,41 @@ fn slot_counted<L: Ledger>(low: &Label, rivals: &Others, blank: Blank) -> Slot
 }
 
 /// A label with a box of 20 by 10 pixels that may be shown from `min` until 1000.
-fn usual(alloc: Global, x: &str, min: &str) -> Result<Label, Fail> {
-    let text = format!(in alloc; "{x} 0 {min} 1000 0 1 -10,-5,10,5")?;
-    good_label(alloc, &text)
+fn usual(rt: &impl Abort, alloc: Global, x: &str, min: &str) -> Label {
+    let text = format!(in alloc; "{x} 0 {min} 1000 0 1 -10,-5,10,5").expect(rt, "memory");
+    good_label(rt, alloc, &text)
 }
 
 /// The rival that a text writes, as `NUMBER X END`.
-fn rival_of(alloc: Global, text: &str) -> Result<Other, Fail> {
-    let words = parts_of(alloc, text, ' ')?;
-    let number = count(&words, 0)?;
-    let label = usual(alloc, word(&words, 1)?, "0")?;
-    let until = fraction_at(&words, 2)?;
-    Ok(Other {
+fn rival_of(rt: &impl Abort, alloc: Global, text: &str) -> Other {
+    let words = parts_of(alloc, text, ' ').expect(rt, "memory");
+    let number = count(rt, &words, 0);
+    let label = usual(rt, alloc, word(rt, &words, 1), "0");
+    let until = fraction_at(rt, &words, 2);
+    Other {
         number,
         label,
         until,
-    })
+    }
 }
 
 /// The rivals that a text writes, or none.
-fn rivals_of(alloc: Global, text: &str) -> Result<Others, Fail> {
+fn rivals_of(rt: &impl Abort, alloc: Global, text: &str) -> Others {
     let mut list = Vec::new(alloc);
     if text != "none" {
         for part in text.split(';') {
-            list.push(rival_of(alloc, part)?)?;
+            list.push(rival_of(rt, alloc, part)).expect(rt, "memory");
         }
     }
-    Ok(Others { list })
+    Others { list }
 }
 
 /// The end and the blocker of a slot.
-fn slot_told(alloc: Global, slot: &Slot) -> Result<String, Fail> {
-    let until = ratio_told(alloc, Some(slot.until))?;
+fn slot_told(rt: &impl Abort, alloc: Global, slot: &Slot) -> String {
+    let until = ratio_told(rt, alloc, Some(slot.until));
     match slot.blocker {
-        Some(number) => Ok(format!(in alloc; "{until} {number}")?),
-        None => Ok(format!(in alloc; "{until} -")?),
+        Some(number) => format!(in alloc; "{until} {number}").expect(rt, "memory"),
+        None => format!(in alloc; "{until} -").expect(rt, "memory"),
     }
 }
 
@@ -265,15 +265,15 @@ impl Table for Slots {
 25 | 0 400 1000;5 800 1000 => 25/1 0
 30 | 0 400 30;5 800 40 => 1000/1 -";
 
-    fn told(alloc: Global, input: &str) -> Result<String, Fail> {
-        let (min, rivals) = first(input)?;
-        let low = usual(alloc, "0", min)?;
-        let rivals = rivals_of(alloc, rivals)?;
-        slot_told(alloc, &slot_of(&low, &rivals))
+    fn told(rt: &impl Abort, alloc: Global, input: &str) -> String {
+        let (min, rivals) = first(rt, input);
+        let low = usual(rt, alloc, "0", min);
+        let rivals = rivals_of(rt, alloc, rivals);
+        slot_told(rt, alloc, &slot_of(&low, &rivals))
     }
 }
 
 #[test]
-fn the_first_rival_that_sets_the_least_limit_blocks(rt: HostRuntime) -> Result<(), Fail> {
-    hold::<Slots>(rt.alloc())
+fn the_first_rival_that_sets_the_least_limit_blocks(rt: HostRuntime) {
+    hold::<Slots>(&rt, rt.alloc())
 }

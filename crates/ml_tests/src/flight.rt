@@ -1,5 +1,5 @@
 //! Stays in a window, and peaks.
-ghost use Rattle.std.specs.Prelude.{All, IfOk};
+ghost use Rattle.std.specs.Prelude.{All};
 ghost use Rattle.ml_flight.specs.Stay.{AreApart};
 
 use crate::cases::{Table, count, first, hold, rows_of, whole};
@@ -9,14 +9,14 @@ use ml_pass::read_table;
 use ml_ratio::Seq;
 use ml_ratio::lines::parts_of;
 use std::alloc::Global;
-use std::test::Fail;
+use std::process::Abort;
 
 /// The window that a text writes, as `CX CY W H`, if it makes one.
-fn window_of(alloc: Global, text: &str) -> Result<Option<Window>, Fail> {
-    let words = parts_of(alloc, text, ' ')?;
-    let cx = whole(&words, 0)?;
-    let cy = whole(&words, 1)?;
-    Ok(Window::of(cx, cy, count(&words, 2)?, count(&words, 3)?))
+fn window_of(rt: &impl Abort, alloc: Global, text: &str) -> Option<Window> {
+    let words = parts_of(alloc, text, ' ').expect(rt, "memory");
+    let cx = whole(rt, &words, 0);
+    let cy = whole(rt, &words, 1);
+    Window::of(cx, cy, count(rt, &words, 2), count(rt, &words, 3))
 }
 
 /// Four words, and whether they make a window.
@@ -33,20 +33,22 @@ impl Table for Windows {
 0 0 0 2 => no
 0 0 2 4098 => no";
 
-    fn told(alloc: Global, input: &str) -> Result<String, Fail> {
-        let made = window_of(alloc, input)?.is_some();
-        Ok(if made { "yes" } else { "no" }.to_string(alloc)?)
+    fn told(rt: &impl Abort, alloc: Global, input: &str) -> String {
+        let made = window_of(rt, alloc, input).is_some();
+        if made { "yes" } else { "no" }
+            .to_string(alloc)
+            .expect(rt, "memory")
     }
 }
 
 #[test]
-fn a_window_is_a_view_without_its_scale(rt: HostRuntime) -> Result<(), Fail> {
-    hold::<Windows>(rt.alloc())
+fn a_window_is_a_view_without_its_scale(rt: HostRuntime) {
+    hold::<Windows>(&rt, rt.alloc())
 }
 
 /// The stays of each label.
-fn timelines(alloc: Global, labels: &[Label], at: &Window) -> Result<Seq<Seq<Stay>>, Fail>
-    ensures { IfOk result (All AreApart) }
+fn timelines(rt: &impl Abort, alloc: Global, labels: &[Label], at: &Window) -> Seq<Seq<Stay>>
+    ensures { All AreApart result }
 {
     let mut all = Seq::new(alloc);
     for label in labels {
@@ -54,60 +56,64 @@ fn timelines(alloc: Global, labels: &[Label], at: &Window) -> Result<Seq<Seq<Sta
             min: label.min(),
             until: label.max(),
         };
-        all.push(stays(alloc, label, &span, at)?)?;
+        all.push(stays(alloc, label, &span, at).expect(rt, "memory"))
+            .expect(rt, "memory");
     }
-    Ok(all)
+    all
 }
 
 /// A stay as it is printed.
-fn stay_told(alloc: Global, stay: &Stay) -> Result<String, Fail> {
+fn stay_told(rt: &impl Abort, alloc: Global, stay: &Stay) -> String {
     let open = if stay.from_in { "[" } else { "(" };
-    let from = stay.from.text(alloc)?;
-    let to = stay.to.text(alloc)?;
-    Ok(format!(in alloc; "{open}{},{})", from.as_str(), to.as_str())?)
+    let from = stay.from.text(alloc).expect(rt, "memory");
+    let to = stay.to.text(alloc).expect(rt, "memory");
+    format!(in alloc; "{open}{},{})", from.as_str(), to.as_str()).expect(rt, "memory")
 }
 
 /// The stays of a label as they are printed, each with a space before it.
-fn stays_told(alloc: Global, stays: &Seq<Stay>) -> Result<String, Fail> {
+fn stays_told(rt: &impl Abort, alloc: Global, stays: &Seq<Stay>) -> String {
     let mut told = String::new(alloc);
     for stay in stays.as_slice() {
-        told.push_str(" ")?;
-        told.push_str(&stay_told(alloc, stay)?)?;
+        told.push_str(" ").expect(rt, "memory");
+        told.push_str(&stay_told(rt, alloc, stay))
+            .expect(rt, "memory");
     }
-    Ok(told)
+    told
 }
 
 /// A peak as it is printed.
-fn peak_told(alloc: Global, peak: &Peak) -> Result<String, Fail> {
+fn peak_told(rt: &impl Abort, alloc: Global, peak: &Peak) -> String {
     let place = if peak.after { "after" } else { "at" };
-    let mark = peak.mark.text(alloc)?;
+    let mark = peak.mark.text(alloc).expect(rt, "memory");
     let many = peak.count;
-    Ok(format!(in alloc; "peak {many} {place} {}", mark.as_str())?)
+    format!(in alloc; "peak {many} {place} {}", mark.as_str()).expect(rt, "memory")
 }
 
 /// The peak of the stays of a few labels.
-fn peak_of(alloc: Global, all: &Seq<Seq<Stay>>) -> Result<String, Fail>
+fn peak_of(rt: &impl Abort, alloc: Global, all: &Seq<Seq<Stay>>) -> String
     requires { All AreApart all.now }
 {
     if all.len() > 32768 {
-        return Err(Fail::new("at most 32768 labels"));
+        panic!(rt; "at most 32768 labels");
     }
-    peak_told(alloc, &peak(alloc, all)?)
+    peak_told(rt, alloc, &peak(alloc, all).expect(rt, "memory"))
 }
 
 /// The stays of the labels that have some, and the peak.
-fn timeline_told(alloc: Global, labels: &[Label], at: &Window) -> Result<String, Fail> {
-    let all = timelines(alloc, labels, at)?;
+fn timeline_told(rt: &impl Abort, alloc: Global, labels: &[Label], at: &Window) -> String {
+    let all = timelines(rt, alloc, labels, at);
     let mut told = String::new(alloc);
     for (label, stays) in labels.iter().zip(all.as_slice()) {
         if stays.len() > 0 {
-            told.push_str(label.id().as_str())?;
-            told.push_str(&stays_told(alloc, stays)?)?;
-            told.push_str(", ")?;
+            told.push_str(label.id().as_str()).expect(rt, "memory");
+            told.push_str(&stays_told(rt, alloc, stays))
+                .expect(rt, "memory");
+            told.push_str(", ").expect(rt, "memory");
         }
     }
-    told.push_str(&peak_of(alloc, &all)?)?;
-    Ok(told)
+    told.push_str(&peak_of(rt, alloc, &all))
+        .expect(rt, "memory");
+    told
 }
 
 /// A window, and labels as lines of a table, each active from its minimum to its maximum; then the
@@ -143,16 +149,16 @@ impl Table for LabelStays {
 0 0 10 10 | A -794 0 10/1 153/1 -15,-20,9,20 -11,-20,-10,20 32,-512,89,512 4,-20,20,20 -16,-20,-6,20 / B 293 354 1/1 34/7 0,-4,1,4 / C -1753 0 22/1 9770/1 -4,-4,0,4 => A [10/1,794/27) (794/25,153/1), C (1753/5,9770/1), peak 1 at 10/1
 -29 0 4 10 | A 21 -9 363/2 79725/1 9,-6,16,20 / B 7 0 0/1 1/1 -2,-20,15,20 / C 3 20 0/1 18/7 -2,-4,3,4 / D 5 7 1/1 284/3 -2,-3,1,0 -3,-4,3,4 -4,-4,-1,4 -5,-20,-2,20 -15,-20,-9,20 => D (2/1,34/7) (34/7,284/3), peak 1 after 2/1";
 
-    fn told(alloc: Global, input: &str) -> Result<String, Fail> {
-        let (words, rows) = first(input)?;
-        let at = window_of(alloc, words)?.ok_or("a window")?;
-        let table = rows_of(alloc, rows)?;
-        let labels = read_table(alloc, table.as_bytes())?;
-        timeline_told(alloc, labels.as_slice(), &at)
+    fn told(rt: &impl Abort, alloc: Global, input: &str) -> String {
+        let (words, rows) = first(rt, input);
+        let at = window_of(rt, alloc, words).expect(rt, "a window");
+        let table = rows_of(rt, alloc, rows);
+        let labels = read_table(alloc, table.as_bytes()).expect(rt, "a table");
+        timeline_told(rt, alloc, labels.as_slice(), &at)
     }
 }
 
 #[test]
-fn stays_are_the_intervals_in_which_a_label_is_shown(rt: HostRuntime) -> Result<(), Fail> {
-    hold::<LabelStays>(rt.alloc())
+fn stays_are_the_intervals_in_which_a_label_is_shown(rt: HostRuntime) {
+    hold::<LabelStays>(&rt, rt.alloc())
 }

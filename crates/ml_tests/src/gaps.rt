@@ -6,24 +6,25 @@ use ml_pass::read_table;
 use ml_ratio::Seq;
 use ml_ratio::lines::parts_of;
 use std::alloc::Global;
-use std::test::Fail;
+use std::process::Abort;
 
 /// A label with its gap.
-fn gap_told(alloc: Global, label: &Label, gap: &Gap) -> Result<String, Fail> {
-    let range = range_told(alloc, &gap.from, &gap.until)?;
-    Ok(format!(in alloc; "{} {range}", label.id().as_str())?)
+fn gap_told(rt: &impl Abort, alloc: Global, label: &Label, gap: &Gap) -> String {
+    let range = range_told(rt, alloc, &gap.from, &gap.until);
+    format!(in alloc; "{} {range}", label.id().as_str()).expect(rt, "memory")
 }
 
 /// Each label with its gap.
-fn gaps_told(alloc: Global, labels: &[Label], gaps: &[Gap]) -> Result<String, Fail> {
+fn gaps_told(rt: &impl Abort, alloc: Global, labels: &[Label], gaps: &[Gap]) -> String {
     let mut told = String::new(alloc);
     for (label, gap) in labels.iter().zip(gaps) {
         if !told.is_empty() {
-            told.push_str(", ")?;
+            told.push_str(", ").expect(rt, "memory");
         }
-        told.push_str(&gap_told(alloc, label, gap)?)?;
+        told.push_str(&gap_told(rt, alloc, label, gap))
+            .expect(rt, "memory");
     }
-    Ok(told)
+    told
 }
 
 /// Labels as lines of a table, and the gap of each.
@@ -51,27 +52,27 @@ A -26 0 13/3 71/2 -1,-4,0,4 / B -10 0 0/1 32/3 -12,-20,10,20 -64,-46,-47,45 2,-2
 A -129 260 597/7 514/3 -2,-4,0,4 -20,-20,14,20 0,-1,3,1 / B 154 107 0/1 1837/1 -8,-20,12,20 / C 223 0 29/7 781/1 -4,-4,-1,4 => A 597/7 514/3, B 514/3 1837/1, C 29/7 597/7
 A 12 0 370/7 1761/1 -4,-3,-1,4 0,-2,4,1 19,-100,61,100 / B -3 0 1/1 217/1 -1,-1,0,2 / C -13 0 0/1 14/1 3,-4,4,4 => A 370/7 1761/1, B 1/1 370/7, C 10/3 14/1";
 
-    fn told(alloc: Global, input: &str) -> Result<String, Fail> {
-        let table = rows_of(alloc, input)?;
-        let labels = read_table(alloc, table.as_bytes())?;
-        let found = gaps(alloc, labels.as_slice())?;
-        gaps_told(alloc, labels.as_slice(), found.as_slice())
+    fn told(rt: &impl Abort, alloc: Global, input: &str) -> String {
+        let table = rows_of(rt, alloc, input);
+        let labels = read_table(alloc, table.as_bytes()).expect(rt, "a table");
+        let found = gaps(alloc, labels.as_slice()).expect(rt, "memory");
+        gaps_told(rt, alloc, labels.as_slice(), found.as_slice())
     }
 }
 
 #[test]
-fn each_label_has_its_longest_free_gap(rt: HostRuntime) -> Result<(), Fail> {
-    hold::<LongestGaps>(rt.alloc())
+fn each_label_has_its_longest_free_gap(rt: HostRuntime) {
+    hold::<LongestGaps>(&rt, rt.alloc())
 }
 
 /// The places of the labels that a view shows under their gaps, or `none`.
-fn places_told(alloc: Global, labels: &[Label], view: &View) -> Result<String, Fail> {
-    let found = gaps(alloc, labels)?;
+fn places_told(rt: &impl Abort, alloc: Global, labels: &[Label], view: &View) -> String {
+    let found = gaps(alloc, labels).expect(rt, "memory");
     if found.len() != labels.len() || labels.len() > 9 {
-        return Err(Fail::new("a gap for each of a few labels"));
+        panic!(rt; "a gap for each of a few labels");
     }
-    let places = shown_gaps(alloc, labels, found.as_slice(), view)?;
-    numbers_told(alloc, places.as_slice())
+    let places = shown_gaps(alloc, labels, found.as_slice(), view).expect(rt, "memory");
+    numbers_told(rt, alloc, places.as_slice())
 }
 
 /// The words of a view and labels as lines of a table, and the places of the labels that the view
@@ -91,54 +92,55 @@ impl Table for GapViews {
 -256 0 100 2 308/1 | A 13 -30 0/1 1314/1 -18,-19,-9,16 / B 25 -9 0/1 1/7 20,-100,38,100 -74,57,-29,95 => 0
 179 0 2 2 147/1 | A -3 0 147/1 193/1 1,-4,2,4 -3,-4,0,2 -32,-100,67,100 / B -10 5 28/3 397/1 -4,-3,2,-1 / C 8 8 0/1 316/7 -46,-100,88,100 -2,-2,4,4 -2,-2,0,0 / D 5 0 1/1 629/1 -18,-19,5,-4 -4,-4,0,4 => 0";
 
-    fn told(alloc: Global, input: &str) -> Result<String, Fail> {
-        let (words, rows) = first(input)?;
-        let view = good_view(alloc, words)?;
-        let table = rows_of(alloc, rows)?;
-        let labels = read_table(alloc, table.as_bytes())?;
-        places_told(alloc, labels.as_slice(), &view)
+    fn told(rt: &impl Abort, alloc: Global, input: &str) -> String {
+        let (words, rows) = first(rt, input);
+        let view = good_view(rt, alloc, words);
+        let table = rows_of(rt, alloc, rows);
+        let labels = read_table(alloc, table.as_bytes()).expect(rt, "a table");
+        places_told(rt, alloc, labels.as_slice(), &view)
     }
 }
 
 #[test]
-fn a_view_shows_labels_under_their_gaps(rt: HostRuntime) -> Result<(), Fail> {
-    hold::<GapViews>(rt.alloc())
+fn a_view_shows_labels_under_their_gaps(rt: HostRuntime) {
+    hold::<GapViews>(&rt, rt.alloc())
 }
 
 /// A piece as it is printed.
-fn piece_told(alloc: Global, piece: &Piece) -> Result<String, Fail> {
+fn piece_told(rt: &impl Abort, alloc: Global, piece: &Piece) -> String {
     let open = if piece.from_in { "[" } else { "(" };
-    let range = range_told(alloc, &piece.from, &piece.to)?;
-    Ok(format!(in alloc; "{open}{range})")?)
+    let range = range_told(rt, alloc, &piece.from, &piece.to);
+    format!(in alloc; "{open}{range})").expect(rt, "memory")
 }
 
 /// Pieces as they are printed, or `none`.
-fn pieces_told(alloc: Global, pieces: &[Piece]) -> Result<String, Fail> {
+fn pieces_told(rt: &impl Abort, alloc: Global, pieces: &[Piece]) -> String {
     if pieces.is_empty() {
-        return Ok("none".to_string(alloc)?);
+        return "none".to_string(alloc).expect(rt, "memory");
     }
     let mut told = String::new(alloc);
     for piece in pieces {
-        told.push_str(&piece_told(alloc, piece)?)?;
+        told.push_str(&piece_told(rt, alloc, piece))
+            .expect(rt, "memory");
     }
-    Ok(told)
+    told
 }
 
 /// The gap that a text writes, as `FROM UNTIL`.
-fn gap_of(alloc: Global, text: &str) -> Result<Gap, Fail> {
-    let words = parts_of(alloc, text, ' ')?;
-    let from = fraction_at(&words, 0)?;
-    let until = fraction_at(&words, 1)?;
-    Ok(Gap { from, until })
+fn gap_of(rt: &impl Abort, alloc: Global, text: &str) -> Gap {
+    let words = parts_of(alloc, text, ' ').expect(rt, "memory");
+    let from = fraction_at(rt, &words, 0);
+    let until = fraction_at(rt, &words, 1);
+    Gap { from, until }
 }
 
 /// The pieces at which the second of two labels, with this gap, blocks the first.
-fn blocked_told(alloc: Global, labels: &[Label], gap: &Gap) -> Result<String, Fail> {
-    let low = labels.first().ok_or("a label")?;
-    let high = labels.get(1).ok_or("two labels")?;
+fn blocked_told(rt: &impl Abort, alloc: Global, labels: &[Label], gap: &Gap) -> String {
+    let low = labels.first().expect(rt, "a label");
+    let high = labels.get(1).expect(rt, "two labels");
     let mut pieces = Seq::new(alloc);
-    blocked(low, high, gap, &mut pieces)?;
-    pieces_told(alloc, pieces.as_slice())
+    blocked(low, high, gap, &mut pieces).expect(rt, "memory");
+    pieces_told(rt, alloc, pieces.as_slice())
 }
 
 /// The gap of the second label, and two labels as lines of a table; the pieces at which the second
@@ -155,16 +157,16 @@ impl Table for BlockedPieces {
 0/1 1000/1 | A 0 0 0/1 1000/1 -10,-5,10,5 / B 0 0 0/1 1000/1 -10,-5,10,5 => (0/1 1000/1)
 0/1 1000/1 | A 0 0 3/1 7/1 -10,-5,10,5 / B 0 0 0/1 1000/1 -10,-5,10,5 => [3/1 7/1)";
 
-    fn told(alloc: Global, input: &str) -> Result<String, Fail> {
-        let (gap, rows) = first(input)?;
-        let gap = gap_of(alloc, gap)?;
-        let table = rows_of(alloc, rows)?;
-        let labels = read_table(alloc, table.as_bytes())?;
-        blocked_told(alloc, labels.as_slice(), &gap)
+    fn told(rt: &impl Abort, alloc: Global, input: &str) -> String {
+        let (gap, rows) = first(rt, input);
+        let gap = gap_of(rt, alloc, gap);
+        let table = rows_of(rt, alloc, rows);
+        let labels = read_table(alloc, table.as_bytes()).expect(rt, "a table");
+        blocked_told(rt, alloc, labels.as_slice(), &gap)
     }
 }
 
 #[test]
-fn pieces_are_where_one_label_blocks_another(rt: HostRuntime) -> Result<(), Fail> {
-    hold::<BlockedPieces>(rt.alloc())
+fn pieces_are_where_one_label_blocks_another(rt: HostRuntime) {
+    hold::<BlockedPieces>(&rt, rt.alloc())
 }

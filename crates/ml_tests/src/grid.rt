@@ -8,10 +8,10 @@ use ml_cone::{Label, Span, View, hull};
 use ml_grid::Grid;
 use ml_grid::laws::added_are_its;
 use ml_ratio::{Seq, Steps};
-use std::alloc::{AllocError, Global};
+use std::alloc::Global;
 use std::marker::Brand;
+use std::process::Abort;
 use std::sync::ledger::{Blank, Ledger};
-use std::test::Fail;
 
 /// A fraction and its band.
 struct Bands;
@@ -28,24 +28,27 @@ impl Table for Bands {
 268435456 => 28
 4294967296 => 32";
 
-    fn told(alloc: Global, input: &str) -> Result<String, Fail> {
-        Ok(fraction(input)?.band().to_string(alloc)?)
+    fn told(rt: &impl Abort, alloc: Global, input: &str) -> String {
+        fraction(rt, input)
+            .band()
+            .to_string(alloc)
+            .expect(rt, "memory")
     }
 }
 
 #[test]
-fn fractions_have_bands(rt: HostRuntime) -> Result<(), Fail> {
-    hold::<Bands>(rt.alloc())
+fn fractions_have_bands(rt: HostRuntime) {
+    hold::<Bands>(&rt, rt.alloc())
 }
 
 /// The first and the last cell of the hull of a label in a band.
-fn hull_told(alloc: Global, label: &Label, band: u8) -> Result<String, Fail> {
+fn hull_told(rt: &impl Abort, alloc: Global, label: &Label, band: u8) -> String {
     if band > 27 {
-        return Err(Fail::new("a band of scales"));
+        panic!(rt; "a band of scales");
     }
     let cells = hull(label, band);
     let (x0, y0, x1, y1) = (cells.x0, cells.y0, cells.x1, cells.y1);
-    Ok(format!(in alloc; "{x0} {y0} {x1} {y1}")?)
+    format!(in alloc; "{x0} {y0} {x1} {y1}").expect(rt, "memory")
 }
 
 /// A label and a band, and the first and the last cell of its hull there.
@@ -63,36 +66,34 @@ impl Table for Hulls {
 -2000000000 2000000000 0 1000 64 1 -512,-512,512,512 | 10 => -1909 1906 -1907 1908
 2000000000 -2000000000 0 1000 64 1 -512,-512,512,512 | 27 => -2 -2 1 1";
 
-    fn told(alloc: Global, input: &str) -> Result<String, Fail> {
-        told_of_label::<Hulls>(alloc, input)
+    fn told(rt: &impl Abort, alloc: Global, input: &str) -> String {
+        told_of_label::<Hulls>(rt, alloc, input)
     }
 }
 
 impl OfLabel for Hulls {
-    fn told_of(alloc: Global, label: &Label, band: &str) -> Result<String, Fail> {
-        let band = u8::try_from(count(&[band], 0)?).ok().ok_or("a band")?;
-        hull_told(alloc, label, band)
+    fn told_of(rt: &impl Abort, alloc: Global, label: &Label, band: &str) -> String {
+        let band = u8::try_from(count(rt, &[band], 0))
+            .ok()
+            .expect(rt, "a band");
+        hull_told(rt, alloc, label, band)
     }
 }
 
 #[test]
-fn labels_have_hulls(rt: HostRuntime) -> Result<(), Fail> {
-    hold::<Hulls>(rt.alloc())
+fn labels_have_hulls(rt: HostRuntime) {
+    hold::<Hulls>(&rt, rt.alloc())
 }
 
 /// Appends what a search in the window of a view finds.
-fn look<L: Ledger>(
-    grid: &Grid,
-    view: &View,
-    numbers: &mut Seq<u32>,
-    blank: Blank,
-) -> Result<(), AllocError>
+fn look<L: Ledger>(rt: &impl Abort, grid: &Grid, view: &View, numbers: &mut Seq<u32>, blank: Blank)
     requires name { blank.name ≡ L.name }
     requires parts { blank.parts ≡ L.parts }
     requires some { 0 < blank.parts }
 {
     let mut looks: Steps<L> = Steps::new(blank);
     grid.in_window(view, numbers, &mut looks)
+        .expect(rt, "memory")
 }
 
 /// Whether the numbers are those of a search that finds one label.
@@ -105,17 +106,17 @@ fn found(numbers: &[u32]) -> &'static str {
 }
 
 /// What a search in the window of a view tells of a grid with one label, and what is left of the grid.
-fn window_told(alloc: Global, label: &Label, span: &Span, view: &View) -> Result<String, Fail> {
+fn window_told(rt: &impl Abort, alloc: Global, label: &Label, span: &Span, view: &View) -> String {
     let mut grid = Grid::new(alloc);
     let room = Grid::entries(label, span);
-    grid.reserve(room)?;
+    grid.reserve(room).expect(rt, "memory");
     grid.add(7, label, span);
     added_are_its();
     let mut numbers = Seq::new(alloc);
-    look::<Brand>(&grid, view, &mut numbers, Blank::new(1))?;
+    look::<Brand>(rt, &grid, view, &mut numbers, Blank::new(1));
     grid.drop_label(7, label, span);
     let (found, left) = (found(numbers.as_slice()), grid.len());
-    Ok(format!(in alloc; "{room} {found} {left}")?)
+    format!(in alloc; "{room} {found} {left}").expect(rt, "memory")
 }
 
 /// A label, the end of its span and a view, and how many entries the label has, whether a search in
@@ -137,43 +138,52 @@ impl Table for Windows {
 0 0 3 8 0 1 -10,-5,10,5 | 8 | 0 0 2 2 2 => 12 found 0
 512 512 0 268435456 64 1 -512,-512,512,512 | 268435456 | 2000000000 -2000000000 4096 4096 268435455 => 427 found 0";
 
-    fn told(alloc: Global, input: &str) -> Result<String, Fail> {
-        told_of_label::<Windows>(alloc, input)
+    fn told(rt: &impl Abort, alloc: Global, input: &str) -> String {
+        told_of_label::<Windows>(rt, alloc, input)
     }
 }
 
 impl OfLabel for Windows {
-    fn told_of(alloc: Global, label: &Label, rest: &str) -> Result<String, Fail> {
-        let (until, view) = first(rest)?;
-        let until = fraction(until)?;
+    fn told_of(rt: &impl Abort, alloc: Global, label: &Label, rest: &str) -> String {
+        let (until, view) = first(rt, rest);
+        let until = fraction(rt, until);
         let min = label.min();
-        window_told(alloc, label, &Span { min, until }, &good_view(alloc, view)?)
+        window_told(
+            rt,
+            alloc,
+            label,
+            &Span { min, until },
+            &good_view(rt, alloc, view),
+        )
     }
 }
 
 #[test]
-fn a_label_is_found_by_windows(rt: HostRuntime) -> Result<(), Fail> {
-    hold::<Windows>(rt.alloc())
+fn a_label_is_found_by_windows(rt: HostRuntime) {
+    hold::<Windows>(&rt, rt.alloc())
 }
 
 /// A grid with one label, whose number is 7, until its maximum.
-fn grid_with(alloc: Global, label: &Label) -> Result<Grid, Fail> {
+fn grid_with(rt: &impl Abort, alloc: Global, label: &Label) -> Grid {
     let (min, until) = (label.min(), label.max());
     let span = Span { min, until };
     let mut grid = Grid::new(alloc);
-    grid.reserve(Grid::entries(label, &span))?;
+    grid.reserve(Grid::entries(label, &span))
+        .expect(rt, "memory");
     grid.add(7, label, &span);
-    Ok(grid)
+    grid
 }
 
 /// Whether a search in band 1 finds the label of a grid, and whether one does in the same cells for labels
 /// that last until a scale.
-fn near_told(alloc: Global, grid: &Grid, other: &Label, scale: &str) -> Result<String, Fail> {
+fn near_told(rt: &impl Abort, alloc: Global, grid: &Grid, other: &Label, scale: &str) -> String {
     let mut numbers = Seq::new(alloc);
-    grid.near(other, 1, &mut numbers)?;
-    let lasting = grid.in_cells(alloc, &hull(other, 1), &fraction(scale)?)?;
+    grid.near(other, 1, &mut numbers).expect(rt, "memory");
+    let lasting = grid
+        .in_cells(alloc, &hull(other, 1), &fraction(rt, scale))
+        .expect(rt, "memory");
     let near = numbers.as_slice() == [7].as_slice();
-    Ok(format!(in alloc; "{near} {}", lasting.as_slice().contains(&7))?)
+    format!(in alloc; "{near} {}", lasting.as_slice().contains(&7)).expect(rt, "memory")
 }
 
 /// Labels that are near a label at (1000, 0), which ends at 1000, in band 1, and those that are not, with
@@ -186,20 +196,20 @@ impl Table for Near {
 2100 0 0 1000 0 1 -10,-5,10,5 | 1001 => true false
 4200 0 0 1000 0 1 -10,-5,10,5 | 1000 => false false";
 
-    fn told(alloc: Global, input: &str) -> Result<String, Fail> {
-        told_of_label::<Near>(alloc, input)
+    fn told(rt: &impl Abort, alloc: Global, input: &str) -> String {
+        told_of_label::<Near>(rt, alloc, input)
     }
 }
 
 impl OfLabel for Near {
-    fn told_of(alloc: Global, other: &Label, scale: &str) -> Result<String, Fail> {
-        let label = good_label(alloc, "1000 0 0 1000 0 1 500,-5,512,5")?;
-        let grid = grid_with(alloc, &label)?;
-        near_told(alloc, &grid, other, scale)
+    fn told_of(rt: &impl Abort, alloc: Global, other: &Label, scale: &str) -> String {
+        let label = good_label(rt, alloc, "1000 0 0 1000 0 1 500,-5,512,5");
+        let grid = grid_with(rt, alloc, &label);
+        near_told(rt, alloc, &grid, other, scale)
     }
 }
 
 #[test]
-fn labels_are_near_by_their_cells(rt: HostRuntime) -> Result<(), Fail> {
-    hold::<Near>(rt.alloc())
+fn labels_are_near_by_their_cells(rt: HostRuntime) {
+    hold::<Near>(&rt, rt.alloc())
 }

@@ -2,51 +2,54 @@
 use crate::cases::{Table, first, hold, number};
 use ml_io::{CalmFiles, CalmSink, Files, MemFiles, MemSink, RealFiles, RealOutput, Sink, put_all};
 use ml_ratio::Text;
-use std::alloc::{AllocError, Global};
+use std::alloc::Global;
 use std::io::Write;
-use std::test::Fail;
+use std::process::Abort;
 use std::{fs, io, rt};
 
 /// What a sink answers to some bytes: how many of them it takes, or `failed`.
-fn put_told<K: Sink>(alloc: Global, sink: &mut K, text: &str) -> Result<String, Fail> {
+fn put_told<K: Sink>(rt: &impl Abort, alloc: Global, sink: &mut K, text: &str) -> String {
     match sink.put(text.as_bytes()) {
-        Ok(count) => Ok(count.to_string(alloc)?),
-        Err(_failed) => Ok("failed".to_string(alloc)?),
+        Ok(count) => count.to_string(alloc).expect(rt, "memory"),
+        Err(_failed) => "failed".to_string(alloc).expect(rt, "memory"),
     }
 }
 
 /// What a sink answers to one step: `put TEXT` puts some of the text, `all TEXT` all of it.
-fn step_told<K: Sink>(alloc: Global, sink: &mut K, step: &str) -> Result<String, Fail> {
-    let (word, text) = step.split_once(" ").ok_or("a step")?;
+fn step_told<K: Sink>(rt: &impl Abort, alloc: Global, sink: &mut K, step: &str) -> String {
+    let (word, text) = step.split_once(" ").expect(rt, "a step");
     if word == "put" {
-        return put_told(alloc, sink, text);
+        return put_told(rt, alloc, sink, text);
     }
     let done = put_all(sink, text.as_bytes()).is_ok();
-    Ok(if done { "done" } else { "failed" }.to_string(alloc)?)
+    if done { "done" } else { "failed" }
+        .to_string(alloc)
+        .expect(rt, "memory")
 }
 
 /// What a sink answers to each of the steps.
-fn steps_told<K: Sink>(alloc: Global, sink: &mut K, steps: &str) -> Result<String, Fail> {
+fn steps_told<K: Sink>(rt: &impl Abort, alloc: Global, sink: &mut K, steps: &str) -> String {
     let mut told = String::new(alloc);
     for step in steps.split(" | ") {
-        told.push_str(&step_told(alloc, sink, step)?)?;
-        told.push_str(", ")?;
+        told.push_str(&step_told(rt, alloc, sink, step))
+            .expect(rt, "memory");
+        told.push_str(", ").expect(rt, "memory");
     }
-    Ok(told)
+    told
 }
 
 /// The answers with the text that bytes are behind them.
-fn with_bytes(alloc: Global, told: &str, bytes: &[u8]) -> Result<String, Fail> {
-    let text = std::str::from_utf8(bytes).ok().ok_or("a text")?;
-    Ok(format!(in alloc; "{told}[{text}]")?)
+fn with_bytes(rt: &impl Abort, alloc: Global, told: &str, bytes: &[u8]) -> String {
+    let text = std::str::from_utf8(bytes).ok().expect(rt, "a text");
+    format!(in alloc; "{told}[{text}]").expect(rt, "memory")
 }
 
 /// The sink in memory that a text writes, as its room and the call that fails.
-fn sink_of(alloc: Global, text: &str) -> Result<MemSink, Fail> {
-    let (room, fails) = text.split_once(" ").ok_or("two numbers")?;
-    let room = number(&[room], 0)? as usize;
-    let fails = number(&[fails], 0)?;
-    Ok(MemSink::new(alloc, room, vec![in alloc; fails; 1]?)?)
+fn sink_of(rt: &impl Abort, alloc: Global, text: &str) -> MemSink {
+    let (room, fails) = text.split_once(" ").expect(rt, "two numbers");
+    let room = number(rt, &[room], 0) as usize;
+    let fails = number(rt, &[fails], 0);
+    MemSink::new(alloc, room, vec![in alloc; fails; 1].expect(rt, "memory")).expect(rt, "memory")
 }
 
 /// The room of a sink in memory, the call that fails, and steps; what the sink answers, and the bytes
@@ -59,17 +62,17 @@ impl Table for MemSinks {
 10 0 | all ab => failed, []
 10 0 | all ab | all ab => failed, done, [ab]";
 
-    fn told(alloc: Global, input: &str) -> Result<String, Fail> {
-        let (words, steps) = first(input)?;
-        let mut sink = sink_of(alloc, words)?;
-        let told = steps_told(alloc, &mut sink, steps)?;
-        with_bytes(alloc, &told, sink.bytes())
+    fn told(rt: &impl Abort, alloc: Global, input: &str) -> String {
+        let (words, steps) = first(rt, input);
+        let mut sink = sink_of(rt, alloc, words);
+        let told = steps_told(rt, alloc, &mut sink, steps);
+        with_bytes(rt, alloc, &told, sink.bytes())
     }
 }
 
 #[test]
-fn a_sink_in_memory_keeps_what_it_takes(rt: HostRuntime) -> Result<(), Fail> {
-    hold::<MemSinks>(rt.alloc())
+fn a_sink_in_memory_keeps_what_it_takes(rt: HostRuntime) {
+    hold::<MemSinks>(&rt, rt.alloc())
 }
 
 /// Steps, and what a calm sink answers and counts.
@@ -79,16 +82,16 @@ impl Table for CalmSinks {
     const LINES: &'static str = "\
 all abc | put de => done, 2, 5";
 
-    fn told(alloc: Global, input: &str) -> Result<String, Fail> {
+    fn told(rt: &impl Abort, alloc: Global, input: &str) -> String {
         let mut sink = CalmSink::new();
-        let told = steps_told(alloc, &mut sink, input)?;
-        Ok(format!(in alloc; "{told}{}", sink.count())?)
+        let told = steps_told(rt, alloc, &mut sink, input);
+        format!(in alloc; "{told}{}", sink.count()).expect(rt, "memory")
     }
 }
 
 #[test]
-fn a_calm_sink_counts(rt: HostRuntime) -> Result<(), Fail> {
-    hold::<CalmSinks>(rt.alloc())
+fn a_calm_sink_counts(rt: HostRuntime) {
+    hold::<CalmSinks>(&rt, rt.alloc())
 }
 
 /// A writer that takes two bytes a call, and fails once it has `room` bytes.
@@ -120,17 +123,17 @@ impl Table for NarrowOutputs {
     const LINES: &'static str = "\
 all abcde | put fg | put h | all h => done, 2, failed, failed, [abcdefg]";
 
-    fn told(alloc: Global, input: &str) -> Result<String, Fail> {
+    fn told(rt: &impl Abort, alloc: Global, input: &str) -> String {
         let bytes = Vec::new(alloc);
         let mut writer = Narrow { bytes, room: 6 };
-        let told = steps_told(alloc, &mut RealOutput::new(&mut writer), input)?;
-        with_bytes(alloc, &told, &writer.bytes)
+        let told = steps_told(rt, alloc, &mut RealOutput::new(&mut writer), input);
+        with_bytes(rt, alloc, &told, &writer.bytes)
     }
 }
 
 #[test]
-fn output_goes_out_piece_by_piece(rt: HostRuntime) -> Result<(), Fail> {
-    hold::<NarrowOutputs>(rt.alloc())
+fn output_goes_out_piece_by_piece(rt: HostRuntime) {
+    hold::<NarrowOutputs>(&rt, rt.alloc())
 }
 
 /// Steps, and what output to two bytes answers.
@@ -140,49 +143,55 @@ impl Table for FullOutputs {
     const LINES: &'static str = "\
 all ab | put  | all c => done, 0, failed, ";
 
-    fn told(alloc: Global, input: &str) -> Result<String, Fail> {
+    fn told(rt: &impl Abort, alloc: Global, input: &str) -> String {
         let mut full = [0u8; 2];
-        steps_told(alloc, &mut RealOutput::new(full.as_mut_slice()), input)
+        steps_told(rt, alloc, &mut RealOutput::new(full.as_mut_slice()), input)
     }
 }
 
 #[test]
-fn a_writer_that_takes_nothing_is_a_fault(rt: HostRuntime) -> Result<(), Fail> {
-    hold::<FullOutputs>(rt.alloc())
+fn a_writer_that_takes_nothing_is_a_fault(rt: HostRuntime) {
+    hold::<FullOutputs>(&rt, rt.alloc())
 }
 
 /// A file with a name and bytes.
-fn file_of(alloc: Global, name: &str, bytes: &[u8]) -> Result<(Text, Vec<u8>), AllocError> {
-    let name = Text::of(alloc, name)?;
-    Ok((name, Vec::from_slice(alloc, bytes)?))
+fn file_of(rt: &impl Abort, alloc: Global, name: &str, bytes: &[u8]) -> (Text, Vec<u8>) {
+    let name = Text::of(alloc, name).expect(rt, "memory");
+    (name, Vec::from_slice(alloc, bytes).expect(rt, "memory"))
 }
 
 /// The files `a` with `abc`, `b` without bytes, and a second `a`, which does not count.
-fn some_files(alloc: Global) -> Result<Vec<(Text, Vec<u8>)>, AllocError> {
+fn some_files(rt: &impl Abort, alloc: Global) -> Vec<(Text, Vec<u8>)> {
     let mut files = Vec::new(alloc);
-    files.push(file_of(alloc, "a", b"abc")?)?;
-    files.push(file_of(alloc, "b", b"")?)?;
-    files.push(file_of(alloc, "a", b"x")?)?;
-    Ok(files)
+    files
+        .push(file_of(rt, alloc, "a", b"abc"))
+        .expect(rt, "memory");
+    files
+        .push(file_of(rt, alloc, "b", b""))
+        .expect(rt, "memory");
+    files
+        .push(file_of(rt, alloc, "a", b"x"))
+        .expect(rt, "memory");
+    files
 }
 
 /// The text of a file that is loaded as a text says, as `NAME LIMIT`, or why it is not.
-fn load_told<F: Files>(alloc: Global, files: &mut F, load: &str) -> Result<String, Fail> {
-    let (name, limit) = load.rsplit_once(" ").ok_or("a name and a limit")?;
-    let limit = number(&[limit], 0)?;
+fn load_told<F: Files>(rt: &impl Abort, alloc: Global, files: &mut F, load: &str) -> String {
+    let (name, limit) = load.rsplit_once(" ").expect(rt, "a name and a limit");
+    let limit = number(rt, &[limit], 0);
     match files.load(alloc, name, limit) {
-        Ok(bytes) => Ok(String::from_utf8(bytes).ok().ok_or("a text")?),
-        Err(fault) => Ok(format!(in alloc; "{fault:?}")?),
+        Ok(bytes) => String::from_utf8(bytes).ok().expect(rt, "a text"),
+        Err(fault) => format!(in alloc; "{fault:?}").expect(rt, "memory"),
     }
 }
 
 /// A text, and the name of the last load that failed, with `-` for none.
-fn with_name(alloc: Global, told: &str, name: Option<&Text>) -> Result<String, Fail> {
+fn with_name(rt: &impl Abort, alloc: Global, told: &str, name: Option<&Text>) -> String {
     let name = match name {
         Some(name) => name.as_str(),
         None => "-",
     };
-    Ok(format!(in alloc; "{told} {name}, ")?)
+    format!(in alloc; "{told} {name}, ").expect(rt, "memory")
 }
 
 /// Files that are loaded in this order, and the text of each, or why it is not loaded, with the name of
@@ -193,20 +202,24 @@ impl Table for MemLoads {
     const LINES: &'static str = "\
 a 3 | a 2 | c 9 | b 0 | a 9 | a 9 => abc -, TooLong -, Failed c,  c, Failed a, abc a, ";
 
-    fn told(alloc: Global, input: &str) -> Result<String, Fail> {
-        let mut files = MemFiles::new(some_files(alloc)?, vec![in alloc; 4]?);
+    fn told(rt: &impl Abort, alloc: Global, input: &str) -> String {
+        let mut files = MemFiles::new(
+            some_files(rt, alloc),
+            vec![in alloc; 4].expect(rt, "memory"),
+        );
         let mut told = String::new(alloc);
         for load in input.split(" | ") {
-            let text = load_told(alloc, &mut files, load)?;
-            told.push_str(&with_name(alloc, &text, files.failed_name())?)?;
+            let text = load_told(rt, alloc, &mut files, load);
+            told.push_str(&with_name(rt, alloc, &text, files.failed_name()))
+                .expect(rt, "memory");
         }
-        Ok(told)
+        told
     }
 }
 
 #[test]
-fn files_in_memory_are_loaded(rt: HostRuntime) -> Result<(), Fail> {
-    hold::<MemLoads>(rt.alloc())
+fn files_in_memory_are_loaded(rt: HostRuntime) {
+    hold::<MemLoads>(&rt, rt.alloc())
 }
 
 /// Files that are loaded, and the text of each, or why it is not loaded. Each name is there.
@@ -216,34 +229,37 @@ impl Table for CalmLoads {
     const LINES: &'static str = "\
 a 3 | a 2 | c 0 => abc, TooLong, , ";
 
-    fn told(alloc: Global, input: &str) -> Result<String, Fail> {
-        let mut files = CalmFiles::new(some_files(alloc)?);
+    fn told(rt: &impl Abort, alloc: Global, input: &str) -> String {
+        let mut files = CalmFiles::new(some_files(rt, alloc));
         let mut told = String::new(alloc);
         for load in input.split(" | ") {
-            told.push_str(&load_told(alloc, &mut files, load)?)?;
-            told.push_str(", ")?;
+            told.push_str(&load_told(rt, alloc, &mut files, load))
+                .expect(rt, "memory");
+            told.push_str(", ").expect(rt, "memory");
         }
-        Ok(told)
+        told
     }
 }
 
 #[test]
-fn calm_files_have_every_name(rt: HostRuntime) -> Result<(), Fail> {
-    hold::<CalmLoads>(rt.alloc())
+fn calm_files_have_every_name(rt: HostRuntime) {
+    hold::<CalmLoads>(&rt, rt.alloc())
 }
 
 /// What loads of real files give, with the name of the last load that failed.
 fn real_told<R: rt::Files>(
+    rt: &impl Abort,
     alloc: Global,
     files: &mut RealFiles<R>,
     loads: &str,
-) -> Result<String, Fail> {
+) -> String {
     let mut told = String::new(alloc);
     for load in loads.split(" | ") {
-        let text = load_told(alloc, files, load)?;
-        told.push_str(&with_name(alloc, &text, files.failed_name())?)?;
+        let text = load_told(rt, alloc, files, load);
+        told.push_str(&with_name(rt, alloc, &text, files.failed_name()))
+            .expect(rt, "memory");
     }
-    Ok(told)
+    told
 }
 
 /// Whether a file is loaded with these bytes.
@@ -255,38 +271,36 @@ fn is_loaded<F: Files>(alloc: Global, files: &mut F, name: &str, bytes: &[u8]) -
 }
 
 #[test]
-fn real_files_are_read_to_their_end(rt: HostRuntime) -> Result<(), Fail> {
+fn real_files_are_read_to_their_end(rt: HostRuntime) {
     let alloc = rt.alloc();
-    let bytes = vec![in alloc; 7u8; 20000]?;
-    fs::write(&rt, "real_files.bin", bytes.as_slice())?;
+    let bytes = vec![in alloc; 7u8; 20000].expect(&rt, "memory");
+    fs::write(&rt, "real_files.bin", bytes.as_slice()).expect(&rt, "a file that is written");
     let mut files = RealFiles::new(&rt);
     assert!(rt; is_loaded(alloc, &mut files, "real_files.bin", bytes.as_slice()));
-    let told = real_told(alloc, &mut files, "real_files.bin 19999")?;
+    let told = real_told(&rt, alloc, &mut files, "real_files.bin 19999");
     assert!(rt; told.as_str() == "TooLong -, ");
-    fs::remove_file(&rt, "real_files.bin")?;
-    Ok(())
+    fs::remove_file(&rt, "real_files.bin").expect(&rt, "a file that is removed");
 }
 
 #[test]
-fn what_has_no_end_or_is_gone_or_a_folder_is_refused(rt: HostRuntime) -> Result<(), Fail> {
-    fs::write(&rt, "gone_file.bin", b"abc")?;
-    fs::remove_file(&rt, "gone_file.bin")?;
+fn what_has_no_end_or_is_gone_or_a_folder_is_refused(rt: HostRuntime) {
+    fs::write(&rt, "gone_file.bin", b"abc").expect(&rt, "a file that is written");
+    fs::remove_file(&rt, "gone_file.bin").expect(&rt, "a file that is removed");
     let mut files = RealFiles::new(&rt);
     let told = real_told(
+        &rt,
         rt.alloc(),
         &mut files,
         "/dev/zero 10 | gone_file.bin 9 | . 20000",
-    )?;
+    );
     assert!(rt; told.as_str() == "TooLong -, Failed gone_file.bin, Failed ., ");
-    Ok(())
 }
 
 #[test]
-fn a_name_is_taken_with_its_blanks(rt: HostRuntime) -> Result<(), Fail> {
-    fs::write(&rt, " blanks ", b"abc")?;
+fn a_name_is_taken_with_its_blanks(rt: HostRuntime) {
+    fs::write(&rt, " blanks ", b"abc").expect(&rt, "a file that is written");
     let mut files = RealFiles::new(&rt);
-    let told = real_told(rt.alloc(), &mut files, " blanks  3 | blanks 3")?;
+    let told = real_told(&rt, rt.alloc(), &mut files, " blanks  3 | blanks 3");
     assert!(rt; told.as_str() == "abc -, Failed blanks, ");
-    fs::remove_file(&rt, " blanks ")?;
-    Ok(())
+    fs::remove_file(&rt, " blanks ").expect(&rt, "a file that is removed");
 }

@@ -8,8 +8,8 @@ use ml_ratio::{Feature, Ratio, Seq, Steps, Text, read_whole};
 use std::alloc::Global;
 use std::collections::HashSet;
 use std::marker::Brand;
+use std::process::Abort;
 use std::sync::ledger::{Blank, Ledger};
-use std::test::Fail;
 
 /// Numerators and denominators, and the fraction in lowest terms.
 struct Fractions;
@@ -26,15 +26,19 @@ impl Table for Fractions {
 4294967297 1 => -
 4294967298 2 => -";
 
-    fn told(alloc: Global, input: &str) -> Result<String, Fail> {
-        let words = parts_of(alloc, input, ' ')?;
-        ratio_told(alloc, Ratio::of(number(&words, 0)?, number(&words, 1)?))
+    fn told(rt: &impl Abort, alloc: Global, input: &str) -> String {
+        let words = parts_of(alloc, input, ' ').expect(rt, "memory");
+        ratio_told(
+            rt,
+            alloc,
+            Ratio::of(number(rt, &words, 0), number(rt, &words, 1)),
+        )
     }
 }
 
 #[test]
-fn fractions_are_reduced_and_bounded(rt: HostRuntime) -> Result<(), Fail> {
-    hold::<Fractions>(rt.alloc())
+fn fractions_are_reduced_and_bounded(rt: HostRuntime) {
+    hold::<Fractions>(&rt, rt.alloc())
 }
 
 /// Texts, and the fraction that each reads as.
@@ -64,14 +68,14 @@ impl Table for FractionTexts {
 1/00000000001 => -
 ١ => -";
 
-    fn told(alloc: Global, input: &str) -> Result<String, Fail> {
-        ratio_told(alloc, Ratio::read(input))
+    fn told(rt: &impl Abort, alloc: Global, input: &str) -> String {
+        ratio_told(rt, alloc, Ratio::read(input))
     }
 }
 
 #[test]
-fn fractions_read_and_write_their_texts(rt: HostRuntime) -> Result<(), Fail> {
-    hold::<FractionTexts>(rt.alloc())
+fn fractions_read_and_write_their_texts(rt: HostRuntime) {
+    hold::<FractionTexts>(&rt, rt.alloc())
 }
 
 /// Fractions, and whether each is a scale.
@@ -86,26 +90,29 @@ impl Table for Scales {
 4294967295/16 => true
 4294967296/16 => false";
 
-    fn told(alloc: Global, input: &str) -> Result<String, Fail> {
-        Ok(fraction(input)?.is_scale().to_string(alloc)?)
+    fn told(rt: &impl Abort, alloc: Global, input: &str) -> String {
+        fraction(rt, input)
+            .is_scale()
+            .to_string(alloc)
+            .expect(rt, "memory")
     }
 }
 
 #[test]
-fn scales_lie_above_zero_and_below_two_to_the_28(rt: HostRuntime) -> Result<(), Fail> {
-    hold::<Scales>(rt.alloc())
+fn scales_lie_above_zero_and_below_two_to_the_28(rt: HostRuntime) {
+    hold::<Scales>(&rt, rt.alloc())
 }
 
 /// Fractions, each less than the next.
 const ORDER: &str = "0 1/65536 1/3 1/2 2/3 1 65537/65536 4294967296";
 
 /// The fractions that a text writes, with spaces between.
-fn fractions_of(alloc: Global, text: &str) -> Result<Vec<Ratio>, Fail> {
+fn fractions_of(rt: &impl Abort, alloc: Global, text: &str) -> Vec<Ratio> {
     let mut fractions = Vec::new(alloc);
     for word in text.split(' ') {
-        fractions.push(fraction(word)?)?;
+        fractions.push(fraction(rt, word)).expect(rt, "memory");
     }
-    Ok(fractions)
+    fractions
 }
 
 /// Whether each of the fractions says that it is less than just those after it.
@@ -121,10 +128,9 @@ fn are_less(fractions: &[Ratio]) -> bool {
 }
 
 #[test]
-fn fractions_are_ordered_by_value(rt: HostRuntime) -> Result<(), Fail> {
-    let fractions = fractions_of(rt.alloc(), ORDER)?;
+fn fractions_are_ordered_by_value(rt: HostRuntime) {
+    let fractions = fractions_of(&rt, rt.alloc(), ORDER);
     assert!(rt; is_rising(&fractions) && are_less(&fractions));
-    Ok(())
 }
 
 /// Fractions that come into a set, and whether each is new there.
@@ -134,20 +140,21 @@ impl Table for FractionSets {
     const LINES: &'static str = "\
 1/2 2/4 1/3 => true, false, true, ";
 
-    fn told(alloc: Global, input: &str) -> Result<String, Fail> {
+    fn told(rt: &impl Abort, alloc: Global, input: &str) -> String {
         let mut set = HashSet::new(alloc);
         let mut told = String::new(alloc);
         for word in input.split(' ') {
-            let new = set.insert(fraction(word)?)?;
-            told.push_str(if new { "true, " } else { "false, " })?;
+            let new = set.insert(fraction(rt, word)).expect(rt, "memory");
+            told.push_str(if new { "true, " } else { "false, " })
+                .expect(rt, "memory");
         }
-        Ok(told)
+        told
     }
 }
 
 #[test]
-fn equal_fractions_have_one_hash(rt: HostRuntime) -> Result<(), Fail> {
-    hold::<FractionSets>(rt.alloc())
+fn equal_fractions_have_one_hash(rt: HostRuntime) {
+    hold::<FractionSets>(&rt, rt.alloc())
 }
 
 /// Texts that come into a set, and whether each is new there.
@@ -157,20 +164,23 @@ impl Table for TextSets {
     const LINES: &'static str = "\
 Zürich Zürich Z => true, false, true, ";
 
-    fn told(alloc: Global, input: &str) -> Result<String, Fail> {
+    fn told(rt: &impl Abort, alloc: Global, input: &str) -> String {
         let mut set = HashSet::new(alloc);
         let mut told = String::new(alloc);
         for word in input.split(' ') {
-            let new = set.insert(Text::of(alloc, word)?)?;
-            told.push_str(if new { "true, " } else { "false, " })?;
+            let new = set
+                .insert(Text::of(alloc, word).expect(rt, "memory"))
+                .expect(rt, "memory");
+            told.push_str(if new { "true, " } else { "false, " })
+                .expect(rt, "memory");
         }
-        Ok(told)
+        told
     }
 }
 
 #[test]
-fn equal_texts_have_one_hash(rt: HostRuntime) -> Result<(), Fail> {
-    hold::<TextSets>(rt.alloc())
+fn equal_texts_have_one_hash(rt: HostRuntime) {
+    hold::<TextSets>(&rt, rt.alloc())
 }
 
 /// Texts, and the whole number that each reads as.
@@ -196,55 +206,54 @@ impl Table for WholeNumbers {
 1.0 => none
 −1 => none";
 
-    fn told(alloc: Global, input: &str) -> Result<String, Fail> {
+    fn told(rt: &impl Abort, alloc: Global, input: &str) -> String {
         match read_whole(input) {
-            Some(read) => Ok(read.to_string(alloc)?),
-            None => Ok("none".to_string(alloc)?),
+            Some(read) => read.to_string(alloc).expect(rt, "memory"),
+            None => "none".to_string(alloc).expect(rt, "memory"),
         }
     }
 }
 
 #[test]
-fn whole_numbers_have_an_optional_minus_and_ten_digits(rt: HostRuntime) -> Result<(), Fail> {
-    hold::<WholeNumbers>(rt.alloc())
+fn whole_numbers_have_an_optional_minus_and_ten_digits(rt: HostRuntime) {
+    hold::<WholeNumbers>(&rt, rt.alloc())
 }
 
 /// Texts, each before the next.
 const BYTES: &str = "A AA Z Zürich a";
 
 /// The words of a text.
-fn texts_of(alloc: Global, text: &str) -> Result<Vec<Text>, Fail> {
+fn texts_of(rt: &impl Abort, alloc: Global, text: &str) -> Vec<Text> {
     let mut texts = Vec::new(alloc);
     for word in text.split(' ') {
-        texts.push(Text::of(alloc, word)?)?;
+        texts
+            .push(Text::of(alloc, word).expect(rt, "memory"))
+            .expect(rt, "memory");
     }
-    Ok(texts)
+    texts
 }
 
 #[test]
-fn texts_are_compared_by_bytes(rt: HostRuntime) -> Result<(), Fail> {
-    let texts = texts_of(rt.alloc(), BYTES)?;
+fn texts_are_compared_by_bytes(rt: HostRuntime) {
+    let texts = texts_of(&rt, rt.alloc(), BYTES);
     assert!(rt; is_rising(&texts));
-    Ok(())
 }
 
 #[test]
-fn a_copy_of_a_text_has_its_bytes(rt: HostRuntime) -> Result<(), Fail> {
-    let text = Text::of_string("ab".to_string(rt.alloc())?);
-    assert!(rt; text.copy()?.as_str() == "ab");
-    Ok(())
+fn a_copy_of_a_text_has_its_bytes(rt: HostRuntime) {
+    let text = Text::of_string("ab".to_string(rt.alloc()).expect(&rt, "memory"));
+    assert!(rt; text.copy().expect(&rt, "memory").as_str() == "ab");
 }
 
 #[test]
-fn sequences_keep_their_items_in_order(rt: HostRuntime) -> Result<(), Fail> {
+fn sequences_keep_their_items_in_order(rt: HostRuntime) {
     let mut items: Seq<u8> = Seq::new(rt.alloc());
-    items.push(5)?;
-    items.push(7)?;
+    items.push(5).expect(&rt, "memory");
+    items.push(7).expect(&rt, "memory");
     assert!(rt; items.len() == 2 && items.as_slice() == [5, 7].as_slice());
     assert!(rt; items.get(1).copied() == Some(7) && items.get(2).is_none());
     let again = Seq::of_vec(items.into_vec());
     assert!(rt; again.len() == 2 && again.emptied().len() == 0);
-    Ok(())
 }
 
 /// One feature of each shape, with a property of each kind.
@@ -258,24 +267,23 @@ const FEATURES: &str =
 {"type":"Feature","id":"","geometry":null,"properties":{"":""}}"#;
 
 /// The text of a copy of a feature.
-fn copy_told(alloc: Global, feature: &Feature) -> Result<String, Fail> {
-    let copy = feature.copy()?;
-    let text = write_feature(alloc, &copy)?;
-    Ok(String::from_utf8(text.into_vec()).ok().ok_or("a text")?)
+fn copy_told(rt: &impl Abort, alloc: Global, feature: &Feature) -> String {
+    let copy = feature.copy().expect(rt, "memory");
+    let text = write_feature(alloc, &copy).expect(rt, "memory");
+    String::from_utf8(text.into_vec()).ok().expect(rt, "a text")
 }
 
 /// The text of a copy of the feature that a text writes.
-fn copied(alloc: Global, text: &str) -> Result<String, Fail> {
-    let feature = read_feature(alloc, text.as_bytes())?;
-    copy_told(alloc, &feature)
+fn copied(rt: &impl Abort, alloc: Global, text: &str) -> String {
+    let feature = read_feature(alloc, text.as_bytes()).expect(rt, "a feature");
+    copy_told(rt, alloc, &feature)
 }
 
 #[test]
-fn a_copy_of_a_feature_has_its_text(rt: HostRuntime) -> Result<(), Fail> {
+fn a_copy_of_a_feature_has_its_text(rt: HostRuntime) {
     for line in FEATURES.lines() {
-        assert!(rt; copied(rt.alloc(), line)?.as_str() == line, "{line}");
+        assert!(rt; copied(&rt, rt.alloc(), line).as_str() == line, "{line}");
     }
-    Ok(())
 }
 
 fn three_steps<L: Ledger>(blank: Blank)

@@ -1,8 +1,8 @@
 //! The index over small numbers, as many keys as memory counts in, and fractions as ends.
 use ml_ratio::{Ratio, Seq};
 use ml_spans::{Key, SpanTree};
-use std::alloc::{AllocError, Global};
-use std::test::Fail;
+use std::alloc::Global;
+use std::process::Abort;
 
 /// Puts an entry in, whether it is there or not, if there is room.
 fn put<K: Key, E: Key, V: Key>(tree: &mut SpanTree<K, E, V>, key: K, end: E, value: V) -> bool {
@@ -15,106 +15,104 @@ fn put<K: Key, E: Key, V: Key>(tree: &mut SpanTree<K, E, V>, key: K, end: E, val
 }
 
 /// An index of three entries, and room for as many.
-fn three(alloc: Global) -> Result<SpanTree<u8, u32, u64>, Fail> {
+fn three(rt: &impl Abort, alloc: Global) -> SpanTree<u8, u32, u64> {
     let mut tree = SpanTree::new(alloc);
-    tree.reserve(3)?;
+    tree.reserve(3).expect(rt, "memory");
     if tree.height() != 0 || tree.spare() != 3 {
-        return Err(Fail::new("an empty index with room for three"));
+        panic!(rt; "an empty index with room for three");
     }
     let both = put(&mut tree, 1, 5, 10) && put(&mut tree, 2, 9, 11);
     if !both || !put(&mut tree, 3, 4, 12) {
-        return Err(Fail::new("three entries"));
+        panic!(rt; "three entries");
     }
-    Ok(tree)
+    tree
 }
 
 /// The values of the keys 1 to 3 whose span has 5, and then those of the keys 2 and 3.
-fn values(alloc: Global, tree: &SpanTree<u8, u32, u64>) -> Result<Seq<u64>, AllocError> {
+fn values(rt: &impl Abort, alloc: Global, tree: &SpanTree<u8, u32, u64>) -> Seq<u64> {
     let mut found = Seq::new(alloc);
-    tree.stab(&1, &3, &5, &mut found)?;
-    tree.range(&2, &3, &mut found)?;
-    Ok(found)
+    tree.stab(&1, &3, &5, &mut found).expect(rt, "memory");
+    tree.range(&2, &3, &mut found).expect(rt, "memory");
+    found
 }
 
 #[test]
-fn three_entries_are_found(rt: HostRuntime) -> Result<(), Fail> {
-    let tree = three(rt.alloc())?;
+fn three_entries_are_found(rt: HostRuntime) {
+    let tree = three(&rt, rt.alloc());
     assert!(rt; tree.len() == 3 && tree.height() == 2 && tree.spare() == 0);
-    let found = values(rt.alloc(), &tree)?;
+    let found = values(&rt, rt.alloc(), &tree);
     assert!(rt; found.as_slice() == [10, 11, 11, 12].as_slice());
-    Ok(())
 }
 
 #[test]
-fn an_entry_is_removed_once(rt: HostRuntime) -> Result<(), Fail> {
-    let mut tree = three(rt.alloc())?;
+fn an_entry_is_removed_once(rt: HostRuntime) {
+    let mut tree = three(&rt, rt.alloc());
     assert!(rt; tree.remove(&2, &9, &11));
     assert!(rt; tree.spare() == 1);
     assert!(rt; !tree.remove(&2, &9, &11));
     assert!(rt; tree.len() == 2 && tree.spare() == 1);
-    Ok(())
 }
 
 /// The index of the keys from 1 to `count` in this order, each with the end 0 and the value 0.
-fn rising(alloc: Global, count: u32) -> Result<SpanTree<u32, u8, u8>, Fail> {
+fn rising(rt: &impl Abort, alloc: Global, count: u32) -> SpanTree<u32, u8, u8> {
     let mut tree = SpanTree::new(alloc);
-    tree.reserve(count as usize)?;
+    tree.reserve(count as usize).expect(rt, "memory");
     for key in 0..count {
         if !put(&mut tree, key + 1, 0, 0) {
-            return Err(Fail::new("as many entries"));
+            panic!(rt; "as many entries");
         }
     }
-    Ok(tree)
+    tree
 }
 
 /// How many of the keys from 1 to `count` have a span with 1, and how many there are.
 fn found(
+    rt: &impl Abort,
     alloc: Global,
     tree: &SpanTree<u32, u8, u8>,
     count: u32,
-) -> Result<(usize, usize), AllocError> {
+) -> (usize, usize) {
     let mut found = Seq::new(alloc);
-    tree.stab(&1, &count, &1, &mut found)?;
+    tree.stab(&1, &count, &1, &mut found).expect(rt, "memory");
     let long = found.len();
-    tree.range(&1, &count, &mut found)?;
-    Ok((long, found.len()))
+    tree.range(&1, &count, &mut found).expect(rt, "memory");
+    (long, found.len())
 }
 
 /// Whether an index of rising keys is of this height at most, and all of its keys are found.
-fn is_found(alloc: Global, count: u32, greatest_height: u32) -> Result<bool, Fail> {
-    let tree = rising(alloc, count)?;
+fn is_found(rt: &impl Abort, alloc: Global, count: u32, greatest_height: u32) -> bool {
+    let tree = rising(rt, alloc, count);
     let (len, height) = (tree.len(), tree.height());
     let is_low = len == count as usize && height <= greatest_height;
-    Ok(is_low && found(alloc, &tree, count)? == (0, len))
+    is_low && found(rt, alloc, &tree, count) == (0, len)
 }
 
 // 1001 has ten binary digits, 1,000,001 has twenty. The larger index also goes out of use here, with
 // all its nodes at once.
 #[test]
-fn keys_that_rise_are_found(rt: HostRuntime) -> Result<(), Fail> {
-    assert!(rt; is_found(rt.alloc(), 1000, 20)?);
-    assert!(rt; is_found(rt.alloc(), 1_000_000, 40)?);
-    Ok(())
+fn keys_that_rise_are_found(rt: HostRuntime) {
+    assert!(rt; is_found(&rt, rt.alloc(), 1000, 20));
+    assert!(rt; is_found(&rt, rt.alloc(), 1_000_000, 40));
 }
 
 /// The values of the key -1 whose span has 1/2, and then of those whose span has 20.
-fn values_of_fractions(alloc: Global) -> Result<Seq<u32>, Fail> {
-    let twenty = Ratio::of(20, 1).ok_or("20/1")?;
-    let half = Ratio::of(1, 2).ok_or("1/2")?;
+fn values_of_fractions(rt: &impl Abort, alloc: Global) -> Seq<u32> {
+    let twenty = Ratio::of(20, 1).expect(rt, "20/1");
+    let half = Ratio::of(1, 2).expect(rt, "1/2");
     let mut tree: SpanTree<i64, Ratio, u32> = SpanTree::new(alloc);
-    tree.reserve(2)?;
+    tree.reserve(2).expect(rt, "memory");
     if !put(&mut tree, -1, half, 7) || !put(&mut tree, -1, twenty, 3) {
-        return Err(Fail::new("two entries"));
+        panic!(rt; "two entries");
     }
     let mut found = Seq::new(alloc);
-    tree.stab(&-1, &-1, &half, &mut found)?;
-    tree.stab(&-1, &-1, &twenty, &mut found)?;
-    Ok(found)
+    tree.stab(&-1, &-1, &half, &mut found).expect(rt, "memory");
+    tree.stab(&-1, &-1, &twenty, &mut found)
+        .expect(rt, "memory");
+    found
 }
 
 #[test]
-fn ends_may_be_fractions(rt: HostRuntime) -> Result<(), Fail> {
-    let found = values_of_fractions(rt.alloc())?;
+fn ends_may_be_fractions(rt: HostRuntime) {
+    let found = values_of_fractions(&rt, rt.alloc());
     assert!(rt; found.as_slice() == [3, 7, 3].as_slice());
-    Ok(())
 }

@@ -5,35 +5,35 @@ use ml_pass::read_table;
 use ml_ratio::lines::parts_of;
 use ml_view::{read_view, shown};
 use std::alloc::Global;
-use std::test::Fail;
+use std::process::Abort;
 
 /// Two labels, the one active until 1000, the other until 20.
 const TABLE: &str = "A 0 0 0 1000 -10,-5,10,5\nB 400 0 0 1000 -10,-5,10,5\n";
 
 /// The view of five words, or the place of the wrong word.
-fn view_of(alloc: Global, text: &str) -> Result<Result<View, usize>, Fail> {
-    let words = parts_of(alloc, text, ' ')?;
-    let cx = word(&words, 0)?;
-    let cy = word(&words, 1)?;
-    let w = word(&words, 2)?;
-    let h = word(&words, 3)?;
-    Ok(read_view(cx, cy, w, h, word(&words, 4)?))
+fn view_of(rt: &impl Abort, alloc: Global, text: &str) -> Result<View, usize> {
+    let words = parts_of(alloc, text, ' ').expect(rt, "memory");
+    let cx = word(rt, &words, 0);
+    let cy = word(rt, &words, 1);
+    let w = word(rt, &words, 2);
+    let h = word(rt, &words, 3);
+    read_view(cx, cy, w, h, word(rt, &words, 4))
 }
 
 /// The slot until a scale.
-fn slot_until(scale: &str, blocker: Option<u32>) -> Result<Slot, Fail> {
-    let until = fraction(scale)?;
-    Ok(Slot { until, blocker })
+fn slot_until(rt: &impl Abort, scale: &str, blocker: Option<u32>) -> Slot {
+    let until = fraction(rt, scale);
+    Slot { until, blocker }
 }
 
 /// The places of the two labels that a view shows.
-fn places_told(alloc: Global, labels: &[Label], view: &View) -> Result<String, Fail> {
-    let slots = [slot_until("1000", None)?, slot_until("20", Some(0))?];
+fn places_told(rt: &impl Abort, alloc: Global, labels: &[Label], view: &View) -> String {
+    let slots = [slot_until(rt, "1000", None), slot_until(rt, "20", Some(0))];
     if labels.len() != 2 {
-        return Err(Fail::new("two labels"));
+        panic!(rt; "two labels");
     }
-    let places = shown(alloc, labels, &slots, view)?;
-    numbers_told(alloc, places.as_slice())
+    let places = shown(alloc, labels, &slots, view).expect(rt, "memory");
+    numbers_told(rt, alloc, places.as_slice())
 }
 
 /// Five words, and the places of the labels that the view shows, or the place of the wrong word.
@@ -62,20 +62,20 @@ x x x x x => wrong 0
 0 0 2 2 268435456 => wrong 4
 0 0 2 2  => wrong 4";
 
-    fn told(alloc: Global, input: &str) -> Result<String, Fail> {
-        match view_of(alloc, input)? {
+    fn told(rt: &impl Abort, alloc: Global, input: &str) -> String {
+        match view_of(rt, alloc, input) {
             Ok(view) => {
-                let labels = read_table(alloc, TABLE.as_bytes())?;
-                places_told(alloc, labels.as_slice(), &view)
+                let labels = read_table(alloc, TABLE.as_bytes()).expect(rt, "a table");
+                places_told(rt, alloc, labels.as_slice(), &view)
             }
-            Err(place) => Ok(format!(in alloc; "wrong {place}")?),
+            Err(place) => format!(in alloc; "wrong {place}").expect(rt, "memory"),
         }
     }
 }
 
 #[test]
-fn a_view_shows_what_is_active_and_meets_its_window(rt: HostRuntime) -> Result<(), Fail> {
-    hold::<Views>(rt.alloc())
+fn a_view_shows_what_is_active_and_meets_its_window(rt: HostRuntime) {
+    hold::<Views>(&rt, rt.alloc())
 }
 
 /// Five words, and the parts of the view.
@@ -85,12 +85,16 @@ impl Table for ViewParts {
     const LINES: &'static str = "\
 -7 2000000000 4096 2 38/4 => -7 2000000000 4096 2 19/2";
 
-    fn told(alloc: Global, input: &str) -> Result<String, Fail> {
-        view_told(alloc, &view_of(alloc, input)?.ok().ok_or("a view")?)
+    fn told(rt: &impl Abort, alloc: Global, input: &str) -> String {
+        view_told(
+            rt,
+            alloc,
+            &view_of(rt, alloc, input).ok().expect(rt, "a view"),
+        )
     }
 }
 
 #[test]
-fn a_view_has_the_parts_that_its_words_write(rt: HostRuntime) -> Result<(), Fail> {
-    hold::<ViewParts>(rt.alloc())
+fn a_view_has_the_parts_that_its_words_write(rt: HostRuntime) {
+    hold::<ViewParts>(&rt, rt.alloc())
 }

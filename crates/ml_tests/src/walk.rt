@@ -5,7 +5,7 @@ use ml_cone::{BoxPx, Label};
 use ml_pass::{assign, read_table};
 use ml_ratio::Ratio;
 use std::alloc::Global;
-use std::test::Fail;
+use std::process::Abort;
 
 /// A fraction, not reduced.
 type Part = (i128, i128);
@@ -63,40 +63,40 @@ struct Done<'a> {
 }
 
 /// Adds the scale above 0 at which an edge of the one side passes an edge of the other.
-fn add_meeting(found: &mut Vec<Part>, x: i64, u: i32, y: i64, v: i32) -> Result<(), Fail> {
+fn add_meeting(rt: &impl Abort, found: &mut Vec<Part>, x: i64, u: i32, y: i64, v: i32) {
     let far = (y as i128).wrapping_sub(x as i128);
     let wide = (u as i128).wrapping_sub(v as i128);
     if far > 0 && wide > 0 {
-        found.push((far, wide))?;
+        found.push((far, wide)).expect(rt, "memory");
     } else if far < 0 && wide < 0 {
-        found.push((far.wrapping_neg(), wide.wrapping_neg()))?;
+        found
+            .push((far.wrapping_neg(), wide.wrapping_neg()))
+            .expect(rt, "memory");
     }
-    Ok(())
 }
 
 /// Adds each scale at which the overlap of the two may begin or end.
-fn add_meetings(found: &mut Vec<Part>, a: &Label, b: &Label) -> Result<(), Fail> {
+fn add_meetings(rt: &impl Abort, found: &mut Vec<Part>, a: &Label, b: &Label) {
     for p in a.boxes().as_slice() {
         for q in b.boxes().as_slice() {
-            add_meeting(found, a.x(), p.l, b.x(), q.r)?;
-            add_meeting(found, a.x(), p.r, b.x(), q.l)?;
-            add_meeting(found, a.y(), p.b, b.y(), q.t)?;
-            add_meeting(found, a.y(), p.t, b.y(), q.b)?;
+            add_meeting(rt, found, a.x(), p.l, b.x(), q.r);
+            add_meeting(rt, found, a.x(), p.r, b.x(), q.l);
+            add_meeting(rt, found, a.y(), p.b, b.y(), q.t);
+            add_meeting(rt, found, a.y(), p.t, b.y(), q.b);
         }
     }
-    Ok(())
 }
 
 /// Every scale at which something may change for the label.
-fn changes(alloc: Global, low: &Label, done: &[Done<'_>]) -> Result<Vec<Part>, Fail> {
+fn changes(rt: &impl Abort, alloc: Global, low: &Label, done: &[Done<'_>]) -> Vec<Part> {
     let mut found = Vec::new(alloc);
-    found.push(part_of(low.max()))?;
+    found.push(part_of(low.max())).expect(rt, "memory");
     for one in done {
-        found.push(part_of(one.label.min()))?;
-        found.push(one.end)?;
-        add_meetings(&mut found, low, one.label)?;
+        found.push(part_of(one.label.min())).expect(rt, "memory");
+        found.push(one.end).expect(rt, "memory");
+        add_meetings(rt, &mut found, low, one.label);
     }
-    Ok(found)
+    found
 }
 
 /// The least of the scales above one.
@@ -124,8 +124,8 @@ fn first_across(low: &Label, done: &[Done<'_>], s: Part) -> Option<u32> {
 }
 
 /// The label's end: upwards from its minimum, the first change above which another is in its way.
-fn walk<'a>(alloc: Global, low: &'a Label, done: &[Done<'_>]) -> Result<Done<'a>, Fail> {
-    let found = changes(alloc, low, done)?;
+fn walk<'a>(rt: &impl Abort, alloc: Global, low: &'a Label, done: &[Done<'_>]) -> Done<'a> {
+    let found = changes(rt, alloc, low, done);
     let max = part_of(low.max());
     let mut at = part_of(low.min());
     let mut blocker = None;
@@ -138,11 +138,11 @@ fn walk<'a>(alloc: Global, low: &'a Label, done: &[Done<'_>]) -> Result<Done<'a>
             }
         }
     }
-    Ok(Done {
+    Done {
         label: low,
         end: at,
         blocker,
-    })
+    }
 }
 
 /// Numbers that look like chance and are the same each time.
@@ -162,52 +162,55 @@ impl Dice {
 }
 
 /// A table of a few labels close to one another.
-fn some_table(alloc: Global, dice: &mut Dice) -> Result<String, Fail> {
+fn some_table(rt: &impl Abort, alloc: Global, dice: &mut Dice) -> String {
     let mut table = String::new(alloc);
     let count = dice.roll(2, 7);
     for i in 0..count {
         let (x, y) = (dice.roll(-200, 200), dice.roll(-30, 30));
         let (n, d) = (dice.roll(0, 6), dice.roll(1, 3));
         let m = n.wrapping_add(dice.roll(1, 90));
-        table.push_str(&format!(in alloc; "L{i} {x} {y} {n}/{d} {m}/{d}")?)?;
+        table
+            .push_str(&format!(in alloc; "L{i} {x} {y} {n}/{d} {m}/{d}").expect(rt, "memory"))
+            .expect(rt, "memory");
         for _one in 0..dice.roll(1, 3) {
             let (l, b) = (dice.roll(-20, 15), dice.roll(-9, 6));
             let r = l.wrapping_add(dice.roll(1, 15));
             let t = b.wrapping_add(dice.roll(1, 9));
-            table.push_str(&format!(in alloc; " {l},{b},{r},{t}")?)?;
+            table
+                .push_str(&format!(in alloc; " {l},{b},{r},{t}").expect(rt, "memory"))
+                .expect(rt, "memory");
         }
-        table.push_str("\n")?;
+        table.push_str("\n").expect(rt, "memory");
     }
-    Ok(table)
+    table
 }
 
 /// Whether the one pass gives a table's labels the ends and blockers that the slow walk finds.
 /// Counts the blockers.
-fn agrees(alloc: Global, table: &str, blocked: &mut u32) -> Result<bool, Fail> {
-    let labels = read_table(alloc, table.as_bytes())?;
-    let slots = assign(alloc, labels.as_slice())?;
+fn agrees(rt: &impl Abort, alloc: Global, table: &str, blocked: &mut u32) -> bool {
+    let labels = read_table(alloc, table.as_bytes()).expect(rt, "a table");
+    let slots = assign(alloc, labels.as_slice()).expect(rt, "memory");
     let mut done: Vec<Done<'_>> = Vec::new(alloc);
     let mut same = slots.len() == labels.len();
     for (label, slot) in labels.as_slice().iter().zip(slots.as_slice()) {
-        let one = walk(alloc, label, &done)?;
+        let one = walk(rt, alloc, label, &done);
         let end = part_of(slot.until);
         same = same && !less(one.end, end) && !less(end, one.end) && one.blocker == slot.blocker;
         if slot.blocker.is_some() {
             *blocked = blocked.wrapping_add(1);
         }
-        done.push(one)?;
+        done.push(one).expect(rt, "memory");
     }
-    Ok(same)
+    same
 }
 
 #[test]
-fn a_slow_walk_finds_the_same_choices(rt: HostRuntime) -> Result<(), Fail> {
+fn a_slow_walk_finds_the_same_choices(rt: HostRuntime) {
     let mut dice = Dice { state: 7 };
     let mut blocked = 0;
     for _table in 0..400 {
-        let table = some_table(rt.alloc(), &mut dice)?;
-        assert!(rt; agrees(rt.alloc(), &table, &mut blocked)?, "{table}");
+        let table = some_table(&rt, rt.alloc(), &mut dice);
+        assert!(rt; agrees(&rt, rt.alloc(), &table, &mut blocked), "{table}");
     }
     assert!(rt; blocked > 300, "the tables have conflicts: {blocked}");
-    Ok(())
 }

@@ -3,4 +3,4 @@ use Rattle.ml_flight.specs.Stay.{AreApart}
 use Rattle.ml_tests.proofs.flight.timelines.Given as goal
 
 abbrev pub invariant-loop-label : goal.invariant-loop-label
-invariant-loop-label l = All AreApart l.all
+invariant-loop-label g l = All AreApart l.all
