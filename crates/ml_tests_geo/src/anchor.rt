@@ -1,49 +1,50 @@
 //! Anchors of points and areas. A case is a shape by its name, `name: shape => point area`: the anchor
 //! that it has as a point, and the one that it has as an area, in world units.
-ghost use Rattle.std.specs.Prelude.{◌↔◌, IsTrue, IfOk};
+ghost use Rattle.std.specs.Prelude.{◌↔◌, IsTrue};
 ghost use Rattle.ml_ratio.specs.Geometry.{IsRing, IsGeometry};
 
 use crate::cases::{Subject, each_holds, feature_of};
 use ml_anchor::{area_anchor, point_anchor};
 use ml_ratio::{Geometry, Pos, Seq};
 use std::alloc::Global;
-use std::test::Fail;
+use std::process::Abort;
 
 /// The position's numbers, and `-` for none.
-fn place_told(alloc: Global, place: Option<Pos>) -> Result<String, Fail> {
+fn place_told(rt: &impl Abort, alloc: Global, place: Option<Pos>) -> String {
     match place {
         Some(place) => {
             let (x, y) = (place.x, place.y);
-            Ok(format!(in alloc; "{x},{y}")?)
+            format!(in alloc; "{x},{y}").expect(rt, "memory")
         }
-        None => Ok(format!(in alloc; "-")?),
+        None => format!(in alloc; "-").expect(rt, "memory"),
     }
 }
 
 /// The anchor of an area.
-fn area_told(alloc: Global, shape: &Geometry) -> Result<String, Fail>
+fn area_told(rt: &impl Abort, alloc: Global, shape: &Geometry) -> String
     requires { IsGeometry shape.now }
 {
-    place_told(alloc, area_anchor(alloc, shape)?)
+    place_told(rt, alloc, area_anchor(alloc, shape).expect(rt, "memory"))
 }
 
 /// The anchors of a shape.
-fn anchors_told(alloc: Global, shape: &Geometry) -> Result<String, Fail>
+fn anchors_told(rt: &impl Abort, alloc: Global, shape: &Geometry) -> String
     requires { IsGeometry shape.now }
 {
-    let mut told = place_told(alloc, point_anchor(shape))?;
-    told.push(' ')?;
-    told.push_str(area_told(alloc, shape)?.as_str())?;
-    Ok(told)
+    let mut told = place_told(rt, alloc, point_anchor(shape));
+    told.push(' ').expect(rt, "memory");
+    told.push_str(area_told(rt, alloc, shape).as_str())
+        .expect(rt, "memory");
+    told
 }
 
 /// The anchors of the shape of a case.
-fn case_told(alloc: Global, input: &str) -> Result<String, Fail> {
-    let (_name, shape) = input.split_once(": ").ok_or("a name")?;
-    let feature = feature_of(alloc, shape)?;
+fn case_told(rt: &impl Abort, alloc: Global, input: &str) -> String {
+    let (_name, shape) = input.split_once(": ").expect(rt, "a name");
+    let feature = feature_of(rt, alloc, shape);
     match &feature.geometry {
-        Some(shape) => anchors_told(alloc, shape),
-        None => Err(Fail::from("a shape")),
+        Some(shape) => anchors_told(rt, alloc, shape),
+        None => panic!(rt; "a shape"),
     }
 }
 
@@ -51,8 +52,8 @@ fn case_told(alloc: Global, input: &str) -> Result<String, Fail> {
 struct Anchored;
 
 impl Subject for Anchored {
-    fn holds(alloc: Global, input: &str, want: &str) -> Result<bool, Fail> {
-        Ok(case_told(alloc, input)?.as_str() == want)
+    fn holds(rt: &impl Abort, alloc: Global, input: &str, want: &str) -> bool {
+        case_told(rt, alloc, input).as_str() == want
     }
 }
 
@@ -115,51 +116,49 @@ an area: Polygon [[[0,0],[4,0],[4,4],[0,0]]] => - 3,2
 an area of one part: MultiPolygon [[[[0,0],[4,0],[4,4],[0,0]]]] => - 3,2";
 
 #[test]
-fn an_area_is_anchored_in_its_widest_stretch(rt: HostRuntime) -> Result<(), Fail> {
+fn an_area_is_anchored_in_its_widest_stretch(rt: HostRuntime) {
     for table in [WIDEST, ONCE, ROUNDED, WORLD] {
-        each_holds::<Anchored>(&rt, rt.alloc(), table)?;
+        each_holds::<Anchored>(&rt, rt.alloc(), table);
     }
-    Ok(())
 }
 
 #[test]
-fn of_several_polygons_the_greatest_box_counts(rt: HostRuntime) -> Result<(), Fail> {
+fn of_several_polygons_the_greatest_box_counts(rt: HostRuntime) {
     for table in [PARTS, OUTER] {
-        each_holds::<Anchored>(&rt, rt.alloc(), table)?;
+        each_holds::<Anchored>(&rt, rt.alloc(), table);
     }
-    Ok(())
 }
 
 #[test]
-fn points_and_areas_have_anchors_of_their_own(rt: HostRuntime) -> Result<(), Fail> {
+fn points_and_areas_have_anchors_of_their_own(rt: HostRuntime) {
     each_holds::<Anchored>(&rt, rt.alloc(), OTHERS)
 }
 
 /// The position, which has to lie in the world.
-fn place(x: i64, y: i64) -> Result<Pos, Fail> {
+fn place(rt: &impl Abort, x: i64, y: i64) -> Pos {
     if -2000000000 <= x && x <= 2000000000 && -2000000000 <= y && y <= 2000000000 {
-        Ok(Pos { x, y })
+        Pos { x, y }
     } else {
-        Err(Fail::from("a place in the world"))
+        panic!(rt; "a place in the world")
     }
 }
 
 /// Adds a position.
-fn push_place(all: &mut Seq<Pos>, x: i64, y: i64) -> Result<(), Fail> {
-    let place = place(x, y)?;
-    Ok(all.push(place)?)
+fn push_place(rt: &impl Abort, all: &mut Seq<Pos>, x: i64, y: i64) {
+    let place = place(rt, x, y);
+    all.push(place).expect(rt, "memory")
 }
 
 /// A million positions: teeth 4,000 wide, from the height 0 up to 10.
-fn saw(alloc: Global) -> Result<Seq<Pos>, Fail> {
+fn saw(rt: &impl Abort, alloc: Global) -> Seq<Pos> {
     let mut all = Seq::new(alloc);
     for i in 0..999998u32 {
         let i = i64::from(i);
-        push_place(&mut all, 2000 * i - 1000000000, 10 * (i % 2))?;
+        push_place(rt, &mut all, 2000 * i - 1000000000, 10 * (i % 2));
     }
-    push_place(&mut all, 999994000, -10)?;
-    push_place(&mut all, -1000000000, 0)?;
-    Ok(all)
+    push_place(rt, &mut all, 999994000, -10);
+    push_place(rt, &mut all, -1000000000, 0);
+    all
 }
 
 /// Whether the positions are closed and at least four.
@@ -174,26 +173,25 @@ fn is_ring(ring: &[Pos]) -> bool
 }
 
 /// The polygon of one ring, if the positions are one.
-fn polygon(alloc: Global, ring: Seq<Pos>) -> Result<Geometry, Fail>
-    ensures { IfOk result IsGeometry }
+fn polygon(rt: &impl Abort, alloc: Global, ring: Seq<Pos>) -> Geometry
+    ensures { IsGeometry result }
 {
     if !is_ring(ring.as_slice()) {
-        return Err(Fail::from("a ring"));
+        panic!(rt; "a ring");
     }
     let mut rings = Seq::new(alloc);
-    rings.push(ring)?;
-    Ok(Geometry::Polygon(rings))
+    rings.push(ring).expect(rt, "memory");
+    Geometry::Polygon(rings)
 }
 
 /// The anchor of the polygon of a million positions.
-fn saw_told(alloc: Global) -> Result<String, Fail> {
-    let ring = saw(alloc)?;
-    let shape = polygon(alloc, ring)?;
-    area_told(alloc, &shape)
+fn saw_told(rt: &impl Abort, alloc: Global) -> String {
+    let ring = saw(rt, alloc);
+    let shape = polygon(rt, alloc, ring);
+    area_told(rt, alloc, &shape)
 }
 
 #[test]
-fn a_million_positions_have_an_anchor(rt: HostRuntime) -> Result<(), Fail> {
-    assert!(rt; saw_told(rt.alloc())?.as_str() == "-999998000,0");
-    Ok(())
+fn a_million_positions_have_an_anchor(rt: HostRuntime) {
+    assert!(rt; saw_told(&rt, rt.alloc()).as_str() == "-999998000,0");
 }

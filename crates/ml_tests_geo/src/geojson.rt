@@ -4,7 +4,7 @@ use crate::cases::{Subject, each_holds};
 use ml_geojson::{GeoFault, read_collection, read_feature, write_collection, write_feature};
 use ml_ratio::{Feature, Geometry, Prop, Scalar};
 use std::alloc::Global;
-use std::test::Fail;
+use std::process::Abort;
 
 /// A map file as a desktop program writes it: members that are passed over, a third coordinate, two
 /// islands, a river, and a feature without geometry.
@@ -131,26 +131,28 @@ fn fault_at(name: &str, place: usize) -> GeoFault {
 }
 
 /// The fault that is written, with its place if it has one.
-fn fault(text: &str) -> Result<GeoFault, Fail> {
+fn fault(rt: &impl Abort, text: &str) -> GeoFault {
     match text.split_once(' ') {
-        Some((name, place)) => Ok(fault_at(name, place.parse::<usize>()?)),
-        None => Ok(if text == "NoId" {
+        Some((name, place)) => fault_at(name, place.parse::<usize>().expect(rt, "a number")),
+        None => if text == "NoId" {
             GeoFault::NoId
         } else {
             GeoFault::NotCollection
-        }),
+        },
     }
 }
 
 /// The map file, read and written again.
-fn rewritten(alloc: Global, text: &str) -> Result<Vec<u8>, Fail> {
-    let features = read_collection(alloc, text.as_bytes())?;
-    Ok(write_collection(alloc, &features)?.into_vec())
+fn rewritten(rt: &impl Abort, alloc: Global, text: &str) -> Vec<u8> {
+    let features = read_collection(alloc, text.as_bytes()).expect(rt, "a map");
+    write_collection(alloc, &features)
+        .expect(rt, "memory")
+        .into_vec()
 }
 
 /// Whether the map file, read and written again, is the other text.
-fn is_rewritten(alloc: Global, text: &str, want: &str) -> Result<bool, Fail> {
-    Ok(rewritten(alloc, text)?.as_slice() == want.as_bytes())
+fn is_rewritten(rt: &impl Abort, alloc: Global, text: &str, want: &str) -> bool {
+    rewritten(rt, alloc, text).as_slice() == want.as_bytes()
 }
 
 /// Why the map file is refused.
@@ -159,16 +161,15 @@ fn refusal(alloc: Global, text: &str) -> Option<GeoFault> {
 }
 
 /// A map file of one feature with this geometry.
-fn with_geometry(alloc: Global, geometry: &str) -> Result<String, Fail> {
-    Ok(format!(in alloc; "{{\"type\":\"Feature\",\"geometry\":{geometry}}}")?)
+fn with_geometry(rt: &impl Abort, alloc: Global, geometry: &str) -> String {
+    format!(in alloc; "{{\"type\":\"Feature\",\"geometry\":{geometry}}}").expect(rt, "memory")
 }
 
 #[test]
-fn a_map_file_is_rewritten_as_canonical_text(rt: HostRuntime) -> Result<(), Fail> {
+fn a_map_file_is_rewritten_as_canonical_text(rt: HostRuntime) {
     for text in [SAMPLE, CANONICAL] {
-        assert!(rt; is_rewritten(rt.alloc(), text, CANONICAL)?);
+        assert!(rt; is_rewritten(&rt, rt.alloc(), text, CANONICAL));
     }
-    Ok(())
 }
 
 /// Whether the feature lies at this point.
@@ -188,60 +189,59 @@ fn is_number(prop: &Prop, number: &str) -> bool {
 }
 
 #[test]
-fn a_point_has_its_place_and_its_properties(rt: HostRuntime) -> Result<(), Fail> {
-    let features = read_collection(rt.alloc(), SAMPLE.as_bytes())?;
-    let zurich = features.get(0).ok_or("a feature")?;
+fn a_point_has_its_place_and_its_properties(rt: HostRuntime) {
+    let features = read_collection(rt.alloc(), SAMPLE.as_bytes()).expect(&rt, "a map");
+    let zurich = features.get(0).expect(&rt, "a feature");
     assert!(rt; lies_at(zurich, 85416942, 473768861));
-    let population = zurich.props.get(2).ok_or("a property")?;
+    let population = zurich.props.get(2).expect(&rt, "a property");
     assert!(rt; is_number(population, "402762"));
-    Ok(())
 }
 
 /// A map file of three features with these members.
-fn of_three(alloc: Global, members: &str) -> Result<String, Fail> {
-    let (a, others) = members.split_once('|').ok_or("a bar")?;
-    let (b, c) = others.split_once('|').ok_or("a bar")?;
-    Ok(format!(in alloc;
+fn of_three(rt: &impl Abort, alloc: Global, members: &str) -> String {
+    let (a, others) = members.split_once('|').expect(rt, "a bar");
+    let (b, c) = others.split_once('|').expect(rt, "a bar");
+    format!(in alloc;
         "{{\"features\":[{{{a}\"type\":\"Feature\"}},{{{b}\"type\":\"Feature\"}},{{{c}\"type\":\"Feature\"}}],\"type\":\"FeatureCollection\"}}"
-    )?)
+    ).expect(rt, "memory")
 }
 
 /// The ids of a map file's features, each with a semicolon behind it.
-fn ids_of(alloc: Global, text: &str) -> Result<String, Fail> {
-    let features = read_collection(alloc, text.as_bytes())?;
+fn ids_of(rt: &impl Abort, alloc: Global, text: &str) -> String {
+    let features = read_collection(alloc, text.as_bytes()).expect(rt, "a map");
     let mut ids = String::new(alloc);
     for feature in features.as_slice() {
-        ids.push_str(feature.id.as_str())?;
-        ids.push(';')?;
+        ids.push_str(feature.id.as_str()).expect(rt, "memory");
+        ids.push(';').expect(rt, "memory");
     }
-    Ok(ids)
+    ids
 }
 
 /// The ids of three features.
 struct OfIds;
 
 impl Subject for OfIds {
-    fn holds(alloc: Global, input: &str, want: &str) -> Result<bool, Fail> {
-        let text = of_three(alloc, input)?;
-        Ok(ids_of(alloc, text.as_str())?.as_str() == want)
+    fn holds(rt: &impl Abort, alloc: Global, input: &str, want: &str) -> bool {
+        let text = of_three(rt, alloc, input);
+        ids_of(rt, alloc, text.as_str()).as_str() == want
     }
 }
 
 /// The text of a map file of one feature with this geometry and the id that it gets.
-fn written(alloc: Global, geometry: &str) -> Result<String, Fail> {
-    Ok(format!(in alloc;
+fn written(rt: &impl Abort, alloc: Global, geometry: &str) -> String {
+    format!(in alloc;
         "{{\"type\":\"FeatureCollection\",\"features\":[{{\"type\":\"Feature\",\"id\":\"#0\",\"geometry\":{geometry},\"properties\":{{}}}}]}}"
-    )?)
+    ).expect(rt, "memory")
 }
 
 /// How geometries are written again.
 struct OfGeometry;
 
 impl Subject for OfGeometry {
-    fn holds(alloc: Global, input: &str, want: &str) -> Result<bool, Fail> {
-        let text = with_geometry(alloc, input)?;
-        let want = written(alloc, want)?;
-        is_rewritten(alloc, text.as_str(), want.as_str())
+    fn holds(rt: &impl Abort, alloc: Global, input: &str, want: &str) -> bool {
+        let text = with_geometry(rt, alloc, input);
+        let want = written(rt, alloc, want);
+        is_rewritten(rt, alloc, text.as_str(), want.as_str())
     }
 }
 
@@ -249,9 +249,9 @@ impl Subject for OfGeometry {
 struct OfBadGeometry;
 
 impl Subject for OfBadGeometry {
-    fn holds(alloc: Global, input: &str, want: &str) -> Result<bool, Fail> {
-        let text = with_geometry(alloc, input)?;
-        Ok(refusal(alloc, text.as_str()) == Some(fault(want)?))
+    fn holds(rt: &impl Abort, alloc: Global, input: &str, want: &str) -> bool {
+        let text = with_geometry(rt, alloc, input);
+        refusal(alloc, text.as_str()) == Some(fault(rt, want))
     }
 }
 
@@ -259,8 +259,8 @@ impl Subject for OfBadGeometry {
 struct OfBadMap;
 
 impl Subject for OfBadMap {
-    fn holds(alloc: Global, input: &str, want: &str) -> Result<bool, Fail> {
-        Ok(refusal(alloc, input) == Some(fault(want)?))
+    fn holds(rt: &impl Abort, alloc: Global, input: &str, want: &str) -> bool {
+        refusal(alloc, input) == Some(fault(rt, want))
     }
 }
 
@@ -268,8 +268,8 @@ impl Subject for OfBadMap {
 struct OfMap;
 
 impl Subject for OfMap {
-    fn holds(alloc: Global, input: &str, want: &str) -> Result<bool, Fail> {
-        is_rewritten(alloc, input, want)
+    fn holds(rt: &impl Abort, alloc: Global, input: &str, want: &str) -> bool {
+        is_rewritten(rt, alloc, input, want)
     }
 }
 
@@ -282,24 +282,24 @@ fn feature_refusal(alloc: Global, bytes: &[u8]) -> Option<GeoFault> {
 struct OfBadFeature;
 
 impl Subject for OfBadFeature {
-    fn holds(alloc: Global, input: &str, want: &str) -> Result<bool, Fail> {
-        Ok(feature_refusal(alloc, input.as_bytes()) == Some(fault(want)?))
+    fn holds(rt: &impl Abort, alloc: Global, input: &str, want: &str) -> bool {
+        feature_refusal(alloc, input.as_bytes()) == Some(fault(rt, want))
     }
 }
 
 #[test]
-fn files_are_read_by_the_rules(rt: HostRuntime) -> Result<(), Fail> {
+fn files_are_read_by_the_rules(rt: HostRuntime) {
     let alloc = rt.alloc();
-    each_holds::<OfIds>(&rt, alloc, IDS)?;
-    each_holds::<OfGeometry>(&rt, alloc, GEOMETRIES)?;
+    each_holds::<OfIds>(&rt, alloc, IDS);
+    each_holds::<OfGeometry>(&rt, alloc, GEOMETRIES);
     each_holds::<OfMap>(&rt, alloc, MAPS)
 }
 
 #[test]
-fn the_first_fault_decides(rt: HostRuntime) -> Result<(), Fail> {
+fn the_first_fault_decides(rt: HostRuntime) {
     let alloc = rt.alloc();
-    each_holds::<OfBadGeometry>(&rt, alloc, BAD_GEOMETRIES)?;
-    each_holds::<OfBadMap>(&rt, alloc, BAD_MAPS)?;
+    each_holds::<OfBadGeometry>(&rt, alloc, BAD_GEOMETRIES);
+    each_holds::<OfBadMap>(&rt, alloc, BAD_MAPS);
     each_holds::<OfBadFeature>(&rt, alloc, BAD_FEATURES)
 }
 
@@ -310,33 +310,35 @@ fn bytes_that_are_no_text_are_no_feature(rt: HostRuntime) {
 }
 
 /// Whether this is how the feature is written.
-fn is_written(alloc: Global, feature: &Feature, want: &str) -> Result<bool, Fail> {
-    Ok(write_feature(alloc, feature)?.as_slice() == want.as_bytes())
+fn is_written(rt: &impl Abort, alloc: Global, feature: &Feature, want: &str) -> bool {
+    write_feature(alloc, feature)
+        .expect(rt, "memory")
+        .as_slice()
+        == want.as_bytes()
 }
 
 /// Whether the feature of this text is written as it was read.
-fn is_same(alloc: Global, text: &str) -> Result<bool, Fail> {
-    let feature = read_feature(alloc, text.as_bytes())?;
-    is_written(alloc, &feature, text)
+fn is_same(rt: &impl Abort, alloc: Global, text: &str) -> bool {
+    let feature = read_feature(alloc, text.as_bytes()).expect(rt, "a feature");
+    is_written(rt, alloc, &feature, text)
 }
 
 /// Whether this is how a copy of the feature is written.
-fn is_copied(alloc: Global, feature: &Feature, want: &str) -> Result<bool, Fail> {
-    let copy = feature.copy()?;
-    is_written(alloc, &copy, want)
+fn is_copied(rt: &impl Abort, alloc: Global, feature: &Feature, want: &str) -> bool {
+    let copy = feature.copy().expect(rt, "memory");
+    is_written(rt, alloc, &copy, want)
 }
 
 /// Whether a copy of the feature of this text is written as it was read.
-fn is_same_copied(alloc: Global, text: &str) -> Result<bool, Fail> {
-    let feature = read_feature(alloc, text.as_bytes())?;
-    is_copied(alloc, &feature, text)
+fn is_same_copied(rt: &impl Abort, alloc: Global, text: &str) -> bool {
+    let feature = read_feature(alloc, text.as_bytes()).expect(rt, "a feature");
+    is_copied(rt, alloc, &feature, text)
 }
 
 #[test]
-fn features_are_copied_and_written_as_they_were_read(rt: HostRuntime) -> Result<(), Fail> {
+fn features_are_copied_and_written_as_they_were_read(rt: HostRuntime) {
     for line in FEATURES.lines() {
-        assert!(rt; is_same(rt.alloc(), line)?, "{line}");
-        assert!(rt; is_same_copied(rt.alloc(), line)?, "{line}");
+        assert!(rt; is_same(&rt, rt.alloc(), line), "{line}");
+        assert!(rt; is_same_copied(&rt, rt.alloc(), line), "{line}");
     }
-    Ok(())
 }

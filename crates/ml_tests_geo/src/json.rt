@@ -4,7 +4,7 @@ use crate::cases::{Subject, each_holds};
 use ml_json::{Json, JsonFault, e7, read, whole_part, write, write_e7};
 use ml_ratio::Text;
 use std::alloc::Global;
-use std::test::Fail;
+use std::process::Abort;
 
 /// Texts, and which fault refuses them.
 const TEXTS: &str = r#"{"a":1,} => NotJson 7
@@ -129,11 +129,11 @@ const WRITTEN: &str = "85416942 => 8.5416942
 -1234567890 => -123.4567890";
 
 /// The fault of this name with its place.
-fn fault(text: &str) -> Result<Option<JsonFault>, Fail> {
+fn fault(rt: &impl Abort, text: &str) -> Option<JsonFault> {
     match text.split_once(' ') {
-        None => Ok(None),
-        Some(("Deep", at)) => Ok(Some(JsonFault::Deep(at.parse::<usize>()?))),
-        Some((_, at)) => Ok(Some(JsonFault::NotJson(at.parse::<usize>()?))),
+        None => None,
+        Some(("Deep", at)) => Some(JsonFault::Deep(at.parse::<usize>().expect(rt, "a number"))),
+        Some((_, at)) => Some(JsonFault::NotJson(at.parse::<usize>().expect(rt, "a number"))),
     }
 }
 
@@ -146,35 +146,39 @@ fn refusal(alloc: Global, bytes: &[u8]) -> Option<JsonFault> {
 }
 
 /// The bytes that the digits write.
-fn bytes_of(alloc: Global, digits: &str) -> Result<Vec<u8>, Fail> {
+fn bytes_of(rt: &impl Abort, alloc: Global, digits: &str) -> Vec<u8> {
     let mut bytes = Vec::new(alloc);
     for byte in digits.split_whitespace() {
-        bytes.push(u8::from_str_radix(byte, 16)?)?;
+        bytes
+            .push(u8::from_str_radix(byte, 16).expect(rt, "digits"))
+            .expect(rt, "memory");
     }
-    Ok(bytes)
+    bytes
 }
 
 /// The front, repeated, and what follows it.
-fn repeated(alloc: Global, text: &str) -> Result<String, Fail> {
-    let (count, text) = text.split_once(' ').ok_or("a count")?;
+fn repeated(rt: &impl Abort, alloc: Global, text: &str) -> String {
+    let (count, text) = text.split_once(' ').expect(rt, "a count");
     let (front, end) = text.split_once(' ').unwrap_or((text, ""));
-    let mut all = front.repeat(alloc, count.parse::<usize>()?)?;
-    all.push_str(end)?;
-    Ok(all)
+    let mut all = front
+        .repeat(alloc, count.parse::<usize>().expect(rt, "a number"))
+        .expect(rt, "memory");
+    all.push_str(end).expect(rt, "memory");
+    all
 }
 
 /// The text, read and written again.
-fn rewritten(alloc: Global, text: &str) -> Result<Vec<u8>, Fail> {
-    let value = read(alloc, text.as_bytes())?;
-    Ok(write(alloc, &value)?.into_vec())
+fn rewritten(rt: &impl Abort, alloc: Global, text: &str) -> Vec<u8> {
+    let value = read(alloc, text.as_bytes()).expect(rt, "a value");
+    write(alloc, &value).expect(rt, "memory").into_vec()
 }
 
 /// The faults of texts.
 struct OfText;
 
 impl Subject for OfText {
-    fn holds(alloc: Global, input: &str, want: &str) -> Result<bool, Fail> {
-        Ok(refusal(alloc, input.as_bytes()) == fault(want)?)
+    fn holds(rt: &impl Abort, alloc: Global, input: &str, want: &str) -> bool {
+        refusal(alloc, input.as_bytes()) == fault(rt, want)
     }
 }
 
@@ -182,9 +186,9 @@ impl Subject for OfText {
 struct OfBytes;
 
 impl Subject for OfBytes {
-    fn holds(alloc: Global, input: &str, want: &str) -> Result<bool, Fail> {
-        let bytes = bytes_of(alloc, input)?;
-        Ok(refusal(alloc, &bytes) == fault(want)?)
+    fn holds(rt: &impl Abort, alloc: Global, input: &str, want: &str) -> bool {
+        let bytes = bytes_of(rt, alloc, input);
+        refusal(alloc, &bytes) == fault(rt, want)
     }
 }
 
@@ -192,9 +196,9 @@ impl Subject for OfBytes {
 struct OfFront;
 
 impl Subject for OfFront {
-    fn holds(alloc: Global, input: &str, want: &str) -> Result<bool, Fail> {
-        let text = repeated(alloc, input)?;
-        Ok(refusal(alloc, text.as_bytes()) == fault(want)?)
+    fn holds(rt: &impl Abort, alloc: Global, input: &str, want: &str) -> bool {
+        let text = repeated(rt, alloc, input);
+        refusal(alloc, text.as_bytes()) == fault(rt, want)
     }
 }
 
@@ -203,11 +207,11 @@ const BRACKETS: &str =
     r#"[[[[[[[[[[[[[[[[[[[[[[[[[[[[[[[[[[[[[[[[[[[[[[[[[[[[[[[[[[[[[[[["[["]]]]]]]]]]]]]]]]]]]]]]]]]]]]]]]]]]]]]]]]]]]]]]]]]]]]]]]]]]]]]]]] => none"#;
 
 #[test]
-fn texts_are_refused_at_their_first_wrong_byte(rt: HostRuntime) -> Result<(), Fail> {
+fn texts_are_refused_at_their_first_wrong_byte(rt: HostRuntime) {
     let alloc = rt.alloc();
-    each_holds::<OfText>(&rt, alloc, TEXTS)?;
-    each_holds::<OfText>(&rt, alloc, BRACKETS)?;
-    each_holds::<OfBytes>(&rt, alloc, BYTES)?;
+    each_holds::<OfText>(&rt, alloc, TEXTS);
+    each_holds::<OfText>(&rt, alloc, BRACKETS);
+    each_holds::<OfBytes>(&rt, alloc, BYTES);
     each_holds::<OfFront>(&rt, alloc, FRONTS)
 }
 
@@ -224,8 +228,8 @@ fn each_front_of_a_text_ends_too_early(rt: HostRuntime) {
 struct OfValue;
 
 impl Subject for OfValue {
-    fn holds(alloc: Global, input: &str, want: &str) -> Result<bool, Fail> {
-        Ok(rewritten(alloc, input)?.as_slice() == want.as_bytes())
+    fn holds(rt: &impl Abort, alloc: Global, input: &str, want: &str) -> bool {
+        rewritten(rt, alloc, input).as_slice() == want.as_bytes()
     }
 }
 
@@ -233,9 +237,9 @@ impl Subject for OfValue {
 struct OfNumber;
 
 impl Subject for OfNumber {
-    fn holds(alloc: Global, input: &str, want: &str) -> Result<bool, Fail> {
-        let number = Text::of(alloc, input)?;
-        Ok(e7(&number) == want.parse::<i64>().ok())
+    fn holds(rt: &impl Abort, alloc: Global, input: &str, want: &str) -> bool {
+        let number = Text::of(alloc, input).expect(rt, "memory");
+        e7(&number) == want.parse::<i64>().ok()
     }
 }
 
@@ -243,9 +247,9 @@ impl Subject for OfNumber {
 struct OfWhole;
 
 impl Subject for OfWhole {
-    fn holds(alloc: Global, input: &str, want: &str) -> Result<bool, Fail> {
-        let number = Text::of(alloc, input)?;
-        Ok(whole_part(&number) == want.parse::<u64>()?)
+    fn holds(rt: &impl Abort, alloc: Global, input: &str, want: &str) -> bool {
+        let number = Text::of(alloc, input).expect(rt, "memory");
+        whole_part(&number) == want.parse::<u64>().expect(rt, "a number")
     }
 }
 
@@ -253,9 +257,11 @@ impl Subject for OfWhole {
 struct OfCoordinate;
 
 impl Subject for OfCoordinate {
-    fn holds(alloc: Global, input: &str, want: &str) -> Result<bool, Fail> {
-        let text = write_e7(alloc, input.parse::<i64>()?)?;
-        Ok(text.as_str() == want)
+    fn holds(rt: &impl Abort, alloc: Global, input: &str, want: &str) -> bool {
+        let text = write_e7(alloc, input.parse::<i64>().expect(rt, "a number")).expect(
+            rt, "memory",
+        );
+        text.as_str() == want
     }
 }
 
@@ -263,16 +269,16 @@ impl Subject for OfCoordinate {
 const DELETE: &str = "\"\\u007f\" => \"\x7f\"";
 
 #[test]
-fn values_have_canonical_texts(rt: HostRuntime) -> Result<(), Fail> {
+fn values_have_canonical_texts(rt: HostRuntime) {
     let alloc = rt.alloc();
-    each_holds::<OfValue>(&rt, alloc, CANONICAL)?;
+    each_holds::<OfValue>(&rt, alloc, CANONICAL);
     each_holds::<OfValue>(&rt, alloc, DELETE)
 }
 
 #[test]
-fn numbers_are_exact(rt: HostRuntime) -> Result<(), Fail> {
+fn numbers_are_exact(rt: HostRuntime) {
     let alloc = rt.alloc();
-    each_holds::<OfNumber>(&rt, alloc, COORDINATES)?;
-    each_holds::<OfWhole>(&rt, alloc, WHOLE_PARTS)?;
+    each_holds::<OfNumber>(&rt, alloc, COORDINATES);
+    each_holds::<OfWhole>(&rt, alloc, WHOLE_PARTS);
     each_holds::<OfCoordinate>(&rt, alloc, WRITTEN)
 }

@@ -8,7 +8,7 @@ use ml_pass::{assign, write_slots};
 use ml_ratio::Feature;
 use ml_style::{SAMPLE, Style, read_style};
 use std::alloc::Global;
-use std::test::Fail;
+use std::process::Abort;
 
 /// A style of points and lines, each letter one pixel wide and high.
 const PIXELS: &str = r#"
@@ -87,82 +87,84 @@ margin = 5
 "#;
 
 /// The order of a label in words: its id, class and rank.
-fn order_told(alloc: Global, order: &Order) -> Result<String, Fail> {
+fn order_told(rt: &impl Abort, alloc: Global, order: &Order) -> String {
     let (id, class, rank) = (order.id.as_str(), order.class, order.rank);
-    Ok(format!(in alloc; "{id} {class} {rank}")?)
+    format!(in alloc; "{id} {class} {rank}").expect(rt, "memory")
 }
 
 /// The range of scales of a label in words.
-fn range_told(alloc: Global, label: &Label) -> Result<String, Fail> {
-    let min = label.min().text(alloc)?;
-    let max = label.max().text(alloc)?;
+fn range_told(rt: &impl Abort, alloc: Global, label: &Label) -> String {
+    let min = label.min().text(alloc).expect(rt, "memory");
+    let max = label.max().text(alloc).expect(rt, "memory");
     let (min, max) = (min.as_str(), max.as_str());
-    Ok(format!(in alloc; "{min}..{max}")?)
+    format!(in alloc; "{min}..{max}").expect(rt, "memory")
 }
 
 /// A piece of a label in words, behind a space.
-fn piece_told(alloc: Global, piece: &str, px: &BoxPx) -> Result<String, Fail> {
+fn piece_told(rt: &impl Abort, alloc: Global, piece: &str, px: &BoxPx) -> String {
     let (l, b, r, t) = (px.l, px.b, px.r, px.t);
-    Ok(format!(in alloc; " {piece}[{l},{b},{r},{t}]")?)
+    format!(in alloc; " {piece}[{l},{b},{r},{t}]").expect(rt, "memory")
 }
 
 /// What stands before the pieces of a label.
-fn head_told(alloc: Global, label: &Label) -> Result<String, Fail> {
-    let order = order_told(alloc, label.order())?;
-    let range = range_told(alloc, label)?;
+fn head_told(rt: &impl Abort, alloc: Global, label: &Label) -> String {
+    let order = order_told(rt, alloc, label.order());
+    let range = range_told(rt, alloc, label);
     let (order, range) = (order.as_str(), range.as_str());
     let (x, y) = (label.x(), label.y());
-    Ok(format!(in alloc; "{order} {x},{y} {range}")?)
+    format!(in alloc; "{order} {x},{y} {range}").expect(rt, "memory")
 }
 
 /// The label in words.
-fn written(alloc: Global, label: &Label) -> Result<String, Fail> {
-    let mut text = head_told(alloc, label)?;
+fn written(rt: &impl Abort, alloc: Global, label: &Label) -> String {
+    let mut text = head_told(rt, alloc, label);
     let pieces = label.pieces().as_slice();
     for (piece, px) in pieces.iter().zip(label.boxes().as_slice()) {
-        text.push_str(piece_told(alloc, piece.as_str(), px)?.as_str())?;
+        text.push_str(piece_told(rt, alloc, piece.as_str(), px).as_str())
+            .expect(rt, "memory");
     }
-    Ok(text)
+    text
 }
 
 /// The label of a feature, or why there is none.
-fn label_told(alloc: Global, style: &Style, feature: &Feature) -> Result<String, Fail> {
-    match label_of(alloc, style, feature)? {
-        Ok(label) => written(alloc, &label),
-        Err(reason) => Ok(format!(in alloc; "{reason:?}")?),
+fn label_told(rt: &impl Abort, alloc: Global, style: &Style, feature: &Feature) -> String {
+    match label_of(alloc, style, feature).expect(rt, "memory") {
+        Ok(label) => written(rt, alloc, &label),
+        Err(reason) => format!(in alloc; "{reason:?}").expect(rt, "memory"),
     }
 }
 
 /// The labels of a map file, or why there are none, a line each.
-fn labels_told(alloc: Global, style: &Style, map: &str) -> Result<String, Fail> {
-    let features = read_collection(alloc, map.as_bytes())?;
+fn labels_told(rt: &impl Abort, alloc: Global, style: &Style, map: &str) -> String {
+    let features = read_collection(alloc, map.as_bytes()).expect(rt, "a map");
     let mut all = String::new(alloc);
     for feature in features.as_slice() {
-        all.push_str(label_told(alloc, style, feature)?.as_str())?;
-        all.push('\n')?;
+        all.push_str(label_told(rt, alloc, style, feature).as_str())
+            .expect(rt, "memory");
+        all.push('\n').expect(rt, "memory");
     }
-    Ok(all)
+    all
 }
 
 /// The same under the style of this text.
-fn map_told(alloc: Global, style: &str, map: &str) -> Result<String, Fail> {
-    let style = read_style(alloc, style.as_bytes())?;
-    labels_told(alloc, &style, map)
+fn map_told(rt: &impl Abort, alloc: Global, style: &str, map: &str) -> String {
+    let style = read_style(alloc, style.as_bytes()).expect(rt, "a style");
+    labels_told(rt, alloc, &style, map)
 }
 
 /// A map file of one feature with this geometry and these properties.
-fn map_of(alloc: Global, geometry: &str, props: &str) -> Result<String, Fail> {
-    Ok(format!(in alloc;
+fn map_of(rt: &impl Abort, alloc: Global, geometry: &str, props: &str) -> String {
+    format!(in alloc;
         r#"{{"type":"Feature","id":"f","geometry":{geometry},"properties":{{{props}}}}}"#
-    )?)
+    ).expect(rt, "memory")
 }
 
 /// The label of one feature with this geometry and these properties under a style, or why it has none.
-fn answer(alloc: Global, style: &str, geometry: &str, props: &str) -> Result<String, Fail> {
-    let map = map_of(alloc, geometry, props)?;
-    let mut line = map_told(alloc, style, map.as_str())?;
+fn answer(rt: &impl Abort, alloc: Global, style: &str, geometry: &str, props: &str) -> String {
+    let map = map_of(rt, alloc, geometry, props);
+    let mut line = map_told(rt, alloc, style, map.as_str());
     line.pop();
-    Ok(line)
+    line
 }
 
 /// The labels of the sample.
@@ -174,40 +176,41 @@ NoGeometry
 ";
 
 #[test]
-fn the_labels_of_a_map(rt: HostRuntime) -> Result<(), Fail> {
-    assert!(rt; map_told(rt.alloc(), SAMPLE, MAP)?.as_str() == LABELS);
-    Ok(())
+fn the_labels_of_a_map(rt: HostRuntime) {
+    assert!(rt; map_told(&rt, rt.alloc(), SAMPLE, MAP).as_str() == LABELS);
 }
 
 /// The labels of a map under a style.
-fn labels_under(alloc: Global, style: &Style, map: &str) -> Result<Vec<Label>, Fail> {
-    let features = read_collection(alloc, map.as_bytes())?;
-    Ok(labels_of(alloc, style, features.as_slice())?)
+fn labels_under(rt: &impl Abort, alloc: Global, style: &Style, map: &str) -> Vec<Label> {
+    let features = read_collection(alloc, map.as_bytes()).expect(rt, "a map");
+    labels_of(alloc, style, features.as_slice()).expect(rt, "memory")
 }
 
 /// The labels of the map under the style of this text.
-fn labels_by(alloc: Global, style: &str) -> Result<Vec<Label>, Fail> {
-    let style = read_style(alloc, style.as_bytes())?;
-    labels_under(alloc, &style, MAP)
+fn labels_by(rt: &impl Abort, alloc: Global, style: &str) -> Vec<Label> {
+    let style = read_style(alloc, style.as_bytes()).expect(rt, "a style");
+    labels_under(rt, alloc, &style, MAP)
 }
 
 /// Whether these are the ends of labels in their longest choice, a line each.
-fn have_slots(alloc: Global, labels: &[Label], want: &str) -> Result<bool, Fail> {
+fn have_slots(rt: &impl Abort, alloc: Global, labels: &[Label], want: &str) -> bool {
     if labels.len() > 32_768 {
-        return Err(Fail::from("at most 32768 labels"));
+        panic!(rt; "at most 32768 labels");
     }
-    let slots = assign(alloc, labels)?;
-    Ok(write_slots(alloc, labels, slots.as_slice())?.as_slice() == want.as_bytes())
+    let slots = assign(alloc, labels).expect(rt, "memory");
+    write_slots(alloc, labels, slots.as_slice())
+        .expect(rt, "memory")
+        .as_slice()
+        == want.as_bytes()
 }
 
 /// The ends of the sample's labels.
 const SLOTS: &str = "#0 1000/1 -\n#2 2000/1 -\n#1 100000/1 -\n";
 
 #[test]
-fn the_labels_of_a_map_are_chosen_in_priority_order(rt: HostRuntime) -> Result<(), Fail> {
-    let labels = labels_by(rt.alloc(), SAMPLE)?;
-    assert!(rt; have_slots(rt.alloc(), labels.as_slice(), SLOTS)?);
-    Ok(())
+fn the_labels_of_a_map_are_chosen_in_priority_order(rt: HostRuntime) {
+    let labels = labels_by(&rt, rt.alloc(), SAMPLE);
+    assert!(rt; have_slots(&rt, rt.alloc(), labels.as_slice(), SLOTS));
 }
 
 /// Shapes and properties, and the labels under the sample style.
@@ -258,17 +261,17 @@ fn geometry(text: &str) -> &str {
 }
 
 /// The label under a style of a feature with the geometry and the properties that are written.
-fn label_under(alloc: Global, style: &str, text: &str) -> Result<String, Fail> {
-    let (shape, props) = text.split_once(" & ").ok_or("properties")?;
-    answer(alloc, style, geometry(shape), props)
+fn label_under(rt: &impl Abort, alloc: Global, style: &str, text: &str) -> String {
+    let (shape, props) = text.split_once(" & ").expect(rt, "properties");
+    answer(rt, alloc, style, geometry(shape), props)
 }
 
 /// Labels under the sample style.
 struct UnderSample;
 
 impl Subject for UnderSample {
-    fn holds(alloc: Global, input: &str, want: &str) -> Result<bool, Fail> {
-        Ok(label_under(alloc, SAMPLE, input)?.as_str() == want)
+    fn holds(rt: &impl Abort, alloc: Global, input: &str, want: &str) -> bool {
+        label_under(rt, alloc, SAMPLE, input).as_str() == want
     }
 }
 
@@ -276,33 +279,35 @@ impl Subject for UnderSample {
 struct UnderNone;
 
 impl Subject for UnderNone {
-    fn holds(alloc: Global, input: &str, want: &str) -> Result<bool, Fail> {
-        Ok(label_under(alloc, "version = 1", input)?.as_str() == want)
+    fn holds(rt: &impl Abort, alloc: Global, input: &str, want: &str) -> bool {
+        label_under(rt, alloc, "version = 1", input).as_str() == want
     }
 }
 
 /// Properties with a name of so many letters x.
-fn props_of(alloc: Global, moved: &str, count: &str) -> Result<String, Fail> {
-    let name = "x".repeat(alloc, count.parse::<usize>()?)?;
+fn props_of(rt: &impl Abort, alloc: Global, moved: &str, count: &str) -> String {
+    let name = "x"
+        .repeat(alloc, count.parse::<usize>().expect(rt, "a number"))
+        .expect(rt, "memory");
     let name = name.as_str();
-    Ok(format!(in alloc; r#""moved":"{moved}","name":"{name}""#)?)
+    format!(in alloc; r#""moved":"{moved}","name":"{name}""#).expect(rt, "memory")
 }
 
 /// The label of a name of so many letters x, without them.
-fn letters_told(alloc: Global, text: &str) -> Result<String, Fail> {
-    let (shape, others) = text.split_once(' ').ok_or("a move")?;
-    let (moved, count) = others.split_once(' ').ok_or("a count")?;
-    let props = props_of(alloc, moved, count)?;
-    let label = answer(alloc, PIXELS, geometry(shape), props.as_str())?;
-    Ok(label.replace(alloc, "x", "")?)
+fn letters_told(rt: &impl Abort, alloc: Global, text: &str) -> String {
+    let (shape, others) = text.split_once(' ').expect(rt, "a move");
+    let (moved, count) = others.split_once(' ').expect(rt, "a count");
+    let props = props_of(rt, alloc, moved, count);
+    let label = answer(rt, alloc, PIXELS, geometry(shape), props.as_str());
+    label.replace(alloc, "x", "").expect(rt, "memory")
 }
 
 /// Labels of many letters.
 struct OfLetters;
 
 impl Subject for OfLetters {
-    fn holds(alloc: Global, input: &str, want: &str) -> Result<bool, Fail> {
-        Ok(letters_told(alloc, input)?.as_str() == want)
+    fn holds(rt: &impl Abort, alloc: Global, input: &str, want: &str) -> bool {
+        letters_told(rt, alloc, input).as_str() == want
     }
 }
 
@@ -312,16 +317,15 @@ fn is_one_with(labels: &[Label], margin: u32) -> bool {
 }
 
 #[test]
-fn a_label_has_the_margin_of_its_class(rt: HostRuntime) -> Result<(), Fail> {
-    let labels = labels_by(rt.alloc(), WITH_MARGIN)?;
+fn a_label_has_the_margin_of_its_class(rt: HostRuntime) {
+    let labels = labels_by(&rt, rt.alloc(), WITH_MARGIN);
     assert!(rt; is_one_with(labels.as_slice(), 5));
-    Ok(())
 }
 
 #[test]
-fn a_label_is_made_of_shape_and_properties(rt: HostRuntime) -> Result<(), Fail> {
+fn a_label_is_made_of_shape_and_properties(rt: HostRuntime) {
     let alloc = rt.alloc();
-    each_holds::<UnderSample>(&rt, alloc, SHAPES)?;
-    each_holds::<UnderNone>(&rt, alloc, WITHOUT_CLASSES)?;
+    each_holds::<UnderSample>(&rt, alloc, SHAPES);
+    each_holds::<UnderNone>(&rt, alloc, WITHOUT_CLASSES);
     each_holds::<OfLetters>(&rt, alloc, LETTERS)
 }

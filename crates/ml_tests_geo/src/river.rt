@@ -1,29 +1,33 @@
 //! Places of texts on rivers. A case is `units size scale; advances; shape => anchor box ..`: how the
 //! text is set, the advances of its clusters, and the river; then the anchor and, where the text is a
 //! chain, its boxes.
-ghost use Rattle.std.specs.Prelude.{◌<◌, ◌^◌, IfOk, length, sum};
+ghost use Rattle.std.specs.Prelude.{◌<◌, ◌^◌, length, sum};
 
 use crate::cases::{Subject, count, each_holds, feature_of};
 use ml_cone::BoxPx;
 use ml_ratio::lines::parts_of;
 use ml_river::{Placed, RiverClass, Shape, chain_of};
 use std::alloc::Global;
-use std::test::Fail;
+use std::process::Abort;
 
 /// How the text is set that three words write.
-fn class_of(alloc: Global, words: &str) -> Result<RiverClass, Fail> {
-    let words = parts_of(alloc, words, ' ')?;
+fn class_of(rt: &impl Abort, alloc: Global, words: &str) -> RiverClass {
+    let words = parts_of(alloc, words, ' ').expect(rt, "memory");
     match words.as_slice() {
         [units, size, scale_ref] => {
-            let (units, size, scale_ref) = (count(units)?, count(size)?, count(scale_ref)?);
-            set(units, size, scale_ref)
+            let (units, size, scale_ref) = (
+                count(rt, units),
+                count(rt, size),
+                count(rt, scale_ref),
+            );
+            set(rt, units, size, scale_ref)
         }
-        _ => Err(Fail::from("three numbers")),
+        _ => panic!(rt; "three numbers"),
     }
 }
 
 /// How a text is set, if these numbers say it.
-fn set(units: u32, size: u32, scale_ref: u32) -> Result<RiverClass, Fail> {
+fn set(rt: &impl Abort, units: u32, size: u32, scale_ref: u32) -> RiverClass {
     if 1 <= units
         && units <= 65535
         && 1 <= size
@@ -31,79 +35,80 @@ fn set(units: u32, size: u32, scale_ref: u32) -> Result<RiverClass, Fail> {
         && 1 <= scale_ref
         && scale_ref <= 268435455
     {
-        Ok(RiverClass {
+        RiverClass {
             units,
             size,
             scale_ref,
-        })
+        }
     } else {
-        Err(Fail::new("a class"))
+        panic!(rt; "a class")
     }
 }
 
 /// At least one advance, with a sum below 2^33.
-fn advances_of(alloc: Global, words: &str) -> Result<Vec<u64>, Fail>
-    ensures { IfOk result (λ all. (0 < length all.items) × (sum all.items < 2 ^ 48)) }
+fn advances_of(rt: &impl Abort, alloc: Global, words: &str) -> Vec<u64>
+    ensures { (0 < length result.items) × (sum result.items < 2 ^ 48) }
 {
     let mut all = Vec::new(alloc);
     let mut total = 0;
     for word in words.split(' ') {
-        let advance = u64::from(count(word)?);
+        let advance = u64::from(count(rt, word));
         if total > 4294967295 {
-            return Err(Fail::from("short advances"));
+            panic!(rt; "short advances");
         }
-        all.push(advance)?;
+        all.push(advance).expect(rt, "memory");
         total += advance;
     }
     if all.is_empty() {
-        return Err(Fail::from("an advance"));
+        panic!(rt; "an advance");
     }
-    Ok(all)
+    all
 }
 
 /// A box after a space.
-fn box_told(alloc: Global, px: &BoxPx) -> Result<String, Fail> {
+fn box_told(rt: &impl Abort, alloc: Global, px: &BoxPx) -> String {
     let (l, b, r, t) = (px.l, px.b, px.r, px.t);
-    Ok(format!(in alloc; " {l},{b},{r},{t}")?)
+    format!(in alloc; " {l},{b},{r},{t}").expect(rt, "memory")
 }
 
 /// The boxes of a chain, each after a space; of more than four their count.
-fn boxes_told(alloc: Global, boxes: &[BoxPx]) -> Result<String, Fail> {
+fn boxes_told(rt: &impl Abort, alloc: Global, boxes: &[BoxPx]) -> String {
     let count = boxes.len();
     if count > 4 {
-        return Ok(format!(in alloc; " {count} boxes")?);
+        return format!(in alloc; " {count} boxes").expect(rt, "memory");
     }
     let mut told = String::new(alloc);
     for px in boxes {
-        told.push_str(box_told(alloc, px)?.as_str())?;
+        told.push_str(box_told(rt, alloc, px).as_str())
+            .expect(rt, "memory");
     }
-    Ok(told)
+    told
 }
 
 /// The anchor, and the boxes of a chain.
-fn placed_told(alloc: Global, placed: &Placed) -> Result<String, Fail> {
+fn placed_told(rt: &impl Abort, alloc: Global, placed: &Placed) -> String {
     let (x, y) = (placed.anchor.x, placed.anchor.y);
     let boxes = match &placed.shape {
-        Shape::Chain(boxes) => boxes_told(alloc, boxes.as_slice())?,
+        Shape::Chain(boxes) => boxes_told(rt, alloc, boxes.as_slice()),
         Shape::Straight => String::new(alloc),
     };
     let boxes = boxes.as_str();
-    Ok(format!(in alloc; "{x},{y}{boxes}")?)
+    format!(in alloc; "{x},{y}{boxes}").expect(rt, "memory")
 }
 
 /// Where the text of a river lies, or that the shape is none.
-fn river_told(alloc: Global, input: &str) -> Result<String, Fail> {
-    let (class, rest) = input.split_once("; ").ok_or("a class")?;
-    let (advances, shape) = rest.split_once("; ").ok_or("advances")?;
-    let class = class_of(alloc, class)?;
-    let advances = advances_of(alloc, advances)?;
-    let feature = feature_of(alloc, shape)?;
+fn river_told(rt: &impl Abort, alloc: Global, input: &str) -> String {
+    let (class, rest) = input.split_once("; ").expect(rt, "a class");
+    let (advances, shape) = rest.split_once("; ").expect(rt, "advances");
+    let class = class_of(rt, alloc, class);
+    let advances = advances_of(rt, alloc, advances);
+    let feature = feature_of(rt, alloc, shape);
     let Some(shape) = &feature.geometry else {
-        return Err(Fail::from("a shape"));
+        panic!(rt; "a shape");
     };
-    match chain_of(alloc, shape, &advances, &class)? {
-        Some(placed) => placed_told(alloc, &placed),
-        None => Ok(format!(in alloc; "none")?),
+    match chain_of(alloc, shape, &advances, &class).expect(rt, "memory") {
+        Some(placed) => placed_told(rt, alloc, &placed),
+        None => format!(in alloc; "none").expect(rt, "memory"),
     }
 }
 
@@ -111,8 +116,8 @@ fn river_told(alloc: Global, input: &str) -> Result<String, Fail> {
 struct OnRiver;
 
 impl Subject for OnRiver {
-    fn holds(alloc: Global, input: &str, want: &str) -> Result<bool, Fail> {
-        Ok(river_told(alloc, input)?.as_str() == want)
+    fn holds(rt: &impl Abort, alloc: Global, input: &str, want: &str) -> bool {
+        river_told(rt, alloc, input).as_str() == want
     }
 }
 
@@ -213,25 +218,22 @@ const KINDS: &str = "\
 1000 20 1000; 500; MultiPolygon [[[[0,0],[4,0],[4,4],[0,0]]]] => none";
 
 #[test]
-fn chains_follow_their_rivers(rt: HostRuntime) -> Result<(), Fail> {
+fn chains_follow_their_rivers(rt: HostRuntime) {
     for table in [FOLLOWING, CLIMBING, BOXES, LONGEST] {
-        each_holds::<OnRiver>(&rt, rt.alloc(), table)?;
+        each_holds::<OnRiver>(&rt, rt.alloc(), table);
     }
-    Ok(())
 }
 
 #[test]
-fn the_widest_run_has_the_anchor(rt: HostRuntime) -> Result<(), Fail> {
+fn the_widest_run_has_the_anchor(rt: HostRuntime) {
     for table in [RUNS, ROUNDED, WITHOUT_RUN] {
-        each_holds::<OnRiver>(&rt, rt.alloc(), table)?;
+        each_holds::<OnRiver>(&rt, rt.alloc(), table);
     }
-    Ok(())
 }
 
 #[test]
-fn chains_have_limits(rt: HostRuntime) -> Result<(), Fail> {
+fn chains_have_limits(rt: HostRuntime) {
     for table in [OVER_THE_RUN, OFFSETS, CLUSTERS, KINDS] {
-        each_holds::<OnRiver>(&rt, rt.alloc(), table)?;
+        each_holds::<OnRiver>(&rt, rt.alloc(), table);
     }
-    Ok(())
 }

@@ -1,6 +1,5 @@
 //! Whole styles, and styles with one thing wrong, with the answers that the format gives them. A case
 //! is a line, what is given before the arrow and what is wanted behind it; `|` stands for a new line.
-ghost use Rattle.std.specs.Prelude.{IfOk};
 ghost use Rattle.ml_ratio.specs.Feature.{IsScalar};
 ghost use Rattle.ml_ratio.specs.Geometry.{IsSomeGeometry};
 
@@ -8,7 +7,7 @@ use crate::cases::{Subject, each_holds};
 use ml_ratio::{Feature, Geometry, Pos, Prop, Scalar, Seq, Text};
 use ml_style::{Class, Font, Kind, SAMPLE, Style, StyleFault, class_of, read_style};
 use std::alloc::Global;
-use std::test::Fail;
+use std::process::Abort;
 
 /// The classes of the sample: kind, priority, reference, the end of the range, and whether they ask
 /// for a city.
@@ -244,33 +243,32 @@ fn is_refused(alloc: Global, bytes: &[u8], want: &str) -> bool {
 }
 
 /// Adds lines, which stand apart by `|`.
-fn push_lines(text: &mut String, lines: &str) -> Result<(), Fail> {
+fn push_lines(rt: &impl Abort, text: &mut String, lines: &str) {
     for line in lines.split('|') {
-        text.push_str(line)?;
-        text.push('\n')?;
+        text.push_str(line).expect(rt, "memory");
+        text.push('\n').expect(rt, "memory");
     }
-    Ok(())
 }
 
 /// Adds the usual line of a field, unless this field stands in its place.
-fn push_usual(text: &mut String, usual: &str, field: &str) -> Result<(), Fail> {
-    let (name, _value) = usual.split_once(" = ").ok_or("a field")?;
+fn push_usual(rt: &impl Abort, text: &mut String, usual: &str, field: &str) {
+    let (name, _value) = usual.split_once(" = ").expect(rt, "a field");
     if field.starts_with(name) {
-        return Ok(());
+        return;
     }
-    push_lines(text, usual)
+    push_lines(rt, text, usual)
 }
 
 /// A style of this version with one class of lines, with this field in place of the usual one.
-fn with_field(alloc: Global, version: &str, field: &str) -> Result<String, Fail> {
-    let mut text = format!(in alloc; "version = {version}\n{FRONT}")?;
+fn with_field(rt: &impl Abort, alloc: Global, version: &str, field: &str) -> String {
+    let mut text = format!(in alloc; "version = {version}\n{FRONT}").expect(rt, "memory");
     for usual in FIELDS.lines() {
-        push_usual(&mut text, usual, field)?;
+        push_usual(rt, &mut text, usual, field);
     }
     if field.contains('=') {
-        push_lines(&mut text, field)?;
+        push_lines(rt, &mut text, field);
     }
-    Ok(text)
+    text
 }
 
 /// Whether the class asks for a city.
@@ -287,8 +285,8 @@ fn asks_for_a_city(class: &Class) -> bool {
 }
 
 /// The sample.
-fn sample(alloc: Global) -> Result<Style, Fail> {
-    Ok(read_style(alloc, SAMPLE.as_bytes())?)
+fn sample(rt: &impl Abort, alloc: Global) -> Style {
+    read_style(alloc, SAMPLE.as_bytes()).expect(rt, "a style")
 }
 
 /// What [`CLASSES`] says of the class.
@@ -303,13 +301,12 @@ fn row_of(class: &Class) -> (Kind, u32, u32, u64, bool) {
 }
 
 #[test]
-fn the_sample_is_read(rt: HostRuntime) -> Result<(), Fail> {
-    let style = sample(rt.alloc())?;
+fn the_sample_is_read(rt: HostRuntime) {
+    let style = sample(&rt, rt.alloc());
     assert!(rt; style.classes().len() == CLASSES.len());
     for (class, want) in style.classes().as_slice().iter().zip(CLASSES) {
         assert!(rt; row_of(class) == want);
     }
-    Ok(())
 }
 
 /// Whether the class has the size, the font, the margin, the offset and the end of its range that all
@@ -321,19 +318,17 @@ fn looks_usual(class: &Class) -> bool {
 }
 
 #[test]
-fn all_classes_of_the_sample_look_alike(rt: HostRuntime) -> Result<(), Fail> {
-    let style = sample(rt.alloc())?;
+fn all_classes_of_the_sample_look_alike(rt: HostRuntime) {
+    let style = sample(&rt, rt.alloc());
     for class in style.classes().as_slice() {
         assert!(rt; looks_usual(class));
     }
-    Ok(())
 }
 
 #[test]
-fn the_sample_names_its_keys(rt: HostRuntime) -> Result<(), Fail> {
-    let style = sample(rt.alloc())?;
+fn the_sample_names_its_keys(rt: HostRuntime) {
+    let style = sample(&rt, rt.alloc());
     assert!(rt; style.name_key().as_str() == "name" && style.rank_key().as_str() == "pop");
-    Ok(())
 }
 
 /// Whether the font has its own advances.
@@ -342,23 +337,22 @@ fn has_advances(font: &Font) -> bool {
 }
 
 #[test]
-fn the_font_of_the_sample_has_advances(rt: HostRuntime) -> Result<(), Fail> {
-    let style = sample(rt.alloc())?;
+fn the_font_of_the_sample_has_advances(rt: HostRuntime) {
+    let style = sample(&rt, rt.alloc());
     let classes = style.classes().as_slice();
     assert!(rt; classes.len() == 4);
     let font = style.font(&classes[3]);
     assert!(rt; font.units == 1000 && font.fallback == 500 && font.advances.len() == 2);
     assert!(rt; has_advances(font));
-    Ok(())
 }
 
 /// The faults of fields.
 struct OfField;
 
 impl Subject for OfField {
-    fn holds(alloc: Global, input: &str, want: &str) -> Result<bool, Fail> {
-        let text = with_field(alloc, "2", input)?;
-        Ok(is_refused(alloc, text.as_bytes(), want))
+    fn holds(rt: &impl Abort, alloc: Global, input: &str, want: &str) -> bool {
+        let text = with_field(rt, alloc, "2", input);
+        is_refused(alloc, text.as_bytes(), want)
     }
 }
 
@@ -371,19 +365,19 @@ fn margin_of(style: &Style) -> Option<u32> {
 }
 
 /// The margin of the first class of the style that is written.
-fn margin_in(alloc: Global, text: &str) -> Result<Option<u32>, Fail> {
-    let style = read_style(alloc, text.as_bytes())?;
-    Ok(margin_of(&style))
+fn margin_in(rt: &impl Abort, alloc: Global, text: &str) -> Option<u32> {
+    let style = read_style(alloc, text.as_bytes()).expect(rt, "a style");
+    margin_of(&style)
 }
 
 /// The margins of versions.
 struct OfVersion;
 
 impl Subject for OfVersion {
-    fn holds(alloc: Global, input: &str, want: &str) -> Result<bool, Fail> {
-        let (version, field) = input.split_once(' ').ok_or("a version")?;
-        let text = with_field(alloc, version, field)?;
-        Ok(margin_in(alloc, text.as_str())? == want.parse::<u32>().ok())
+    fn holds(rt: &impl Abort, alloc: Global, input: &str, want: &str) -> bool {
+        let (version, field) = input.split_once(' ').expect(rt, "a version");
+        let text = with_field(rt, alloc, version, field);
+        margin_in(rt, alloc, text.as_str()) == want.parse::<u32>().ok()
     }
 }
 
@@ -391,10 +385,10 @@ impl Subject for OfVersion {
 struct OfStyle;
 
 impl Subject for OfStyle {
-    fn holds(alloc: Global, input: &str, want: &str) -> Result<bool, Fail> {
+    fn holds(rt: &impl Abort, alloc: Global, input: &str, want: &str) -> bool {
         let mut text = String::new(alloc);
-        push_lines(&mut text, input)?;
-        Ok(is_refused(alloc, text.as_bytes(), want))
+        push_lines(rt, &mut text, input);
+        is_refused(alloc, text.as_bytes(), want)
     }
 }
 
@@ -402,81 +396,83 @@ impl Subject for OfStyle {
 struct OfTwo;
 
 impl Subject for OfTwo {
-    fn holds(alloc: Global, input: &str, want: &str) -> Result<bool, Fail> {
-        let (field, second) = input.split_once(" & ").ok_or("a second class")?;
-        let mut text = with_field(alloc, "1", field)?;
-        push_lines(&mut text, second)?;
-        Ok(is_refused(alloc, text.as_bytes(), want))
+    fn holds(rt: &impl Abort, alloc: Global, input: &str, want: &str) -> bool {
+        let (field, second) = input.split_once(" & ").expect(rt, "a second class");
+        let mut text = with_field(rt, alloc, "1", field);
+        push_lines(rt, &mut text, second);
+        is_refused(alloc, text.as_bytes(), want)
     }
 }
 
 #[test]
-fn each_field_may_be_wrong(rt: HostRuntime) -> Result<(), Fail> {
+fn each_field_may_be_wrong(rt: HostRuntime) {
     let alloc = rt.alloc();
-    each_holds::<OfField>(&rt, alloc, LOOKS)?;
-    each_holds::<OfVersion>(&rt, alloc, MARGINS)?;
+    each_holds::<OfField>(&rt, alloc, LOOKS);
+    each_holds::<OfVersion>(&rt, alloc, MARGINS);
     each_holds::<OfTwo>(&rt, alloc, SECOND)
 }
 
 #[test]
-fn styles_may_be_wrong(rt: HostRuntime) -> Result<(), Fail> {
+fn styles_may_be_wrong(rt: HostRuntime) {
     assert!(rt; is_refused(rt.alloc(), b"version = 1 # \xff", "NotToml"));
     each_holds::<OfStyle>(&rt, rt.alloc(), STYLES)
 }
 
 /// The value that a word writes: null, a flag or a text.
-fn scalar(alloc: Global, word: &str) -> Result<Scalar, Fail>
-    ensures { IfOk result IsScalar }
+fn scalar(rt: &impl Abort, alloc: Global, word: &str) -> Scalar
+    ensures { IsScalar result }
 {
-    Ok(match word {
+    match word {
         "null" => Scalar::Null,
         "true" => Scalar::Flag(true),
         "false" => Scalar::Flag(false),
-        _ => Scalar::Str(Text::of(alloc, word)?),
-    })
+        _ => Scalar::Str(Text::of(alloc, word).expect(rt, "memory")),
+    }
 }
 
 /// A feature at one point with one property.
-fn point_with(alloc: Global, key: &str, value: Scalar) -> Result<Feature, Fail>
+fn point_with(rt: &impl Abort, alloc: Global, key: &str, value: Scalar) -> Feature
     requires { IsScalar value }
 {
     let mut props = Seq::new(alloc);
-    props.push(Prop {
-        key: Text::of(alloc, key)?,
-        value,
-    })?;
-    Ok(Feature {
-        id: Text::of(alloc, "f")?,
+    props
+        .push(Prop {
+            key: Text::of(alloc, key).expect(rt, "memory"),
+            value,
+        })
+        .expect(rt, "memory");
+    Feature {
+        id: Text::of(alloc, "f").expect(rt, "memory"),
         geometry: Some(Geometry::Point(Pos { x: 0, y: 0 })),
         props,
-    })
+    }
 }
 
 /// The feature at one point with the property that is written.
-fn point_of(alloc: Global, text: &str) -> Result<Feature, Fail> {
-    let (key, word) = text.split_once(' ').ok_or("a value")?;
-    let value = scalar(alloc, word)?;
-    point_with(alloc, key, value)
+fn point_of(rt: &impl Abort, alloc: Global, text: &str) -> Feature {
+    let (key, word) = text.split_once(' ').expect(rt, "a value");
+    let value = scalar(rt, alloc, word);
+    point_with(rt, alloc, key, value)
 }
 
 /// The class that the style gives the feature.
-fn class_in(alloc: Global, style: &str, feature: &Feature) -> Result<Option<usize>, Fail> {
-    let style = read_style(alloc, style.as_bytes())?;
-    Ok(class_of(&style, feature))
+fn class_in(rt: &impl Abort, alloc: Global, style: &str, feature: &Feature) -> Option<usize> {
+    let style = read_style(alloc, style.as_bytes()).expect(rt, "a style");
+    class_of(&style, feature)
 }
 
 /// Whether the style gives the feature at one point with this property the class of this number.
-fn has_class(alloc: Global, style: &str, prop: &str, want: &str) -> Result<bool, Fail> {
-    let feature = point_of(alloc, prop)?;
-    Ok(class_in(alloc, style, &feature)? == want.parse::<usize>().ok())
+fn has_class(rt: &impl Abort, alloc: Global, style: &str, prop: &str, want: &str) -> bool {
+    let feature = point_of(rt, alloc, prop);
+    class_in(rt, alloc, style, &feature) == want.parse::<usize>().ok()
 }
 
 /// Classes in the sample.
 struct InSample;
 
 impl Subject for InSample {
-    fn holds(alloc: Global, input: &str, want: &str) -> Result<bool, Fail> {
-        has_class(alloc, SAMPLE, input, want)
+    fn holds(rt: &impl Abort, alloc: Global, input: &str, want: &str) -> bool {
+        has_class(rt, alloc, SAMPLE, input, want)
     }
 }
 
@@ -484,63 +480,61 @@ impl Subject for InSample {
 struct InFlagged;
 
 impl Subject for InFlagged {
-    fn holds(alloc: Global, input: &str, want: &str) -> Result<bool, Fail> {
-        has_class(alloc, FLAGGED, input, want)
+    fn holds(rt: &impl Abort, alloc: Global, input: &str, want: &str) -> bool {
+        has_class(rt, alloc, FLAGGED, input, want)
     }
 }
 
 #[test]
-fn points_have_the_first_class_that_applies(rt: HostRuntime) -> Result<(), Fail> {
+fn points_have_the_first_class_that_applies(rt: HostRuntime) {
     let alloc = rt.alloc();
-    each_holds::<InSample>(&rt, alloc, IN_SAMPLE)?;
+    each_holds::<InSample>(&rt, alloc, IN_SAMPLE);
     each_holds::<InFlagged>(&rt, alloc, IN_FLAGGED)
 }
 
 /// A feature of this shape without properties.
-fn bare(alloc: Global, geometry: Option<Geometry>) -> Result<Feature, Fail>
+fn bare(rt: &impl Abort, alloc: Global, geometry: Option<Geometry>) -> Feature
     requires { IsSomeGeometry geometry }
 {
-    Ok(Feature {
-        id: Text::of(alloc, "f")?,
+    Feature {
+        id: Text::of(alloc, "f").expect(rt, "memory"),
         geometry,
         props: Seq::new(alloc),
-    })
+    }
 }
 
 /// The class that the sample gives a feature of this shape without properties.
-fn class_for(alloc: Global, geometry: Option<Geometry>) -> Result<Option<usize>, Fail>
+fn class_for(rt: &impl Abort, alloc: Global, geometry: Option<Geometry>) -> Option<usize>
     requires { IsSomeGeometry geometry }
 {
-    let feature = bare(alloc, geometry)?;
-    class_in(alloc, SAMPLE, &feature)
+    let feature = bare(rt, alloc, geometry);
+    class_in(rt, alloc, SAMPLE, &feature)
 }
 
 #[test]
-fn shapes_have_classes_of_their_kinds(rt: HostRuntime) -> Result<(), Fail> {
+fn shapes_have_classes_of_their_kinds(rt: HostRuntime) {
     let place = Pos { x: 0, y: 0 };
     assert_eq!(rt;
-        class_for(rt.alloc(), Some(Geometry::Point(place)))?,
+        class_for(&rt, rt.alloc(), Some(Geometry::Point(place))),
         Some(1)
     );
     let mut line = Seq::new(rt.alloc());
-    line.push(place)?;
+    line.push(place).expect(&rt, "memory");
     assert_eq!(rt;
-        class_for(rt.alloc(), Some(Geometry::LineString(line)))?,
+        class_for(&rt, rt.alloc(), Some(Geometry::LineString(line))),
         Some(2)
     );
-    assert_eq!(rt; class_for(rt.alloc(), None)?, None);
-    Ok(())
+    assert_eq!(rt; class_for(&rt, rt.alloc(), None), None);
 }
 
 #[test]
-fn areas_have_their_class(rt: HostRuntime) -> Result<(), Fail> {
+fn areas_have_their_class(rt: HostRuntime) {
     let place = Pos { x: 0, y: 0 };
-    let ring = Seq::of_vec(vec![in rt.alloc(); place, place, place, place]?);
+    let ring = Seq::of_vec(vec![in rt.alloc(); place, place, place, place].expect(&rt, "memory"));
     let mut rings = Seq::new(rt.alloc());
-    rings.push(ring)?;
+    rings.push(ring).expect(&rt, "memory");
     assert_eq!(rt;
-        class_for(rt.alloc(), Some(Geometry::Polygon(rings)))?,
+        class_for(&rt, rt.alloc(), Some(Geometry::Polygon(rings))),
         Some(3)
     );
-    Ok(())
 }

@@ -1,12 +1,12 @@
 //! Texts of labels, widths and clusters.
-ghost use Rattle.std.specs.Prelude.{◌≤◌, IfOk};
+ghost use Rattle.std.specs.Prelude.{◌≤◌};
 
 use crate::cases::{Subject, count, each_holds, lines_of};
 use ml_ratio::Text;
 use ml_style::{Font, read_style};
 use ml_text::{clusters, label_text, width};
 use std::alloc::Global;
-use std::test::Fail;
+use std::process::Abort;
 
 /// A font of 1000 units in which every character is 500 wide, but `i` 250 and U+0301 nothing.
 const STYLE: &str = r#"version = 1
@@ -51,54 +51,55 @@ const MEASURES: &str = "\
 20 \u{1112}\u{1161}\u{11ab}\u{ac00}\u{11a8} => 50 \u{1112}\u{1161}\u{11ab}|\u{ac00}\u{11a8}| 2500";
 
 /// The clusters of a text, each ended by a stroke, and the sum of their advances.
-fn clusters_told(alloc: Global, font: &Font, text: &Text) -> Result<String, Fail> {
+fn clusters_told(rt: &impl Abort, alloc: Global, font: &Font, text: &Text) -> String {
     let mut told = String::new(alloc);
     let mut sum: u64 = 0;
-    for cluster in clusters(alloc, font, text)?.as_slice() {
-        told.push_str(cluster.text.as_str())?;
-        told.push('|')?;
+    for cluster in clusters(alloc, font, text).expect(rt, "memory").as_slice() {
+        told.push_str(cluster.text.as_str()).expect(rt, "memory");
+        told.push('|').expect(rt, "memory");
         sum = sum.saturating_add(cluster.advance);
     }
-    told.push_str(&format!(in alloc; " {sum}")?)?;
-    Ok(told)
+    told.push_str(&format!(in alloc; " {sum}").expect(rt, "memory"))
+        .expect(rt, "memory");
+    told
 }
 
 /// The size, which has to be 1 to 256.
-fn good_size(size: u32) -> Result<u32, Fail>
-    ensures { IfOk result (λ size. (1 ≤ size) × (size ≤ 256)) }
+fn good_size(rt: &impl Abort, size: u32) -> u32
+    ensures { (1 ≤ result) × (result ≤ 256) }
 {
     if 1 <= size && size <= 256 {
-        Ok(size)
+        size
     } else {
-        Err(Fail::new("a size"))
+        panic!(rt; "a size")
     }
 }
 
 /// The width of a text at a size, and its clusters.
-fn measure_told(alloc: Global, input: &str) -> Result<String, Fail> {
-    let (size, text) = input.split_once(' ').ok_or("a size")?;
-    let size = good_size(count(size)?)?;
-    let text = Text::of(alloc, text)?;
-    let style = read_style(alloc, STYLE.as_bytes())?;
+fn measure_told(rt: &impl Abort, alloc: Global, input: &str) -> String {
+    let (size, text) = input.split_once(' ').expect(rt, "a size");
+    let size = good_size(rt, count(rt, size));
+    let text = Text::of(alloc, text).expect(rt, "memory");
+    let style = read_style(alloc, STYLE.as_bytes()).expect(rt, "a style");
     let classes = style.classes().as_slice();
     if classes.is_empty() {
-        return Err(Fail::from("a class"));
+        panic!(rt; "a class");
     }
     let font = style.font(&classes[0]);
     let width = width(font, size, &text);
-    let told = clusters_told(alloc, font, &text)?;
+    let told = clusters_told(rt, alloc, font, &text);
     let told = told.as_str();
-    Ok(format!(in alloc; "{width} {told}")?)
+    format!(in alloc; "{width} {told}").expect(rt, "memory")
 }
 
 /// The measures of texts. In a case ` / ` stands for a line feed.
 struct Measured;
 
 impl Subject for Measured {
-    fn holds(alloc: Global, input: &str, want: &str) -> Result<bool, Fail> {
-        let input = lines_of(alloc, input)?;
-        let want = lines_of(alloc, want)?;
-        Ok(measure_told(alloc, &input)?.as_str() == want.as_str())
+    fn holds(rt: &impl Abort, alloc: Global, input: &str, want: &str) -> bool {
+        let input = lines_of(rt, alloc, input);
+        let want = lines_of(rt, alloc, want);
+        measure_told(rt, alloc, &input).as_str() == want.as_str()
     }
 }
 
@@ -116,16 +117,16 @@ a\r / b => a  b
 struct Shown;
 
 impl Subject for Shown {
-    fn holds(alloc: Global, input: &str, want: &str) -> Result<bool, Fail> {
-        let name = lines_of(alloc, input)?;
-        let name = Text::of(alloc, &name)?;
-        Ok(label_text(alloc, &name)?.as_str() == want)
+    fn holds(rt: &impl Abort, alloc: Global, input: &str, want: &str) -> bool {
+        let name = lines_of(rt, alloc, input);
+        let name = Text::of(alloc, &name).expect(rt, "memory");
+        label_text(alloc, &name).expect(rt, "memory").as_str() == want
     }
 }
 
 #[test]
-fn texts_have_widths_and_labels(rt: HostRuntime) -> Result<(), Fail> {
+fn texts_have_widths_and_labels(rt: HostRuntime) {
     let alloc = rt.alloc();
-    each_holds::<Measured>(&rt, alloc, MEASURES)?;
+    each_holds::<Measured>(&rt, alloc, MEASURES);
     each_holds::<Shown>(&rt, alloc, NAMES)
 }
