@@ -11,10 +11,10 @@ use ml_ratio::Steps;
 use ml_style::{SAMPLE, read_style};
 use ml_tile::Tiles;
 use ml_watch::{Crowd, MemWatcher};
-use std::alloc::{AllocError, Global};
+use std::alloc::Global;
 use std::marker::Brand;
+use std::process::Abort;
 use std::sync::ledger::{Blank, Ledger};
-use std::test::Fail;
 
 /// The same style, with free space about the labels of its first class.
 const STYLE_WITH_MARGIN: &str = r#"version = 2
@@ -97,19 +97,19 @@ struct Exchange {
 }
 
 /// The text with each `~` as CR LF.
-fn wire(alloc: Global, text: &str) -> Result<String, AllocError> {
-    text.replace(alloc, "~", "\r\n")
+fn wire(rt: &impl Abort, alloc: Global, text: &str) -> String {
+    text.replace(alloc, "~", "\r\n").expect(rt, "memory")
 }
 
 /// Whether the bytes are the text with each `~` as CR LF.
-fn is_wire(alloc: Global, bytes: &[u8], text: &str) -> Result<bool, Fail> {
-    Ok(bytes == wire(alloc, text)?.as_bytes())
+fn is_wire(rt: &impl Abort, alloc: Global, bytes: &[u8], text: &str) -> bool {
+    bytes == wire(rt, alloc, text).as_bytes()
 }
 
-fn editor_of(alloc: Global, map: &str) -> Result<Editor, Fail> {
-    let style = read_style(alloc, SAMPLE.as_bytes())?;
-    let features = read_collection(alloc, map.as_bytes())?;
-    Ok(Editor::load(alloc, style, features)?)
+fn editor_of(rt: &impl Abort, alloc: Global, map: &str) -> Editor {
+    let style = read_style(alloc, SAMPLE.as_bytes()).expect(rt, "a style");
+    let features = read_collection(alloc, map.as_bytes()).expect(rt, "a map");
+    Editor::load(alloc, style, features).expect(rt, "memory")
 }
 
 fn serve_counted<L: Ledger>(
@@ -131,22 +131,25 @@ fn serve_counted<L: Ledger>(
 }
 
 /// One watcher, who does not fail.
-fn one_watcher(alloc: Global) -> Result<Crowd<MemWatcher>, AllocError> {
+fn one_watcher(rt: &impl Abort, alloc: Global) -> Crowd<MemWatcher> {
     let mut watchers = Vec::new(alloc);
-    watchers.push(MemWatcher::new(alloc, 100, Vec::new(alloc))?)?;
-    Ok(Crowd::new(watchers))
+    watchers
+        .push(MemWatcher::new(alloc, 100, Vec::new(alloc)).expect(rt, "memory"))
+        .expect(rt, "memory");
+    Crowd::new(watchers)
 }
 
 /// Serves one connection over this map, with one watcher.
 fn served_by(
+    rt: &impl Abort,
     alloc: Global,
     map: &str,
     mut source: MemSource,
     mut sink: MemSink,
-) -> Result<Exchange, Fail> {
-    let mut editor = editor_of(alloc, map)?;
-    let mut crowd = one_watcher(alloc)?;
-    let mut tiles = Tiles::new(alloc)?;
+) -> Exchange {
+    let mut editor = editor_of(rt, alloc, map);
+    let mut crowd = one_watcher(rt, alloc);
+    let mut tiles = Tiles::new(alloc).expect(rt, "memory");
     let end = serve_counted::<Brand>(
         Blank::new(1),
         alloc,
@@ -156,38 +159,43 @@ fn served_by(
         &mut crowd,
         &mut tiles,
     );
-    Ok(Exchange {
+    Exchange {
         sink,
         end,
         rev: editor.rev(),
         heard: crowd.heard(0),
         hits: tiles.hits(),
         skips: tiles.skips(),
-    })
+    }
 }
 
 /// Serves one connection over this map, in pieces of at most `cut` bytes.
-fn served(alloc: Global, map: &str, input: &[u8], cut: usize) -> Result<Exchange, Fail>
+fn served(rt: &impl Abort, alloc: Global, map: &str, input: &[u8], cut: usize) -> Exchange
     requires { 0 < cut }
 {
-    let source = MemSource::new(Vec::from_slice(alloc, input)?, cut, Vec::new(alloc));
-    let sink = MemSink::new(alloc, 400000, Vec::new(alloc))?;
-    served_by(alloc, map, source, sink)
+    let source = MemSource::new(
+        Vec::from_slice(alloc, input).expect(rt, "memory"),
+        cut,
+        Vec::new(alloc),
+    );
+    let sink = MemSink::new(alloc, 400000, Vec::new(alloc)).expect(rt, "memory");
+    served_by(rt, alloc, map, source, sink)
 }
 
 /// Whether requests over this map, in pieces of at most `cut` bytes, get these replies.
 fn is_answered(
+    rt: &impl Abort,
     alloc: Global,
     map: &str,
     requests: &str,
     replies: &str,
     cut: usize,
-) -> Result<bool, Fail>
+) -> bool
     requires { 0 < cut }
 {
-    let requests = wire(alloc, requests)?;
-    let got = served(alloc, map, requests.as_bytes(), cut)?;
-    is_wire(alloc, got.sink.bytes(), replies)
+    let requests = wire(rt, alloc, requests);
+    let got = served(rt, alloc, map, requests.as_bytes(), cut);
+    is_wire(rt, alloc, got.sink.bytes(), replies)
 }
 
 /// An edit, a view, a removal, the view again.
@@ -203,62 +211,60 @@ fn is_whole(got: &Exchange) -> bool {
 }
 
 /// Whether the edits are answered in pieces of at most `cut` bytes.
-fn edits_are_answered(alloc: Global, cut: usize) -> Result<bool, Fail>
+fn edits_are_answered(rt: &impl Abort, alloc: Global, cut: usize) -> bool
     requires { 0 < cut }
 {
-    let requests = wire(alloc, EDITS)?;
-    let got = served(alloc, NO_FEATURES, requests.as_bytes(), cut)?;
-    Ok(is_whole(&got) && is_wire(alloc, got.sink.bytes(), EDITS_REPLIES)?)
+    let requests = wire(rt, alloc, EDITS);
+    let got = served(rt, alloc, NO_FEATURES, requests.as_bytes(), cut);
+    is_whole(&got) && is_wire(rt, alloc, got.sink.bytes(), EDITS_REPLIES)
 }
 
 #[test]
-fn edits_and_views_are_answered_in_any_pieces(rt: HostRuntime) -> Result<(), Fail> {
-    let requests = wire(rt.alloc(), EDITS)?;
+fn edits_and_views_are_answered_in_any_pieces(rt: HostRuntime) {
+    let requests = wire(&rt, rt.alloc(), EDITS);
     for cut in 1..requests.len() + 1 {
-        assert!(rt; edits_are_answered(rt.alloc(), cut)?, "{cut}");
+        assert!(rt; edits_are_answered(&rt, rt.alloc(), cut), "{cut}");
     }
-    Ok(())
 }
 
 /// Whether the edits end so, with a first part of their replies, where the calls of the source and of
 /// the sink that are listed fail.
 fn edits_end(
+    rt: &impl Abort,
     alloc: Global,
     fails_in: Vec<u64>,
     fails_out: Vec<u64>,
     end: ConnEnd,
-) -> Result<bool, Fail> {
-    let source = MemSource::new(wire(alloc, EDITS)?.into_bytes(), 7, fails_in);
-    let sink = MemSink::new(alloc, 400000, fails_out)?;
-    let got = served_by(alloc, NO_FEATURES, source, sink)?;
-    let replies = wire(alloc, EDITS_REPLIES)?;
-    Ok(got.end == end && replies.as_bytes().starts_with(got.sink.bytes()))
+) -> bool {
+    let source = MemSource::new(wire(rt, alloc, EDITS).into_bytes(), 7, fails_in);
+    let sink = MemSink::new(alloc, 400000, fails_out).expect(rt, "memory");
+    let got = served_by(rt, alloc, NO_FEATURES, source, sink);
+    let replies = wire(rt, alloc, EDITS_REPLIES);
+    got.end == end && replies.as_bytes().starts_with(got.sink.bytes())
 }
 
 #[test]
-fn a_failing_source_leaves_a_first_part(rt: HostRuntime) -> Result<(), Fail> {
+fn a_failing_source_leaves_a_first_part(rt: HostRuntime) {
     let alloc = rt.alloc();
     for call in 0..12u64 {
-        let fails = vec![in alloc; call]?;
+        let fails = vec![in alloc; call].expect(&rt, "memory");
         assert!(rt;
-            edits_end(alloc, fails, Vec::new(alloc), ConnEnd::ReadFault)?,
+            edits_end(&rt, alloc, fails, Vec::new(alloc), ConnEnd::ReadFault),
             "{call}"
         );
     }
-    Ok(())
 }
 
 #[test]
-fn a_failing_sink_leaves_a_first_part(rt: HostRuntime) -> Result<(), Fail> {
+fn a_failing_sink_leaves_a_first_part(rt: HostRuntime) {
     let alloc = rt.alloc();
     for call in 0..4u64 {
-        let fails = vec![in alloc; call]?;
+        let fails = vec![in alloc; call].expect(&rt, "memory");
         assert!(rt;
-            edits_end(alloc, Vec::new(alloc), fails, ConnEnd::WriteFault)?,
+            edits_end(&rt, alloc, Vec::new(alloc), fails, ConnEnd::WriteFault),
             "{call}"
         );
     }
-    Ok(())
 }
 
 /// A reply to which a further request may follow.
@@ -270,24 +276,25 @@ const LAST: &str =
     r#"HTTP/1.1 200 OK~Content-Type: application/json~Content-Length: 33~Connection: close~~{"features":0,"labels":0,"rev":0}"#;
 
 /// The replies to 999 requests and to a last one.
-fn last_replies(alloc: Global) -> Result<String, AllocError> {
-    let mut replies = OPEN.repeat(alloc, 999)?;
-    replies.push_str(LAST)?;
-    Ok(replies)
+fn last_replies(rt: &impl Abort, alloc: Global) -> String {
+    let mut replies = OPEN.repeat(alloc, 999).expect(rt, "memory");
+    replies.push_str(LAST).expect(rt, "memory");
+    replies
 }
 
 /// Whether a connection of 1,001 requests is shut behind the reply to the 1,000th.
-fn the_last_is_answered(alloc: Global) -> Result<bool, Fail> {
-    let requests = "GET /rev HTTP/1.1\r\nHost: a\r\n\r\n".repeat(alloc, 1001)?;
-    let got = served(alloc, NO_FEATURES, requests.as_bytes(), 9999)?;
-    let replies = last_replies(alloc)?;
-    Ok(got.end == ConnEnd::Shut && is_wire(alloc, got.sink.bytes(), replies.as_str())?)
+fn the_last_is_answered(rt: &impl Abort, alloc: Global) -> bool {
+    let requests = "GET /rev HTTP/1.1\r\nHost: a\r\n\r\n"
+        .repeat(alloc, 1001)
+        .expect(rt, "memory");
+    let got = served(rt, alloc, NO_FEATURES, requests.as_bytes(), 9999);
+    let replies = last_replies(rt, alloc);
+    got.end == ConnEnd::Shut && is_wire(rt, alloc, got.sink.bytes(), replies.as_str())
 }
 
 #[test]
-fn the_last_request_of_a_connection_closes(rt: HostRuntime) -> Result<(), Fail> {
-    assert!(rt; the_last_is_answered(rt.alloc())?);
-    Ok(())
+fn the_last_request_of_a_connection_closes(rt: HostRuntime) {
+    assert!(rt; the_last_is_answered(&rt, rt.alloc()));
 }
 
 /// Heads that are refused, paths and methods that there are not, queries that are wrong.
@@ -327,13 +334,13 @@ POST /feature HTTP/1.1~Host: a~Content-Length: 5~~1234 => "#;
 struct OverNothing;
 
 impl Subject for OverNothing {
-    fn holds(alloc: Global, input: &str, want: &str) -> Result<bool, Fail> {
-        is_answered(alloc, NO_FEATURES, input, want, 7)
+    fn holds(rt: &impl Abort, alloc: Global, input: &str, want: &str) -> bool {
+        is_answered(rt, alloc, NO_FEATURES, input, want, 7)
     }
 }
 
 #[test]
-fn what_there_is_not_is_refused(rt: HostRuntime) -> Result<(), Fail> {
+fn what_there_is_not_is_refused(rt: HostRuntime) {
     each_holds::<OverNothing>(&rt, rt.alloc(), REFUSALS)
 }
 
@@ -347,40 +354,42 @@ const BODIES: &str = r#"- => {"at":0,"error":"NotJson"}
 {"type":"Feature","id":"A","geometry":{"type":"Polygon","coordinates":[[[0,0],[1,0]]]}} => {"error":"ShortRing"}"#;
 
 /// The request to put in the feature of this body.
-fn request_with(alloc: Global, body: &str) -> Result<String, Fail> {
+fn request_with(rt: &impl Abort, alloc: Global, body: &str) -> String {
     let size = body.len();
-    Ok(format!(in alloc; "POST /feature HTTP/1.1~Host: a~Content-Length: {size}~~{body}")?)
+    format!(in alloc; "POST /feature HTTP/1.1~Host: a~Content-Length: {size}~~{body}").expect(
+        rt, "memory",
+    )
 }
 
 /// The reply of this body that refuses a feature.
-fn refusal_with(alloc: Global, body: &str) -> Result<String, Fail> {
+fn refusal_with(rt: &impl Abort, alloc: Global, body: &str) -> String {
     let size = body.len();
-    Ok(format!(in alloc;
+    format!(in alloc;
         "HTTP/1.1 422 Unprocessable Content~Content-Type: application/json~Content-Length: {size}~~{body}"
-    )?)
+    ).expect(rt, "memory")
 }
 
 /// Bodies, and those of the replies that refuse them.
 struct OfBody;
 
 impl Subject for OfBody {
-    fn holds(alloc: Global, input: &str, want: &str) -> Result<bool, Fail> {
+    fn holds(rt: &impl Abort, alloc: Global, input: &str, want: &str) -> bool {
         let body = if input == "-" { "" } else { input };
-        let request = request_with(alloc, body)?;
-        let reply = refusal_with(alloc, want)?;
-        is_answered(alloc, NO_FEATURES, request.as_str(), reply.as_str(), 7)
+        let request = request_with(rt, alloc, body);
+        let reply = refusal_with(rt, alloc, want);
+        is_answered(rt, alloc, NO_FEATURES, request.as_str(), reply.as_str(), 7)
     }
 }
 
 #[test]
-fn bodies_that_are_no_features_are_refused(rt: HostRuntime) -> Result<(), Fail> {
+fn bodies_that_are_no_features_are_refused(rt: HostRuntime) {
     each_holds::<OfBody>(&rt, rt.alloc(), BODIES)
 }
 
 /// Whether bytes over a map without features, in one piece, get these replies.
-fn is_replied(alloc: Global, input: &[u8], replies: &str) -> Result<bool, Fail> {
-    let got = served(alloc, NO_FEATURES, input, 9999)?;
-    is_wire(alloc, got.sink.bytes(), replies)
+fn is_replied(rt: &impl Abort, alloc: Global, input: &[u8], replies: &str) -> bool {
+    let got = served(rt, alloc, NO_FEATURES, input, 9999);
+    is_wire(rt, alloc, got.sink.bytes(), replies)
 }
 
 /// The reply to a body of one byte that is no text.
@@ -388,10 +397,9 @@ const NO_TEXT: &str =
     r#"HTTP/1.1 422 Unprocessable Content~Content-Type: application/json~Content-Length: 26~~{"at":0,"error":"NotJson"}"#;
 
 #[test]
-fn a_body_that_is_no_text_is_refused(rt: HostRuntime) -> Result<(), Fail> {
+fn a_body_that_is_no_text_is_refused(rt: HostRuntime) {
     let input = b"POST /feature HTTP/1.1\r\nHost: a\r\nContent-Length: 1\r\n\r\n\xff";
-    assert!(rt; is_replied(rt.alloc(), input, NO_TEXT)?);
-    Ok(())
+    assert!(rt; is_replied(&rt, rt.alloc(), input, NO_TEXT));
 }
 
 /// The reply to a head of 65 fields.
@@ -399,30 +407,28 @@ const NO_REQUEST: &str =
     r#"HTTP/1.1 400 Bad Request~Content-Type: application/json~Content-Length: 19~Connection: close~~{"error":"request"}"#;
 
 /// A head of so many fields and a host.
-fn head_of(alloc: Global, count: usize) -> Result<String, Fail> {
-    let fields = "x: y\r\n".repeat(alloc, count)?;
-    Ok(format!(in alloc; "GET /rev HTTP/1.1\r\nHost: a\r\n{fields}\r\n")?)
+fn head_of(rt: &impl Abort, alloc: Global, count: usize) -> String {
+    let fields = "x: y\r\n".repeat(alloc, count).expect(rt, "memory");
+    format!(in alloc; "GET /rev HTTP/1.1\r\nHost: a\r\n{fields}\r\n").expect(rt, "memory")
 }
 
 #[test]
-fn a_head_of_65_fields_is_refused(rt: HostRuntime) -> Result<(), Fail> {
-    let input = head_of(rt.alloc(), 64)?;
-    assert!(rt; is_replied(rt.alloc(), input.as_bytes(), NO_REQUEST)?);
-    Ok(())
+fn a_head_of_65_fields_is_refused(rt: HostRuntime) {
+    let input = head_of(&rt, rt.alloc(), 64);
+    assert!(rt; is_replied(&rt, rt.alloc(), input.as_bytes(), NO_REQUEST));
 }
 
 #[test]
-fn lines_that_end_with_a_line_feed_alone_are_no_head(rt: HostRuntime) -> Result<(), Fail> {
+fn lines_that_end_with_a_line_feed_alone_are_no_head(rt: HostRuntime) {
     let input = b"GET /rev HTTP/1.1\nHost: a\n\n";
-    assert!(rt; is_replied(rt.alloc(), input, "")?);
-    Ok(())
+    assert!(rt; is_replied(&rt, rt.alloc(), input, ""));
 }
 
 /// Whether a connection of so many letters is closed with this reply.
-fn letters_get(alloc: Global, count: usize, reply: &str) -> Result<bool, Fail> {
-    let letters = "a".repeat(alloc, count)?;
-    let got = served(alloc, NO_FEATURES, letters.as_bytes(), 100)?;
-    Ok(got.end == ConnEnd::Closed && is_wire(alloc, got.sink.bytes(), reply)?)
+fn letters_get(rt: &impl Abort, alloc: Global, count: usize, reply: &str) -> bool {
+    let letters = "a".repeat(alloc, count).expect(rt, "memory");
+    let got = served(rt, alloc, NO_FEATURES, letters.as_bytes(), 100);
+    got.end == ConnEnd::Closed && is_wire(rt, alloc, got.sink.bytes(), reply)
 }
 
 /// The reply to a head that is too long.
@@ -430,10 +436,9 @@ const LONG_HEAD: &str =
     r#"HTTP/1.1 431 Request Header Fields Too Large~Content-Type: application/json~Content-Length: 16~Connection: close~~{"error":"head"}"#;
 
 #[test]
-fn a_head_has_a_limit(rt: HostRuntime) -> Result<(), Fail> {
-    assert!(rt; letters_get(rt.alloc(), 16384, LONG_HEAD)?);
-    assert!(rt; letters_get(rt.alloc(), 16383, "")?);
-    Ok(())
+fn a_head_has_a_limit(rt: HostRuntime) {
+    assert!(rt; letters_get(&rt, rt.alloc(), 16384, LONG_HEAD));
+    assert!(rt; letters_get(&rt, rt.alloc(), 16383, ""));
 }
 
 /// The reply where memory is wanting.
@@ -441,9 +446,8 @@ const NO_MEMORY: &str =
     r#"HTTP/1.1 503 Service Unavailable~Content-Type: application/json~Content-Length: 18~Connection: close~~{"error":"memory"}"#;
 
 #[test]
-fn the_memory_reply_is_a_reply(rt: HostRuntime) -> Result<(), Fail> {
-    assert!(rt; is_wire(rt.alloc(), MEMORY_REPLY, NO_MEMORY)?);
-    Ok(())
+fn the_memory_reply_is_a_reply(rt: HostRuntime) {
+    assert!(rt; is_wire(&rt, rt.alloc(), MEMORY_REPLY, NO_MEMORY));
 }
 
 /// Requests over three points: what is refused of an edit, a label's slot, a removal that changes others.
@@ -461,13 +465,13 @@ PUT /style?rev=7 HTTP/1.1~Host: a~Content-Length: 11~~version = 3 => HTTP/1.1 40
 struct OverPoints;
 
 impl Subject for OverPoints {
-    fn holds(alloc: Global, input: &str, want: &str) -> Result<bool, Fail> {
-        is_answered(alloc, THREE_POINTS, input, want, 7)
+    fn holds(rt: &impl Abort, alloc: Global, input: &str, want: &str) -> bool {
+        is_answered(rt, alloc, THREE_POINTS, input, want, 7)
     }
 }
 
 #[test]
-fn edits_over_labels_in_conflict(rt: HostRuntime) -> Result<(), Fail> {
+fn edits_over_labels_in_conflict(rt: HostRuntime) {
     each_holds::<OverPoints>(&rt, rt.alloc(), POINTS)
 }
 
@@ -486,32 +490,30 @@ const TILES_AFTER_REPLIES: &str =
     r#"HTTP/1.1 200 OK~Content-Type: application/json~Content-Length: 71~~{"changes":[{"after":null,"before":["0/1","1000/1"],"id":"A"}],"rev":2}HTTP/1.1 200 OK~Content-Type: application/json~Content-Length: 27~~{"labels":[],"scale":"1/1"}HTTP/1.1 200 OK~Content-Type: application/json~Content-Length: 27~~{"labels":[],"scale":"1/1"}"#;
 
 /// The two texts, one behind the other.
-fn both(alloc: Global, first: &str, second: &str) -> Result<String, AllocError> {
-    let mut text = String::from_str(alloc, first)?;
-    text.push_str(second)?;
-    Ok(text)
+fn both(rt: &impl Abort, alloc: Global, first: &str, second: &str) -> String {
+    let mut text = String::from_str(alloc, first).expect(rt, "memory");
+    text.push_str(second).expect(rt, "memory");
+    text
 }
 
 /// Whether the requests get these replies, with a tile that was held so often.
-fn tiles_answer(alloc: Global, requests: &str, replies: &str, hits: u64) -> Result<bool, Fail> {
-    let requests = wire(alloc, requests)?;
-    let got = served(alloc, NO_FEATURES, requests.as_bytes(), 100)?;
+fn tiles_answer(rt: &impl Abort, alloc: Global, requests: &str, replies: &str, hits: u64) -> bool {
+    let requests = wire(rt, alloc, requests);
+    let got = served(rt, alloc, NO_FEATURES, requests.as_bytes(), 100);
     let is_held = got.hits == hits && got.skips == 0;
-    Ok(is_held && is_wire(alloc, got.sink.bytes(), replies)?)
+    is_held && is_wire(rt, alloc, got.sink.bytes(), replies)
 }
 
 #[test]
-fn tiles_are_held(rt: HostRuntime) -> Result<(), Fail> {
-    assert!(rt; tiles_answer(rt.alloc(), TILES, TILES_REPLIES, 1)?);
-    Ok(())
+fn tiles_are_held(rt: HostRuntime) {
+    assert!(rt; tiles_answer(&rt, rt.alloc(), TILES, TILES_REPLIES, 1));
 }
 
 #[test]
-fn tiles_are_held_until_an_edit_changes_what_they_show(rt: HostRuntime) -> Result<(), Fail> {
-    let requests = both(rt.alloc(), TILES, TILES_AFTER)?;
-    let replies = both(rt.alloc(), TILES_REPLIES, TILES_AFTER_REPLIES)?;
-    assert!(rt; tiles_answer(rt.alloc(), requests.as_str(), replies.as_str(), 2)?);
-    Ok(())
+fn tiles_are_held_until_an_edit_changes_what_they_show(rt: HostRuntime) {
+    let requests = both(&rt, rt.alloc(), TILES, TILES_AFTER);
+    let replies = both(&rt, rt.alloc(), TILES_REPLIES, TILES_AFTER_REPLIES);
+    assert!(rt; tiles_answer(&rt, rt.alloc(), requests.as_str(), replies.as_str(), 2));
 }
 
 /// Requests over the sample map with the types and the bodies of their replies; in a body `|` stands for
@@ -527,52 +529,53 @@ const FIRST_OF_SAMPLE: &str =
     r##"{"type":"FeatureCollection","features":[{"type":"Feature","id":"#0","geometry":{"type":"Point","coordinates":[8.5416942,47.3768861]},"properties":{"name":"Zürich","place":"city","pop":402762}},"##;
 
 /// The reply with this body.
-fn reply_with(alloc: Global, kind: &str, body: &str) -> Result<String, Fail> {
+fn reply_with(rt: &impl Abort, alloc: Global, kind: &str, body: &str) -> String {
     let size = body.len();
-    Ok(format!(in alloc; "HTTP/1.1 200 OK~Content-Type: {kind}~Content-Length: {size}~~{body}")?)
+    format!(in alloc; "HTTP/1.1 200 OK~Content-Type: {kind}~Content-Length: {size}~~{body}").expect(
+        rt, "memory",
+    )
 }
 
 /// The request for a target.
-fn request_for(alloc: Global, target: &str) -> Result<String, Fail> {
-    Ok(format!(in alloc; "GET {target} HTTP/1.1~Host: a~~")?)
+fn request_for(rt: &impl Abort, alloc: Global, target: &str) -> String {
+    format!(in alloc; "GET {target} HTTP/1.1~Host: a~~").expect(rt, "memory")
 }
 
 /// Whether the target over this map has a reply of this type and body, in which `|` stands for LF.
-fn is_got(alloc: Global, map: &str, target: &str, kind: &str, body: &str) -> Result<bool, Fail> {
-    let request = request_for(alloc, target)?;
-    let body = body.replace(alloc, "|", "\n")?;
-    let reply = reply_with(alloc, kind, body.as_str())?;
-    is_answered(alloc, map, request.as_str(), reply.as_str(), 7)
+fn is_got(rt: &impl Abort, alloc: Global, map: &str, target: &str, kind: &str, body: &str) -> bool {
+    let request = request_for(rt, alloc, target);
+    let body = body.replace(alloc, "|", "\n").expect(rt, "memory");
+    let reply = reply_with(rt, alloc, kind, body.as_str());
+    is_answered(rt, alloc, map, request.as_str(), reply.as_str(), 7)
 }
 
 /// Targets over the sample map, and their replies.
 struct OverSample;
 
 impl Subject for OverSample {
-    fn holds(alloc: Global, input: &str, want: &str) -> Result<bool, Fail> {
-        let (kind, body) = want.split_once(" => ").ok_or("a body")?;
-        is_got(alloc, SAMPLE_MAP, input, kind, body)
+    fn holds(rt: &impl Abort, alloc: Global, input: &str, want: &str) -> bool {
+        let (kind, body) = want.split_once(" => ").expect(rt, "a body");
+        is_got(rt, alloc, SAMPLE_MAP, input, kind, body)
     }
 }
 
 #[test]
-fn the_sample_map_is_told(rt: HostRuntime) -> Result<(), Fail> {
+fn the_sample_map_is_told(rt: HostRuntime) {
     each_holds::<OverSample>(&rt, rt.alloc(), SAMPLE_REPLIES)
 }
 
 /// Whether the text stands in the export behind its first 76 bytes.
-fn is_exported(alloc: Global, text: &str) -> Result<bool, Fail> {
+fn is_exported(rt: &impl Abort, alloc: Global, text: &str) -> bool {
     let request = b"GET /map HTTP/1.1\r\nHost: a\r\n\r\n";
-    let got = served(alloc, SAMPLE_MAP, request, 7)?;
+    let got = served(rt, alloc, SAMPLE_MAP, request, 7);
     let bytes = got.sink.bytes();
     let (_head, body) = bytes.split_at(bytes.len().min(76));
-    Ok(body.starts_with(text.as_bytes()))
+    body.starts_with(text.as_bytes())
 }
 
 #[test]
-fn the_export_begins_with_the_first_feature(rt: HostRuntime) -> Result<(), Fail> {
-    assert!(rt; is_exported(rt.alloc(), FIRST_OF_SAMPLE)?);
-    Ok(())
+fn the_export_begins_with_the_first_feature(rt: HostRuntime) {
+    assert!(rt; is_exported(&rt, rt.alloc(), FIRST_OF_SAMPLE));
 }
 
 /// What a style with a margin changes, once and then no more.
@@ -583,29 +586,31 @@ const MARGIN_CHANGES: &str =
 const NO_CHANGES: &str = r#"{"changes":[],"rev":2}"#;
 
 /// The request for the style with a margin, twice.
-fn styles_put(alloc: Global) -> Result<String, Fail> {
+fn styles_put(rt: &impl Abort, alloc: Global) -> String {
     let size = STYLE_WITH_MARGIN.len();
-    let head = format!(in alloc; "PUT /style HTTP/1.1~Host: a~Content-Length: {size}~~")?;
-    let request = both(alloc, head.as_str(), STYLE_WITH_MARGIN)?;
-    Ok(request.repeat(alloc, 2)?)
+    let head = format!(in alloc; "PUT /style HTTP/1.1~Host: a~Content-Length: {size}~~").expect(
+        rt, "memory",
+    );
+    let request = both(rt, alloc, head.as_str(), STYLE_WITH_MARGIN);
+    request.repeat(alloc, 2).expect(rt, "memory")
 }
 
 #[test]
-fn a_style_takes_the_place_of_the_style(rt: HostRuntime) -> Result<(), Fail> {
-    let requests = styles_put(rt.alloc())?;
-    let first = reply_with(rt.alloc(), "application/json", MARGIN_CHANGES)?;
-    let second = reply_with(rt.alloc(), "application/json", NO_CHANGES)?;
-    let replies = both(rt.alloc(), first.as_str(), second.as_str())?;
+fn a_style_takes_the_place_of_the_style(rt: HostRuntime) {
+    let requests = styles_put(&rt, rt.alloc());
+    let first = reply_with(&rt, rt.alloc(), "application/json", MARGIN_CHANGES);
+    let second = reply_with(&rt, rt.alloc(), "application/json", NO_CHANGES);
+    let replies = both(&rt, rt.alloc(), first.as_str(), second.as_str());
     assert!(rt;
         is_answered(
+            &rt,
             rt.alloc(),
             THREE_POINTS,
             requests.as_str(),
             replies.as_str(),
             100
-        )?
+        )
     );
-    Ok(())
 }
 
 /// The state of the three points; `|` stands for LF.
@@ -613,7 +618,6 @@ const STATE: &str =
     "state 0 3|A 0 0 0/1 1000/1 0 1000/1 - -10,-10,10,10|B 400 0 0/1 1000/1 0 20/1 0 -10,-10,10,10|C 800 0 0/1 1000/1 0 40/1 0 -10,-10,10,10|";
 
 #[test]
-fn the_state_is_told_with_its_slots(rt: HostRuntime) -> Result<(), Fail> {
-    assert!(rt; is_got(rt.alloc(), THREE_POINTS, "/state", "text/plain", STATE)?);
-    Ok(())
+fn the_state_is_told_with_its_slots(rt: HostRuntime) {
+    assert!(rt; is_got(&rt, rt.alloc(), THREE_POINTS, "/state", "text/plain", STATE));
 }

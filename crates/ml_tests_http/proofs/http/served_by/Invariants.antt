@@ -1,4 +1,4 @@
 use Rattle.ml_tests_http.proofs.http.served_by.Given as goal
 
 abbrev pub ghosts-serve_counted : goal.ghosts-serve_counted
-ghosts-serve_counted a = record { name = a.blank.name; parts = a.blank.parts }
+ghosts-serve_counted g a = record { name = a.blank.name; parts = a.blank.parts }
