@@ -2,7 +2,7 @@
 use crate::tests::{Subject, each_holds, run_told};
 use ml_style::SAMPLE;
 use std::alloc::Global;
-use std::test::Fail;
+use std::process::Abort;
 
 /// A city, two islands, a river, and a feature without geometry, as a desktop program writes them.
 const MAP: &str = r#"{
@@ -109,13 +109,13 @@ view sample short 0 0 1024 768 1 => 4 map refused: 7 ShortRing 0¶"##;
 struct OfMap;
 
 impl Subject for OfMap {
-    fn holds(alloc: Global, input: &str, want: &str) -> Result<bool, Fail> {
-        Ok(run_told(alloc, &FILES, input)?.as_str() == want)
+    fn holds(rt: &impl Abort, alloc: Global, input: &str, want: &str) -> bool {
+        run_told(rt, alloc, &FILES, input).as_str() == want
     }
 }
 
 #[test]
-fn maps_are_viewed_or_refused(rt: HostRuntime) -> Result<(), Fail> {
+fn maps_are_viewed_or_refused(rt: HostRuntime) {
     each_holds::<OfMap>(&rt, rt.alloc(), VIEWS)
 }
 
@@ -148,16 +148,16 @@ min = "0" | min = "1000" => 3 style refused: 6 EmptyRange 0¶"#;
 struct OfStyle;
 
 impl Subject for OfStyle {
-    fn holds(alloc: Global, input: &str, want: &str) -> Result<bool, Fail> {
-        let (usual, wrong) = input.split_once(" | ").ok_or("a line")?;
-        let style = STYLE.replace(alloc, usual, wrong)?;
+    fn holds(rt: &impl Abort, alloc: Global, input: &str, want: &str) -> bool {
+        let (usual, wrong) = input.split_once(" | ").expect(rt, "a line");
+        let style = STYLE.replace(alloc, usual, wrong).expect(rt, "memory");
         let files = [("s", style.as_str()), ("m", "[")];
-        Ok(run_told(alloc, &files, "view s m 0 0 1024 768 1")?.as_str() == want)
+        run_told(rt, alloc, &files, "view s m 0 0 1024 768 1").as_str() == want
     }
 }
 
 #[test]
-fn a_style_is_refused_before_its_map(rt: HostRuntime) -> Result<(), Fail> {
+fn a_style_is_refused_before_its_map(rt: HostRuntime) {
     each_holds::<OfStyle>(&rt, rt.alloc(), WRONG_LINES)
 }
 
@@ -167,24 +167,28 @@ const COUNTS: &str = r#"0 => 0 {"labels":[],"scale":"1/1"}¶
 32769 => 4 map refused: 9 Full¶"#;
 
 /// A map of so many features without geometry.
-fn many(alloc: Global, count: usize) -> Result<String, Fail> {
-    let features = r#"{"type":"Feature"},"#.repeat(alloc, count)?;
+fn many(rt: &impl Abort, alloc: Global, count: usize) -> String {
+    let features = r#"{"type":"Feature"},"#
+        .repeat(alloc, count)
+        .expect(rt, "memory");
     let features = features.as_str().strip_suffix(',').unwrap_or("");
-    Ok(format!(in alloc; r#"{{"type":"FeatureCollection","features":[{features}]}}"#)?)
+    format!(in alloc; r#"{{"type":"FeatureCollection","features":[{features}]}}"#).expect(
+        rt, "memory",
+    )
 }
 
 /// Views of maps of many features.
 struct OfMany;
 
 impl Subject for OfMany {
-    fn holds(alloc: Global, input: &str, want: &str) -> Result<bool, Fail> {
-        let map = many(alloc, input.parse::<usize>()?)?;
+    fn holds(rt: &impl Abort, alloc: Global, input: &str, want: &str) -> bool {
+        let map = many(rt, alloc, input.parse::<usize>().expect(rt, "a number"));
         let files = [("s", SAMPLE), ("m", map.as_str())];
-        Ok(run_told(alloc, &files, "view s m 0 0 1024 768 1")?.as_str() == want)
+        run_told(rt, alloc, &files, "view s m 0 0 1024 768 1").as_str() == want
     }
 }
 
 #[test]
-fn a_map_has_at_most_32768_features(rt: HostRuntime) -> Result<(), Fail> {
+fn a_map_has_at_most_32768_features(rt: HostRuntime) {
     each_holds::<OfMany>(&rt, rt.alloc(), COUNTS)
 }

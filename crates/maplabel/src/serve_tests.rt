@@ -3,8 +3,8 @@
 use crate::status::Status;
 use crate::tests::{Outside, Subject, each_holds, outside_of, run_alone, run_at, run_told, told};
 use ml_io::{Link, MemDoor, MemLink, MemSink, MemSource};
-use std::alloc::{AllocError, Global};
-use std::test::Fail;
+use std::alloc::Global;
+use std::process::Abort;
 
 const STYLE: &str = r#"version = 1
 name = "name"
@@ -72,116 +72,139 @@ const FILES: [(&str, &str); 4] = [
 struct OfLine;
 
 impl Subject for OfLine {
-    fn holds(alloc: Global, input: &str, want: &str) -> Result<bool, Fail> {
-        Ok(run_told(alloc, &FILES, input)?.as_str().strip_suffix('¶') == Some(want))
+    fn holds(rt: &impl Abort, alloc: Global, input: &str, want: &str) -> bool {
+        run_told(rt, alloc, &FILES, input)
+            .as_str()
+            .strip_suffix('¶')
+            == Some(want)
     }
 }
 
 #[test]
-fn what_is_printed_alone_is_told(rt: HostRuntime) -> Result<(), Fail> {
+fn what_is_printed_alone_is_told(rt: HostRuntime) {
     each_holds::<OfLine>(&rt, rt.alloc(), PRINTED_ALONE)
 }
 
 /// The text with CR LF for each `~`.
-fn wire(alloc: Global, text: &str) -> Result<String, AllocError> {
-    text.replace(alloc, "~", "\r\n")
+fn wire(rt: &impl Abort, alloc: Global, text: &str) -> String {
+    text.replace(alloc, "~", "\r\n").expect(rt, "memory")
 }
 
 /// The edits in pieces of seven bytes, where listed calls fail.
-fn edits(alloc: Global, fails: Vec<u64>) -> Result<MemSource, AllocError> {
-    let text = wire(alloc, EDITS)?;
-    let bytes = Vec::from_slice(alloc, text.as_bytes())?;
-    Ok(MemSource::new(bytes, 7, fails))
+fn edits(rt: &impl Abort, alloc: Global, fails: Vec<u64>) -> MemSource {
+    let text = wire(rt, alloc, EDITS);
+    let bytes = Vec::from_slice(alloc, text.as_bytes()).expect(rt, "memory");
+    MemSource::new(bytes, 7, fails)
 }
 
 /// A connection that brings the edits.
-fn link(alloc: Global) -> Result<MemLink, AllocError> {
-    let source = edits(alloc, Vec::new(alloc))?;
-    let sink = MemSink::new(alloc, 4096, Vec::new(alloc))?;
-    Ok(Link { source, sink })
+fn link(rt: &impl Abort, alloc: Global) -> MemLink {
+    let source = edits(rt, alloc, Vec::new(alloc));
+    let sink = MemSink::new(alloc, 4096, Vec::new(alloc)).expect(rt, "memory");
+    Link { source, sink }
 }
 
 /// The edits as input, where listed calls of the input and of the output fail.
-fn piping(alloc: Global, reads: Vec<u64>, writes: Vec<u64>) -> Result<Outside, Fail> {
-    let mut outside = outside_of(alloc, &FILES)?;
-    outside.input = edits(alloc, reads)?;
-    outside.out = MemSink::new(alloc, 4096, writes)?;
-    Ok(outside)
+fn piping(rt: &impl Abort, alloc: Global, reads: Vec<u64>, writes: Vec<u64>) -> Outside {
+    let mut outside = outside_of(rt, alloc, &FILES);
+    outside.input = edits(rt, alloc, reads);
+    outside.out = MemSink::new(alloc, 4096, writes).expect(rt, "memory");
+    outside
 }
 
 #[test]
-fn one_connection_is_piped(rt: HostRuntime) -> Result<(), Fail> {
-    let mut outside = piping(rt.alloc(), Vec::new(rt.alloc()), Vec::new(rt.alloc()))?;
-    assert!(rt; run_alone(rt.alloc(), &mut outside, "pipe s e")? == Status::Done);
-    assert!(rt; outside.out.bytes() == wire(rt.alloc(), REPLIES)?.as_bytes());
-    Ok(())
+fn one_connection_is_piped(rt: HostRuntime) {
+    let mut outside = piping(&rt, rt.alloc(), Vec::new(rt.alloc()), Vec::new(rt.alloc()));
+    assert!(rt; run_alone(&rt, rt.alloc(), &mut outside, "pipe s e") == Status::Done);
+    assert!(rt; outside.out.bytes() == wire(&rt, rt.alloc(), REPLIES).as_bytes());
 }
 
 /// How piping the edits ends, where listed calls of the input and of the output fail.
-fn pipe_status(alloc: Global, reads: Vec<u64>, writes: Vec<u64>) -> Result<Status, Fail> {
-    let mut outside = piping(alloc, reads, writes)?;
-    run_alone(alloc, &mut outside, "pipe s e")
+fn pipe_status(rt: &impl Abort, alloc: Global, reads: Vec<u64>, writes: Vec<u64>) -> Status {
+    let mut outside = piping(rt, alloc, reads, writes);
+    run_alone(rt, alloc, &mut outside, "pipe s e")
 }
 
 #[test]
-fn a_connection_may_fail(rt: HostRuntime) -> Result<(), Fail> {
+fn a_connection_may_fail(rt: HostRuntime) {
     let alloc = rt.alloc();
-    let read = pipe_status(alloc, vec![in alloc; 0]?, Vec::new(alloc))?;
+    let read = pipe_status(
+        &rt,
+        alloc,
+        vec![in alloc; 0].expect(&rt, "memory"),
+        Vec::new(alloc),
+    );
     assert!(rt; read == Status::ReadFault);
-    let write = pipe_status(alloc, Vec::new(alloc), vec![in alloc; 0]?)?;
+    let write = pipe_status(
+        &rt,
+        alloc,
+        Vec::new(alloc),
+        vec![in alloc; 0].expect(&rt, "memory"),
+    );
     assert!(rt; write == Status::WriteFault);
-    Ok(())
 }
 
 /// Two connections that bring the edits.
-fn two_links(alloc: Global) -> Result<Vec<MemLink>, AllocError> {
+fn two_links(rt: &impl Abort, alloc: Global) -> Vec<MemLink> {
     let mut links = Vec::new(alloc);
     for _link in 0..2 {
-        links.push(link(alloc)?)?;
+        links.push(link(rt, alloc)).expect(rt, "memory");
     }
-    Ok(links)
+    links
 }
 
 /// What serving two connections at a door prints, behind the exit code, and then what each connection
 /// got, where listed calls of the door fail.
-fn served_told(alloc: Global, fails: Vec<u64>) -> Result<String, Fail> {
-    let mut outside = outside_of(alloc, &FILES)?;
-    let mut door = MemDoor::new(alloc, two_links(alloc)?, fails)?;
-    let status = run_at(alloc, &mut outside, &mut door, "serve s e 80 2")?;
-    let mut all = told(alloc, status, &outside.out)?;
-    push_replies(&mut all, door.links_done())?;
-    Ok(all)
+fn served_told(rt: &impl Abort, alloc: Global, fails: Vec<u64>) -> String {
+    let mut outside = outside_of(rt, alloc, &FILES);
+    let mut door = MemDoor::new(alloc, two_links(rt, alloc), fails).expect(rt, "memory");
+    let status = run_at(rt, alloc, &mut outside, &mut door, "serve s e 80 2");
+    let mut all = told(rt, alloc, status, &outside.out);
+    push_replies(rt, &mut all, door.links_done());
+    all
 }
 
 /// Adds what each connection got.
-fn push_replies(all: &mut String, links: &[MemLink]) -> Result<(), Fail> {
+fn push_replies(rt: &impl Abort, all: &mut String, links: &[MemLink]) {
     for link in links {
-        all.push_str(std::str::from_utf8(link.sink.bytes())?)?;
+        all.push_str(std::str::from_utf8(link.sink.bytes()).expect(rt, "a text"))
+            .expect(rt, "memory");
     }
-    Ok(())
 }
 
 /// Whether serving two connections at a door, where listed calls of the door fail, prints this, behind
 /// the exit code, and the connections get these replies.
-fn is_served(alloc: Global, fails: Vec<u64>, printed: &str, replies: &str) -> Result<bool, Fail> {
-    let told = served_told(alloc, fails)?;
-    let replies = wire(alloc, replies)?;
-    Ok(told.as_str().strip_prefix(printed) == Some(replies.as_str()))
+fn is_served(
+    rt: &impl Abort,
+    alloc: Global,
+    fails: Vec<u64>,
+    printed: &str,
+    replies: &str,
+) -> bool {
+    let told = served_told(rt, alloc, fails);
+    let replies = wire(rt, alloc, replies);
+    told.as_str().strip_prefix(printed) == Some(replies.as_str())
 }
 
 #[test]
-fn connections_of_a_door_are_served(rt: HostRuntime) -> Result<(), Fail> {
+fn connections_of_a_door_are_served(rt: HostRuntime) {
     let alloc = rt.alloc();
-    let mut both = String::from_str(alloc, REPLIES)?;
-    both.push_str(LATER)?;
-    assert!(rt; is_served(alloc, Vec::new(alloc), "0 ready¶served 2¶", both.as_str())?);
-    Ok(())
+    let mut both = String::from_str(alloc, REPLIES).expect(&rt, "memory");
+    both.push_str(LATER).expect(&rt, "memory");
+    assert!(rt;
+        is_served(
+            &rt,
+            alloc,
+            Vec::new(alloc),
+            "0 ready¶served 2¶",
+            both.as_str()
+        )
+    );
 }
 
 #[test]
-fn a_door_that_fails_is_told(rt: HostRuntime) -> Result<(), Fail> {
+fn a_door_that_fails_is_told(rt: HostRuntime) {
     let alloc = rt.alloc();
-    let fails = vec![in alloc; 1]?;
-    assert!(rt; is_served(alloc, fails, "8 ready¶door fault¶", REPLIES)?);
-    Ok(())
+    let fails = vec![in alloc; 1].expect(&rt, "memory");
+    assert!(rt; is_served(&rt, alloc, fails, "8 ready¶door fault¶", REPLIES));
 }

@@ -9,49 +9,47 @@ use ml_ratio::Text;
 use ml_watch::{Crowd, MemWatcher};
 use std::alloc::Global;
 use std::process::Abort;
-use std::test::Fail;
 
 /// What a table of cases is about.
 pub(crate) trait Subject {
     /// Whether an input has the answer that is wanted.
-    fn holds(alloc: Global, input: &str, want: &str) -> Result<bool, Fail>;
+    fn holds(rt: &impl Abort, alloc: Global, input: &str, want: &str) -> bool;
 }
 
 /// Whether a case holds, a line `input => answer`.
-fn case_holds<S: Subject>(alloc: Global, line: &str) -> Result<bool, Fail> {
-    let (input, want) = line.split_once(" => ").ok_or("a case")?;
-    S::holds(alloc, input, want)
+fn case_holds<S: Subject>(rt: &impl Abort, alloc: Global, line: &str) -> bool {
+    let (input, want) = line.split_once(" => ").expect(rt, "a case");
+    S::holds(rt, alloc, input, want)
 }
 
 /// Each case of a table holds.
-pub(crate) fn each_holds<S: Subject>(
-    rt: &impl Abort,
-    alloc: Global,
-    table: &str,
-) -> Result<(), Fail> {
+pub(crate) fn each_holds<S: Subject>(rt: &impl Abort, alloc: Global, table: &str) {
     for line in table.lines() {
-        assert!(rt; case_holds::<S>(alloc, line)?, "{line}");
+        assert!(rt; case_holds::<S>(rt, alloc, line), "{line}");
     }
-    Ok(())
 }
 
 /// The words of a line, cut at its spaces.
-fn words_of(alloc: Global, line: &str) -> Result<Vec<String>, Fail> {
+fn words_of(rt: &impl Abort, alloc: Global, line: &str) -> Vec<String> {
     let mut words = Vec::new(alloc);
     for word in line.split(' ') {
-        words.push(String::from_str(alloc, word)?)?;
+        words
+            .push(String::from_str(alloc, word).expect(rt, "memory"))
+            .expect(rt, "memory");
     }
-    Ok(words)
+    words
 }
 
 /// Names with bytes.
-fn files_of(alloc: Global, texts: &[(&str, &str)]) -> Result<Vec<(Text, Vec<u8>)>, Fail> {
+fn files_of(rt: &impl Abort, alloc: Global, texts: &[(&str, &str)]) -> Vec<(Text, Vec<u8>)> {
     let mut files = Vec::new(alloc);
     for (name, text) in texts {
-        let bytes = Vec::from_slice(alloc, text.as_bytes())?;
-        files.push((Text::of(alloc, name)?, bytes))?;
+        let bytes = Vec::from_slice(alloc, text.as_bytes()).expect(rt, "memory");
+        files
+            .push((Text::of(alloc, name).expect(rt, "memory"), bytes))
+            .expect(rt, "memory");
     }
-    Ok(files)
+    files
 }
 
 /// What a run reads and writes, and who is told what changes.
@@ -64,32 +62,38 @@ pub(crate) struct Outside {
 }
 
 /// These files, of which the listed loads fail, no input, room for what is printed, and no watchers.
-fn failing_files(alloc: Global, texts: &[(&str, &str)], fails: Vec<u64>) -> Result<Outside, Fail> {
-    Ok(Outside {
-        files: MemFiles::new(files_of(alloc, texts)?, fails),
+fn failing_files(
+    rt: &impl Abort,
+    alloc: Global,
+    texts: &[(&str, &str)],
+    fails: Vec<u64>,
+) -> Outside {
+    Outside {
+        files: MemFiles::new(files_of(rt, alloc, texts), fails),
         input: MemSource::new(Vec::new(alloc), 1, Vec::new(alloc)),
-        out: MemSink::new(alloc, 65536, Vec::new(alloc))?,
+        out: MemSink::new(alloc, 65536, Vec::new(alloc)).expect(rt, "memory"),
         crowd: Crowd::new(Vec::new(alloc)),
-    })
+    }
 }
 
 /// These files, none of whose loads fail.
-pub(crate) fn outside_of(alloc: Global, texts: &[(&str, &str)]) -> Result<Outside, Fail> {
-    failing_files(alloc, texts, Vec::new(alloc))
+pub(crate) fn outside_of(rt: &impl Abort, alloc: Global, texts: &[(&str, &str)]) -> Outside {
+    failing_files(rt, alloc, texts, Vec::new(alloc))
 }
 
 /// Runs the words of a line at a door.
 pub(crate) fn run_at<D: Door>(
+    rt: &impl Abort,
     alloc: Global,
     outside: &mut Outside,
     door: &mut D,
     line: &str,
-) -> Result<Status, Fail>
+) -> Status
     requires fresh { D.at_port door.old ≡ None }
     requires out { D.is_out door.old ≡ false }
 {
-    let words = words_of(alloc, line)?;
-    Ok(run(
+    let words = words_of(rt, alloc, line);
+    run(
         alloc,
         &words,
         &mut outside.files,
@@ -97,28 +101,38 @@ pub(crate) fn run_at<D: Door>(
         &mut outside.out,
         door,
         &mut outside.crowd,
-    ))
+    )
 }
 
 /// Runs the words of a line at a door to which no connection comes.
-pub(crate) fn run_alone(alloc: Global, outside: &mut Outside, line: &str) -> Result<Status, Fail> {
-    let mut door = MemDoor::new(alloc, Vec::new(alloc), Vec::new(alloc))?;
-    run_at(alloc, outside, &mut door, line)
+pub(crate) fn run_alone(
+    rt: &impl Abort,
+    alloc: Global,
+    outside: &mut Outside,
+    line: &str,
+) -> Status {
+    let mut door = MemDoor::new(alloc, Vec::new(alloc), Vec::new(alloc)).expect(rt, "memory");
+    run_at(rt, alloc, outside, &mut door, line)
 }
 
 /// What was printed, with `¶` for each line feed, behind the exit code.
-pub(crate) fn told(alloc: Global, status: Status, out: &MemSink) -> Result<String, Fail> {
-    let printed = std::str::from_utf8(out.bytes())?;
-    let printed = printed.replace(alloc, "\n", "¶")?;
+pub(crate) fn told(rt: &impl Abort, alloc: Global, status: Status, out: &MemSink) -> String {
+    let printed = std::str::from_utf8(out.bytes()).expect(rt, "a text");
+    let printed = printed.replace(alloc, "\n", "¶").expect(rt, "memory");
     let code = status.code();
-    Ok(format!(in alloc; "{code} {printed}")?)
+    format!(in alloc; "{code} {printed}").expect(rt, "memory")
 }
 
 /// What a run over these files prints, with `¶` for each line feed, behind its exit code.
-pub(crate) fn run_told(alloc: Global, texts: &[(&str, &str)], line: &str) -> Result<String, Fail> {
-    let mut outside = outside_of(alloc, texts)?;
-    let status = run_alone(alloc, &mut outside, line)?;
-    told(alloc, status, &outside.out)
+pub(crate) fn run_told(
+    rt: &impl Abort,
+    alloc: Global,
+    texts: &[(&str, &str)],
+    line: &str,
+) -> String {
+    let mut outside = outside_of(rt, alloc, texts);
+    let status = run_alone(rt, alloc, &mut outside, line);
+    told(rt, alloc, status, &outside.out)
 }
 
 const TWO: &str = "A 0 0 0 1000 -10,-5,10,5\nB 400 0 0 1000 -10,-5,10,5\n";
@@ -171,32 +185,32 @@ A 0 0 0 1000 -10,-5,10,5¶B 400 0 0 1000 -10,-5,10,5¶||slots u => 5 file fault�
 A 0 0 0 1000 -10,-5,10,5¶B 400 0 0 1000 -10,-5,10,5¶||check t u => 5 file fault¶"#;
 
 /// The text with a line feed for each `¶` and a carriage return for each `↵`.
-fn text_of(alloc: Global, written: &str) -> Result<String, Fail> {
-    let lines = written.replace(alloc, "¶", "\n")?;
-    Ok(lines.replace(alloc, "↵", "\r")?)
+fn text_of(rt: &impl Abort, alloc: Global, written: &str) -> String {
+    let lines = written.replace(alloc, "¶", "\n").expect(rt, "memory");
+    lines.replace(alloc, "↵", "\r").expect(rt, "memory")
 }
 
 /// What the run of a table, of slots and of words prints, behind its exit code.
-fn table_told(alloc: Global, table: &str, slots: &str, line: &str) -> Result<String, Fail> {
-    let table = text_of(alloc, table)?;
-    let slots = text_of(alloc, slots)?;
+fn table_told(rt: &impl Abort, alloc: Global, table: &str, slots: &str, line: &str) -> String {
+    let table = text_of(rt, alloc, table);
+    let slots = text_of(rt, alloc, slots);
     let files = [("t", table.as_str()), ("s", slots.as_str())];
-    run_told(alloc, &files, line)
+    run_told(rt, alloc, &files, line)
 }
 
 /// Runs over tables.
 struct OverTable;
 
 impl Subject for OverTable {
-    fn holds(alloc: Global, input: &str, want: &str) -> Result<bool, Fail> {
-        let (table, rest) = input.split_once("|").ok_or("a table")?;
-        let (slots, line) = rest.split_once("|").ok_or("slots")?;
-        Ok(table_told(alloc, table, slots, line)?.as_str() == want)
+    fn holds(rt: &impl Abort, alloc: Global, input: &str, want: &str) -> bool {
+        let (table, rest) = input.split_once("|").expect(rt, "a table");
+        let (slots, line) = rest.split_once("|").expect(rt, "slots");
+        table_told(rt, alloc, table, slots, line).as_str() == want
     }
 }
 
 #[test]
-fn tables_are_shown_chosen_and_judged(rt: HostRuntime) -> Result<(), Fail> {
+fn tables_are_shown_chosen_and_judged(rt: HostRuntime) {
     each_holds::<OverTable>(&rt, rt.alloc(), TABLE_RUNS)
 }
 
@@ -239,103 +253,114 @@ zoom";
 const USAGE: &str = "2 usage: maplabel show, slots, check, view, pipe, serve or gen¶";
 
 #[test]
-fn words_of_no_form_are_told_so(rt: HostRuntime) -> Result<(), Fail> {
+fn words_of_no_form_are_told_so(rt: HostRuntime) {
     for line in NO_FORMS.lines() {
-        let told = run_told(rt.alloc(), &[("t", TWO)], line)?;
+        let told = run_told(&rt, rt.alloc(), &[("t", TWO)], line);
         assert!(rt; told.as_str() == USAGE, "{line}");
     }
-    Ok(())
 }
 
 /// A table of one label more than a table may hold.
-fn long_table(alloc: Global) -> Result<String, Fail> {
+fn long_table(rt: &impl Abort, alloc: Global) -> String {
     let mut table = String::new(alloc);
     for i in 0..32_769 {
-        table.push_str(format!(in alloc; "L{i} 0 0 0 1 0,0,1,1\n")?.as_str())?;
+        table
+            .push_str(
+                format!(in alloc; "L{i} 0 0 0 1 0,0,1,1\n")
+                    .expect(rt, "memory")
+                    .as_str(),
+            )
+            .expect(rt, "memory");
     }
-    Ok(table)
+    table
 }
 
 #[test]
-fn a_table_is_full(rt: HostRuntime) -> Result<(), Fail> {
-    let table = long_table(rt.alloc())?;
-    let told = run_told(rt.alloc(), &[("t", table.as_str())], "slots t")?;
+fn a_table_is_full(rt: HostRuntime) {
+    let table = long_table(&rt, rt.alloc());
+    let told = run_told(&rt, rt.alloc(), &[("t", table.as_str())], "slots t");
     assert!(rt; told.as_str() == "4 table refused: 3 Full¶");
-    Ok(())
 }
 
 /// A file `t` of so many line feeds.
-fn line_feeds(alloc: Global, count: usize) -> Result<Vec<(Text, Vec<u8>)>, Fail> {
+fn line_feeds(rt: &impl Abort, alloc: Global, count: usize) -> Vec<(Text, Vec<u8>)> {
     let mut files = Vec::new(alloc);
-    let bytes = vec![in alloc; b'\n'; count]?;
-    files.push((Text::of(alloc, "t")?, bytes))?;
-    Ok(files)
+    let bytes = vec![in alloc; b'\n'; count].expect(rt, "memory");
+    files
+        .push((Text::of(alloc, "t").expect(rt, "memory"), bytes))
+        .expect(rt, "memory");
+    files
 }
 
 /// The status of a run over a file of so many line feeds.
-fn status_over(alloc: Global, count: usize, line: &str) -> Result<Status, Fail> {
-    let mut outside = outside_of(alloc, &[])?;
-    outside.files = MemFiles::new(line_feeds(alloc, count)?, Vec::new(alloc));
-    run_alone(alloc, &mut outside, line)
+fn status_over(rt: &impl Abort, alloc: Global, count: usize, line: &str) -> Status {
+    let mut outside = outside_of(rt, alloc, &[]);
+    outside.files = MemFiles::new(line_feeds(rt, alloc, count), Vec::new(alloc));
+    run_alone(rt, alloc, &mut outside, line)
 }
 
 /// The status of a run over an empty file, whose first load fails.
-fn status_of_fault(alloc: Global, line: &str) -> Result<Status, Fail> {
-    let mut outside = failing_files(alloc, &[("t", "")], vec![in alloc; 0]?)?;
-    run_alone(alloc, &mut outside, line)
+fn status_of_fault(rt: &impl Abort, alloc: Global, line: &str) -> Status {
+    let mut outside = failing_files(
+        rt,
+        alloc,
+        &[("t", "")],
+        vec![in alloc; 0].expect(rt, "memory"),
+    );
+    run_alone(rt, alloc, &mut outside, line)
 }
 
 #[test]
-fn files_that_fail_or_are_too_long(rt: HostRuntime) -> Result<(), Fail> {
+fn files_that_fail_or_are_too_long(rt: HostRuntime) {
     for line in ["slots t", "view t m 0 0 1024 768 1"] {
         assert!(rt;
-            status_over(rt.alloc(), 67_108_865, line)? == Status::TooLong,
+            status_over(&rt, rt.alloc(), 67_108_865, line) == Status::TooLong,
             "{line}"
         );
         assert!(rt;
-            status_of_fault(rt.alloc(), line)? == Status::FileFault,
+            status_of_fault(&rt, rt.alloc(), line) == Status::FileFault,
             "{line}"
         );
     }
-    Ok(())
 }
 
 /// Whether a run to a sink whose first call fails ends so, with nothing printed.
-fn is_unprinted(alloc: Global, line: &str) -> Result<bool, Fail> {
-    let mut outside = outside_of(alloc, &[("t", TWO)])?;
-    outside.out = MemSink::new(alloc, 1000, vec![in alloc; 0]?)?;
-    let status = run_alone(alloc, &mut outside, line)?;
-    Ok(status == Status::WriteFault && outside.out.bytes().is_empty())
+fn is_unprinted(rt: &impl Abort, alloc: Global, line: &str) -> bool {
+    let mut outside = outside_of(rt, alloc, &[("t", TWO)]);
+    outside.out = MemSink::new(alloc, 1000, vec![in alloc; 0].expect(rt, "memory")).expect(
+        rt, "memory",
+    );
+    let status = run_alone(rt, alloc, &mut outside, line);
+    status == Status::WriteFault && outside.out.bytes().is_empty()
 }
 
 #[test]
-fn sinks_that_fail(rt: HostRuntime) -> Result<(), Fail> {
+fn sinks_that_fail(rt: HostRuntime) {
     for line in ["show t 0 0 1024 768 1/1", "slots t", "slots u", "none"] {
-        assert!(rt; is_unprinted(rt.alloc(), line)?, "{line}");
+        assert!(rt; is_unprinted(&rt, rt.alloc(), line), "{line}");
     }
-    Ok(())
 }
 
 /// The status of `slots t` over files and a sink.
 fn slots_status<F: Files, K: Sink>(
+    rt: &impl Abort,
     alloc: Global,
     files: &mut F,
     out: &mut K,
-) -> Result<Status, Fail> {
-    let words = words_of(alloc, "slots t")?;
+) -> Status {
+    let words = words_of(rt, alloc, "slots t");
     let mut input = MemSource::new(Vec::new(alloc), 1, Vec::new(alloc));
-    let mut door = MemDoor::new(alloc, Vec::new(alloc), Vec::new(alloc))?;
+    let mut door = MemDoor::new(alloc, Vec::new(alloc), Vec::new(alloc)).expect(rt, "memory");
     let mut crowd: Crowd<MemWatcher> = Crowd::new(Vec::new(alloc));
-    Ok(run(alloc, &words, files, &mut input, out, &mut door, &mut crowd))
+    run(alloc, &words, files, &mut input, out, &mut door, &mut crowd)
 }
 
 #[test]
-fn calm_things_do_not_fail(rt: HostRuntime) -> Result<(), Fail> {
-    let mut files = CalmFiles::new(files_of(rt.alloc(), &[("t", TWO)])?);
+fn calm_things_do_not_fail(rt: HostRuntime) {
+    let mut files = CalmFiles::new(files_of(&rt, rt.alloc(), &[("t", TWO)]));
     let mut out = CalmSink::new();
-    assert!(rt; slots_status(rt.alloc(), &mut files, &mut out)? == Status::Done);
+    assert!(rt; slots_status(&rt, rt.alloc(), &mut files, &mut out) == Status::Done);
     assert!(rt; out.count() == 20);
-    Ok(())
 }
 
 /// Each status with its code.

@@ -2,7 +2,7 @@
 use crate::tests::{Subject, each_holds, run_told};
 use ml_style::SAMPLE;
 use std::alloc::Global;
-use std::test::Fail;
+use std::process::Abort;
 
 /// Three cities, 400 units from one another.
 const ABC: &str =
@@ -26,28 +26,32 @@ const WEST_ZOOMS: &str =
 min = "0" |  | -1000 0 2 2 => 0 A%20b (0/1,1000/1)¶peak 1 after 0/1¶"#;
 
 /// The style with another minimum and a further line in the class of cities.
-fn style_with(alloc: Global, min: &str, line: &str) -> Result<String, Fail> {
-    let style = SAMPLE.replace(alloc, "min = \"0\"", min)?;
-    let city = format!(in alloc; "value = \"city\"\n{line}")?;
-    Ok(style.replace(alloc, "value = \"city\"", city.as_str())?)
+fn style_with(rt: &impl Abort, alloc: Global, min: &str, line: &str) -> String {
+    let style = SAMPLE
+        .replace(alloc, "min = \"0\"", min)
+        .expect(rt, "memory");
+    let city = format!(in alloc; "value = \"city\"\n{line}").expect(rt, "memory");
+    style
+        .replace(alloc, "value = \"city\"", city.as_str())
+        .expect(rt, "memory")
 }
 
 /// What is printed of the map of this name for a case, behind the exit code.
-fn zoom_told(alloc: Global, map: &str, input: &str) -> Result<String, Fail> {
-    let (min, rest) = input.split_once(" | ").ok_or("a minimum")?;
-    let (line, words) = rest.split_once(" | ").ok_or("a line")?;
-    let style = style_with(alloc, min, line)?;
-    let words = format!(in alloc; "zoom s {map} {words}")?;
+fn zoom_told(rt: &impl Abort, alloc: Global, map: &str, input: &str) -> String {
+    let (min, rest) = input.split_once(" | ").expect(rt, "a minimum");
+    let (line, words) = rest.split_once(" | ").expect(rt, "a line");
+    let style = style_with(rt, alloc, min, line);
+    let words = format!(in alloc; "zoom s {map} {words}").expect(rt, "memory");
     let files = [("s", style.as_str()), ("abc", ABC), ("west", WEST)];
-    run_told(alloc, &files, words.as_str())
+    run_told(rt, alloc, &files, words.as_str())
 }
 
 /// Timelines of three cities.
 struct OfThree;
 
 impl Subject for OfThree {
-    fn holds(alloc: Global, input: &str, want: &str) -> Result<bool, Fail> {
-        Ok(zoom_told(alloc, "abc", input)?.as_str() == want)
+    fn holds(rt: &impl Abort, alloc: Global, input: &str, want: &str) -> bool {
+        zoom_told(rt, alloc, "abc", input).as_str() == want
     }
 }
 
@@ -55,13 +59,13 @@ impl Subject for OfThree {
 struct OfWest;
 
 impl Subject for OfWest {
-    fn holds(alloc: Global, input: &str, want: &str) -> Result<bool, Fail> {
-        Ok(zoom_told(alloc, "west", input)?.as_str() == want)
+    fn holds(rt: &impl Abort, alloc: Global, input: &str, want: &str) -> bool {
+        zoom_told(rt, alloc, "west", input).as_str() == want
     }
 }
 
 #[test]
-fn timelines_are_printed(rt: HostRuntime) -> Result<(), Fail> {
-    each_holds::<OfThree>(&rt, rt.alloc(), ABC_ZOOMS)?;
+fn timelines_are_printed(rt: HostRuntime) {
+    each_holds::<OfThree>(&rt, rt.alloc(), ABC_ZOOMS);
     each_holds::<OfWest>(&rt, rt.alloc(), WEST_ZOOMS)
 }
