@@ -19,7 +19,7 @@ use Rattle.ml_grid.specs.Entry.{Entry, AreEntriesOf}
 use Rattle.ml_grid.specs.Found.{IsNumberOf, IsInHull, IsSeen, Appends}
 use Rattle.ml_grid.specs.Column.{IsAmongFrom}
 use Rattle.ml_grid.specs.Near.{IsNear}
-use Rattle.ml_store.specs.Rows.{HaveOwnNumbers}
+use Rattle.ml_store.specs.Rows.{HaveOwnNumbers, IsLive}
 use Rattle.ml_store.specs.Search.{IsFoundIn, IsNumberWith, Gathers, AreOverlapping, AreNearNumbers}
 use Rattle.ml_store.specs.Store.{IsIndex, IsEntryIn, AreWithin}
 use Rattle.ml_store.specs.declared.row.Row.{Row}
@@ -74,6 +74,13 @@ module _ (rows : List Row) (entries : List Entry) (kept : IsIndex IsEntryIn rows
       let f = whole r.label (All-contains (λ (s : Row). IsWithin o s.label) rows r within there) over in
       let e = entry_of (cell_of cells.band f.x f.y) r.slot.until r.number in
       (found r.number).1 (e, (kept e).1 (r, there, record { in_cell = f.kept; its_end = refl; its_number = refl }), refl, ((refl, f.among), lasts))
+
+  -- each number that is found in cells is a row's
+  pub found_live : (cells : Cells) (scale : Ratio) (numbers : List ℕ) → ((n : ℕ) → Contains numbers n ↔ IsNumberOf (IsAmongFrom cells scale) entries n) → (n : ℕ) → Contains numbers n → IsLive rows n
+  found_live cells scale numbers found n there =
+      let h = (found n).0 there in
+      let some = (kept h.0).0 h.1 in
+      (some.0, some.1, sym some.2.its_number ∙ h.2)
 
   pub found_near : (a : Label) (k : ℕ) (before after : List ℕ) → Appends (IsInHull a k) entries before after → Gathers (IsNumberWith (λ r. IsFoundIn a r.label k) rows) before after
   found_near a k before after app n = (

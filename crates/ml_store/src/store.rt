@@ -5,7 +5,7 @@ ghost use Rattle.ml_cone.specs.Choice.{IsEnd, ActiveUntil};
 ghost use Rattle.ml_cone.specs.Shown.{IsInView};
 ghost use Rattle.ml_grid.specs.Count.{entry_count};
 ghost use Rattle.ml_store.specs.Pairs.{pair_count};
-ghost use Rattle.ml_store.specs.Rows.{numbers_in, labels_in, IsFresh, HasId, HaveOwnNumbers, IsNumberOf};
+ghost use Rattle.ml_store.specs.Rows.{numbers_in, labels_in, IsLive, IsFresh, HasId, HaveOwnNumbers, IsNumberOf};
 ghost use Rattle.ml_store.specs.Search.{IsFoundIn, IsNumberWith, Gathers, AreOverlapping, AreNearNumbers};
 ghost use Rattle.ml_grid.specs.Entry.{IsFree, Adds, Drops, AreEntriesOf};
 ghost use Rattle.ml_store.specs.Store.{IsStored, AreWithin, IsIndex, IsEntryIn, IsPairIn, Pair};
@@ -169,7 +169,8 @@ fn find_overlapping(
     requires band { band ≤ 27 }
     requires kept { IsIndex IsEntryIn rows.now.rows grid.now.entries }
     requires within { AreWithin outline.now rows.now.rows }
-    ensures { IfOk result (AreOverlapping rows.now.rows label.now band scale.now) }
+    ensures whole { IfOk result (AreOverlapping rows.now.rows label.now band scale.now) }
+    ensures live { IfOk result (λ numbers. (n : ℕ) → Contains numbers n → IsLive rows.now.rows n) }
 {
     grid.in_cells(alloc, &outline.around(label, band), scale)
 }
@@ -347,8 +348,8 @@ impl Store {
         find_near(&self.table, &self.grid, label, band, out)
     }
 
-    /// Numbers, among them those of all labels that the label overlaps in the band, which is at most 27, and
-    /// that are active up to the scale at least; in whatever order and however often.
+    /// Numbers of live labels, among them those of all that the label overlaps in the band, which is at most
+    /// 27, and that are active up to the scale at least; in whatever order and however often.
     ///
     /// # Errors
     /// Want of memory.
@@ -360,7 +361,8 @@ impl Store {
         scale: &Ratio,
     ) -> Result<Seq<u32>, AllocError>
         requires { band ≤ 27 }
-        ensures { IfOk result (AreOverlapping self.now.rows label.now band scale.now) }
+        ensures whole { IfOk result (AreOverlapping self.now.rows label.now band scale.now) }
+        ensures live { IfOk result (λ numbers. (n : ℕ) → Contains numbers n → IsLive self.now.rows n) }
     {
         find_overlapping(
             alloc,

@@ -1,4 +1,7 @@
 use Rattle.ml_store.proofs.store.Store.overlapping.Goals as goal
 
-pub returns : goal.returns
-returns c = rw (← c.self.view_is) c.find_overlapping.ensures
+pub returns-clause-whole : goal.returns-clause-whole
+returns-clause-whole c = rw (← c.self.view_is) c.find_overlapping.ensures.whole
+
+pub returns-clause-live : goal.returns-clause-live
+returns-clause-live c = rw (← c.self.view_is) c.find_overlapping.ensures.live
