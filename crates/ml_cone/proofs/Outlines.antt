@@ -111,6 +111,13 @@ column_about x y l r m t from to first last k j s below own other h0 h1 h2 h3 me
 abbrev pub about : Label → BoxPx → ℕ → ℕ → Cells
 about a area k j = record { band = j; x0 = column_of a.x area.l k j; y0 = column_of a.y area.b k j; x1 = column_of a.x area.r k j; y1 = column_of a.y area.t k j }
 
+-- what begins in a band has begun in each band above
+pub begins_more : (num den k m : ℕ) → k ≤ m → num < 2 ^ (k + 1) * den → num < 2 ^ (m + 1) * den
+begins_more num den k m le h =
+    let p : 2 ^ (k + 1) ≤ 2 ^ (m + 1) = pow-le-pow_right (omega arith) (omega arith) in
+    let q = mul-le (2 ^ (k + 1)) den (2 ^ (m + 1)) den p (omega arith) in
+    omega arith
+
 -- a label that begins in a band up to j and is overlapped in band k, from j on, is kept in band j
 meets_lower : (o : Outline) (a b : Label) (k j : ℕ) → o.low ≤ j → j ≤ k → IsWithin o b → OverlapIn a b k → MeetsBand j (value_of b.min) (value_of b.max)
 meets_lower o a b k j from upto within over = record {
@@ -130,10 +137,10 @@ meets_lower o a b k j from upto within over = record {
       omega arith;
 }
 
--- the label is kept in a cell of the area about one that it is overlapped by
-pub kept_about : (o : Outline) (a b : Label) (k j : ℕ) → o.low ≤ j → j ≤ k → IsWithin o b → OverlapIn a b k → IsKeptAmong (about a (area_of (reach_of a) o.reach) k j) b
+-- the label is kept in a cell of the area about one that overlaps it in a band from j to m
+pub kept_about : (o : Outline) (a b : Label) (k m j : ℕ) → o.low ≤ j → j ≤ k → k ≤ m → IsWithin o b → OverlapIn a b k → IsKeptAmong (about a (area_of (reach_of a) o.reach) m j) b
 unfolding Overlap BoxesOverlap hull_of
-kept_about o a b k j from upto within over =
+kept_about o a b k m j from upto under within over =
     let any = over.over in
     let p = any.1 in
     let other = any.4 in
@@ -147,8 +154,9 @@ kept_about o a b k j from upto within over =
     let ea = reach_extent a in
     let eb = reach_extent b in
     let s : Fraction = over.scale in
-    let xs = column_about a.x b.x wide_p.l wide_p.r wide_q.l wide_q.r (reach_of a).l (reach_of a).r o.reach.l o.reach.r k j s over.in_band.below ea.wide o.extent.wide hp.l hp.r hq.l hq.r boxes.0 in
-    let ys = column_about a.y b.y wide_p.b wide_p.t wide_q.b wide_q.t (reach_of a).b (reach_of a).t o.reach.b o.reach.t k j s over.in_band.below ea.high o.extent.high hp.b hp.t hq.b hq.t boxes.1 in
+    let below = begins_more s.num s.den k m under over.in_band.below in
+    let xs = column_about a.x b.x wide_p.l wide_p.r wide_q.l wide_q.r (reach_of a).l (reach_of a).r o.reach.l o.reach.r m j s below ea.wide o.extent.wide hp.l hp.r hq.l hq.r boxes.0 in
+    let ys = column_about a.y b.y wide_p.b wide_p.t wide_q.b wide_q.t (reach_of a).b (reach_of a).t o.reach.b o.reach.t m j s below ea.high o.extent.high hp.b hp.t hq.b hq.t boxes.1 in
     let hx = anchor_column b.x (reach_of b).l (reach_of b).r j eb.wide in
     let hy = anchor_column b.y (reach_of b).b (reach_of b).t j eb.high in
     let few = over.low in
@@ -183,13 +191,6 @@ pub wide_area : (a p : BoxPx) → IsExtent a → IsExtent p → (area_of a p).l 
 wide_area a p h k =
     let a0 = h.wide.left in let a1 = h.wide.right in let p0 = k.wide.left in let p1 = k.wide.right in
     omega (arith, ints)
-
--- what begins in a band has begun in each band above
-pub begins_more : (num den k m : ℕ) → k ≤ m → num < 2 ^ (k + 1) * den → num < 2 ^ (m + 1) * den
-begins_more num den k m le h =
-    let p : 2 ^ (k + 1) ≤ 2 ^ (m + 1) = pow-le-pow_right (omega arith) (omega arith) in
-    let q = mul-le (2 ^ (k + 1)) den (2 ^ (m + 1)) den p (omega arith) in
-    omega arith
 
 -- a side that is narrow enough to go n bands down takes few cells of a band that is no further down
 pub finer_few : (w : ℤ) (n k j : ℕ) → k ≤ j + n → (w *ℤ pos (2 ^ (n + 1))) ≤ℤ pos 2048 → (w *ℤ pos (2 ^ (k + 1))) ≤ℤ pos (3 * cell_side j)

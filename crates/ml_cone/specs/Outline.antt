@@ -45,6 +45,10 @@ pub record IsKeptAmong (cells : Cells) (a : Label) : Type 0 where
   pub among : IsAmongCells cells x y
   pub kept : IsInCell a cells.band x y
 
+-- in one of the cells each label within the outline is kept that the label overlaps in any of the bands from k to m
+abbrev pub HoldOverlapped : Outline → Label → ℕ → ℕ → Cells → Type 0
+HoldOverlapped o label k m cells = (a : Label) (n : ℕ) → IsWithin o a → k ≤ n → n ≤ m → OverlapIn label a n → IsKeptAmong cells a
+
 -- a band up to band k, and not below `low`, of whose cells a side takes four columns at most that has so many pixels at the upper end of band k
 pub record IsFiner (low : ℕ) (width : ℤ) (k j : ℕ) : Type 0 where
   pub from : low ≤ j

@@ -88,7 +88,7 @@ fn width_of(area: &BoxPx) -> i32
 }
 
 impl Outline {
-    ghost use Rattle.ml_cone.specs.Outline.{OverlapIn, IsWithin, IsKeptAmong, IsFiner};
+    ghost use Rattle.ml_cone.specs.Outline.{OverlapIn, IsWithin, IsKeptAmong, IsFiner, HoldOverlapped};
 
     /// The outline of no labels.
     pub fn none() -> Outline
@@ -138,6 +138,23 @@ impl Outline {
         match self.finer(width_of(&area), band) {
             Some(finer) => cells_about(label, &area, band, finer),
             None => hull(label, band),
+        }
+    }
+
+    /// Cells in which each label within the outline is kept that the label overlaps in any of the bands
+    /// from `band` to `upto`: at most four columns of them, of one band up to `band`. None where labels
+    /// reach too far, or begin too late, for cells of such a band.
+    pub fn across(&self, label: &Label, band: u8, upto: u8) -> Option<Cells>
+        requires { upto ≤ 27 }
+        ensures few { IfSome result (λ cells. AreFew cells.x0 cells.x1) }
+        ensures whole { IfSome result (HoldOverlapped self.now label.now band upto) }
+    {
+        let area = meeting_area(&extent(label), &self.reach);
+        let finer = self.finer(width_of(&area), upto)?;
+        if finer <= band {
+            Some(cells_about(label, &area, upto, finer))
+        } else {
+            None
         }
     }
 }
