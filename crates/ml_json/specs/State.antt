@@ -1,8 +1,8 @@
 -- The machine's state that the reader's stands for, and what a step of the reader says of the machine's. No public clause speaks of it.
-use Rattle.std.specs.Prelude.{◌≡◌, ℕ, ◌≤◌, List, [], ◌∷◌, Option, Some, None, Result, Ok, Err, string_bytes}
+use Rattle.std.specs.Prelude.{◌≡◌, ℕ, ◌≤◌, List, [], ◌∷◌, Bool, true, false, Option, Some, None, Result, Ok, Err, string_bytes}
 use Rattle.ml_json.specs.Tree.{Pairs, no_pairs, pair}
 use Rattle.ml_json.specs.Machine as m
-use Rattle.ml_json.specs.Machine.{State, open_of}
+use Rattle.ml_json.specs.Machine.{State, step, open_of}
 use Rattle.ml_json.specs.Partial.{tail_of, HoldsHigh}
 use Rattle.ml_json.specs.View.{tree_of, trees_view}
 use Rattle.ml_json.specs.declared.value.Json.{Json}
@@ -96,6 +96,11 @@ abbrev pub Steps : Result Mode Stop → List Frame → Option State → Type 0
 Steps (Ok n) after o = (o ≡ Some (mode_of n, frames_of after)) × (open_of (mode_of n) (frames_of after) ≤ 64)
 Steps (Err e) after o = Stops e o
 
+-- what a step of the reader in place says of it, of the mode behind it
+abbrev pub Advances : Result (Unit {0}) Stop → Mode → List Frame → Option State → Type 0
+Advances (Ok _) n after o = Steps (Ok n) after o
+Advances (Err e) n after o = Stops e o
+
 -- what a stop says where the frames play no part
 abbrev pub Turns : Stop → (List m.Frame → Option State) → Type 0
 Turns stops.Memory f = Unit {0}
@@ -106,6 +111,12 @@ Turns stops.Deep f = ⊥
 abbrev pub Goes : Result Mode Stop → (List m.Frame → Option State) → Type 0
 Goes (Ok n) f = (st : List m.Frame) → f st ≡ Some (mode_of n, st)
 Goes (Err e) f = Turns e f
+
+-- what a push in place says of the mode before and behind it: the machine's step, by which as many lists and maps stay open, or nothing was done
+abbrev pub Pushes : Result Bool Stop → Mode → Mode → ℕ → Type 0
+Pushes (Ok true) before after b = (st : List m.Frame) → (step (mode_of before) st b ≡ Some (mode_of after, st)) × (open_of (mode_of after) st ≡ open_of (mode_of before) st)
+Pushes (Ok false) before after b = after ≡ before
+Pushes (Err e) before after b = e ≡ stops.Memory
 
 -- what a unit makes of the text, and of the half that was held
 abbrev pub UnitGives : Option ℕ → List ℕ → ℕ → Option ℕ → List ℕ → Type 0

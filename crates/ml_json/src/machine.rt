@@ -1,14 +1,34 @@
 //! One step of the reader.
 ghost use Rattle.std.specs.Prelude.{◌≤◌};
 ghost use Rattle.ml_json.specs.Machine.{open_of, step as spec_step};
-ghost use Rattle.ml_json.specs.State.{Steps, mode_of, frames_of};
+ghost use Rattle.ml_json.specs.State.{Advances, Steps, mode_of, frames_of};
 
 use crate::brackets::{after_next, first_next, value_next};
 use crate::members::{colon_next, first_key_next, key_next};
 use crate::state::{Frame, Mode, Stop};
-use crate::strings::{bytes_next, escape_next, hex_next, text_next};
-use crate::tokens::{number_next, word_next};
+use crate::strings::{bytes_next, escape_next, hex_next, push_plain, text_next};
+use crate::tokens::{number_next, push_number_digit, word_next};
 use std::alloc::Global;
+use std::mem;
+
+/// Takes one byte more. Most bytes are characters of strings and digits: they are pushed in place,
+/// and the mode, which is large, is not moved. Behind an error the mode says nothing.
+pub fn advance(
+    alloc: Global,
+    frames: &mut Vec<Frame>,
+    mode: &mut Mode,
+    byte: u8,
+) -> Result<(), Stop>
+    requires { open_of (mode_of mode.old) (frames_of frames.old.items) ≤ 64 }
+    ensures { Advances result mode.new frames.new.items (spec_step (mode_of mode.old) (frames_of frames.old.items) byte) }
+{
+    if push_plain(mode, byte)? || push_number_digit(mode, byte)? {
+        return Ok(());
+    }
+    let before = mem::replace(mode, Mode::Begin);
+    *mode = step(alloc, frames, before, byte)?;
+    Ok(())
+}
 
 /// The mode behind one byte more, and the lists and maps that are open then.
 #[tactic(auto, using(crate::proofs::FrameLemmas::frames_length), unfolding(crate::specs::Machine::open_of, crate::specs::Machine::step))]

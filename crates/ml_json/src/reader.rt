@@ -8,7 +8,7 @@ ghost use Rattle.ml_json.specs.View.{tree_of};
 ghost use Rattle.ml_json.specs.Canonical.{IsWritable};
 ghost use Rattle.ml_json.specs.Answer.{Answers, IsText, IsNotJson, IsDeep, GivesTree};
 
-use crate::machine::step;
+use crate::machine::advance;
 use crate::state::{Frame, Mode, Stop};
 use crate::tokens::may_end;
 use crate::value::{Json, JsonFault};
@@ -59,8 +59,8 @@ fn scan(alloc: Global, bytes: &[u8]) -> Result<Json, JsonFault>
     let mut frames = Vec::new(alloc);
     let mut mode = Mode::Begin;
     for (at, byte) in bytes.iter().enumerate() {
-        match step(alloc, &mut frames, mode, *byte) {
-            Ok(next) => mode = next,
+        match advance(alloc, &mut frames, &mut mode, *byte) {
+            Ok(()) => {}
             Err(Stop::Memory) => return Err(JsonFault::Memory),
             Err(Stop::NotJson) => return Err(JsonFault::NotJson(at)),
             Err(Stop::Deep) => return Err(JsonFault::Deep(at)),

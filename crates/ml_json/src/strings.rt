@@ -2,7 +2,7 @@
 ghost use Rattle.std.specs.Prelude.{◌≡◌, string_bytes};
 ghost use Rattle.ml_json.specs.Strings.{hex_digit as spec_hex_digit};
 ghost use Rattle.ml_json.specs.Machine.{text_step, escape_step, hex_step, bytes_step};
-ghost use Rattle.ml_json.specs.State.{Goes, owner_of};
+ghost use Rattle.ml_json.specs.State.{Goes, Pushes, owner_of};
 ghost use Rattle.ml_json.specs.Partial.{tail_of};
 
 use crate::state::{Code, Mode, Open, Owner, Partial, Stop};
@@ -45,6 +45,27 @@ pub fn text_next(alloc: Global, open_text: Open, byte: u8) -> Result<Mode, Stop>
                 Ok(Mode::Bytes(open_text, Partial { tail, got }))
             }
         },
+    }
+}
+
+/// Pushes a byte that stands for itself, where a string is open and no half of a surrogate pair is
+/// held, and tells whether it did.
+#[tactic(auto, unfolding(crate::specs::Machine::open_of, crate::specs::Machine::step))]
+pub fn push_plain(mode: &mut Mode, byte: u8) -> Result<bool, Stop>
+    ensures { Pushes result mode.old mode.new byte }
+{
+    if byte < 32 || byte >= 128 || byte == b'"' || byte == b'\\' {
+        return Ok(false);
+    }
+    match mode {
+        Mode::Text(open_text) => {
+            if open_text.half.is_some() {
+                return Ok(false);
+            }
+            open_text.text.push(byte as char)?;
+            Ok(true)
+        }
+        _ => Ok(false),
     }
 }
 

@@ -1,7 +1,7 @@
 //! Steps within a number, `null`, `true` and `false`.
 ghost use Rattle.std.specs.Prelude.{◌≡◌, ◌≤◌, ◌<◌, length, option_map, string_bytes};
 ghost use Rattle.ml_json.specs.Machine.{go_on as spec_go_on, may_end as spec_may_end, word_step, number_step};
-ghost use Rattle.ml_json.specs.State.{Goes, Steps, part_of, word_of, frames_of};
+ghost use Rattle.ml_json.specs.State.{Goes, Pushes, Steps, part_of, word_of, frames_of};
 
 use crate::brackets::after_next;
 use crate::state::{Frame, Mode, Part, Stop, Word};
@@ -51,6 +51,23 @@ pub fn may_end(part: Part) -> bool
     match part {
         Part::Nought | Part::Whole | Part::Digits | Part::Power => true,
         Part::Minus | Part::Dot | Part::Letter | Part::Sign => false,
+    }
+}
+
+/// Pushes a digit behind another one of a number's whole part or decimals, and tells whether it did.
+#[tactic(auto, unfolding(crate::specs::Machine::open_of, crate::specs::Machine::step))]
+pub fn push_number_digit(mode: &mut Mode, byte: u8) -> Result<bool, Stop>
+    ensures { Pushes result mode.old mode.new byte }
+{
+    if byte < b'0' || byte > b'9' {
+        return Ok(false);
+    }
+    match mode {
+        Mode::Number(Part::Whole | Part::Digits, text) => {
+            text.push(byte as char)?;
+            Ok(true)
+        }
+        _ => Ok(false),
     }
 }
 

@@ -1,8 +1,10 @@
 -- What is known of a tree once it is a fork.
-use Rattle.std.proofs.Common.{◌≡◌, ℕ, ◌<◌, arith, ◌∷◌, ◌++◌, Option, Some, Box, subst, sym, ap, ◌∙◌}
+use Rattle.std.proofs.Common.{◌≡◌, ℕ, ◌<◌, arith, List, ◌∷◌, ◌++◌, Option, Some, None, Box, refl, subst, sym, ap, ◌∙◌}
+use Rattle.std.specs.Option.{IsSome}
 use Rattle.std.specs.declared.alloc.Global.{Global}
 use Rattle.std.specs.declared.cmp.Ordering.{Ordering}
-use Rattle.ml_spans.specs.Sound.{entries, entries_in, depth, IsSound, HoldsGreatest, IsGreatest}
+use Rattle.ml_spans.specs.Sound.{entries, entries_in, entries_of, depth, IsSound, IsSoundNode, HoldsGreatest, IsGreatest, IsOpened}
+use Rattle.ml_spans.specs.declared.entry.Entry.{Entry}
 use Rattle.ml_spans.specs.declared.shape.Content.{Content}
 use Rattle.ml_spans.specs.declared.shape.Node.{Node}
 use Rattle.ml_spans.specs.declared.shape.Tree.{Tree}
@@ -16,6 +18,10 @@ pub record IsTopOf {K E V : Type 0} (order : E → E → Ordering) (tree : Tree 
   pub left_sound : IsSound order left
   pub right_sound : IsSound order right
   pub greatest : IsGreatest order (entries tree) content.greatest
+
+holds_some : {K E V : Type 0} (order : E → E → Ordering) (all : List (Entry K E V)) (content : Option (Content K E V)) → HoldsGreatest order all content → IsSome content
+holds_some order all None h = absurd h
+holds_some order all (Some content) h = refl
 
 module _ {K E V : Type 0} {order : E → E → Ordering} where
   -- the content that the top node, seen as `node`, holds
@@ -36,3 +42,10 @@ module _ {K E V : Type 0} {order : E → E → Ordering} where
         right_sound = subst (λ (n : Node K E V). IsSound order n.right) (sym seen) sound.0.0.1;
         greatest = fork_greatest is seen holds s;
       }
+
+  in_place : (node : Node K E V) → IsSoundNode order node → IsOpened order node node node.left node.right
+  in_place node s = record { held = holds_some order (entries_of node) node.content s.1.1; parts = refl; deep = refl; near = s.1.0; greatest = s.1.1; left_sound = s.0.0; right_sound = s.0.1 }
+
+  -- the top node of a sound tree, seen as `node`, with its sides left in their places
+  pub opened_in_place : {tree : Tree K E V} {height : ℕ} {box : Box (Node K E V) Global} {node : Node K E V} → tree ≡ Fork height box → node ≡ box.value → IsSound order tree → IsOpened order box.value node node.left node.right
+  opened_in_place {tree} {height} {box} is seen s = subst (λ (n : Node K E V). IsOpened order box.value n n.left n.right) (sym seen) (in_place box.value (subst (IsSound order) is s).0)

@@ -1,5 +1,5 @@
 -- The greatest end of entries of which there is one more, or one less.
-use Rattle.std.proofs.Common.{◌≡◌, List, [], ◌∷◌, ◌++◌, ◌⊎◌, inl, inr, Option, Some, None, MatchOption, refl, sym, subst}
+use Rattle.std.proofs.Common.{◌≡◌, List, [], ◌∷◌, ◌++◌, inl, inr, Option, Some, None, MatchOption, refl, sym, subst}
 use Rattle.std.specs.Cmp.{IsTotalOrder, upto}
 use Rattle.std.specs.declared.cmp.Ordering.{Ordering}
 use Rattle.ml_spans.specs.Order.{IsUpTo, IsNew, IsAdded}
@@ -8,9 +8,6 @@ use Rattle.ml_spans.specs.declared.entry.Entry.{Entry}
 use Rattle.ml_spans.specs.declared.shape.Content.{Content}
 use Rattle.ml_spans.proofs.Lists.{all_weaker}
 use Rattle.ml_spans.proofs.Rising.{all_added, all_removed}
-
-pub held_best : {K E V : Type 0} {order : E → E → Ordering} {end best : E} {all : List (Entry K E V)} {c : Option (Content K E V)} {content : Content K E V} → c ≡ Some content → HoldsGreatestBut order end all c → IsUpTo order content.greatest best → IsUpTo order end best → (content.greatest ≡ best) ⊎ (end ≡ best) → IsGreatest order all best
-held_best {order = order} {end = end} {best = best} {all = all} is h = subst (HoldsGreatestBut order end all) is h best
 
 end_kept : {K E V : Type 0} (end : E) (x : Entry K E V) (before after : List (Entry K E V)) → HasEnd (before ++ after) end → HasEnd (before ++ (x ∷ after)) end
 end_kept end x [] after h = inr h

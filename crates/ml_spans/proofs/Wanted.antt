@@ -1,5 +1,5 @@
 -- Which entries a query asks for, by parts of the list, and what was appended of them.
-use Rattle.std.proofs.Common.{◌≡◌, Bool, true, false, ◌&&◌, List, [], ◌∷◌, ◌++◌, map, Option, Some, None, refl, sym, ap, ◌∙◌, subst, append_assoc, append-nil, cond}
+use Rattle.std.proofs.Common.{◌≡◌, ◌≢◌, Bool, true, false, ◌&&◌, List, [], ◌∷◌, ◌++◌, map, Option, Some, None, refl, sym, ap, ◌∙◌, subst, append_assoc, append-nil, cond}
 use Rattle.std.specs.List.{AllByRecursion, filter}
 use Rattle.std.specs.Ordering.{ordering_then, is_le, is_gt}
 use Rattle.std.specs.Cmp.{IsTotalOrder, upto, tied_itself}
@@ -58,6 +58,14 @@ map_both : {A B : Type 0} (f : A → B) (xs ys : List A) → map f (xs ++ ys) �
 map_both f [] ys = refl
 map_both f (x ∷ xs) ys = ap (λ l. f x ∷ l) (map_both f xs ys)
 
+some_left : {A : Type 0} (xs ys : List A) → xs ≢ [] → (xs ++ ys) ≢ []
+some_left [] ys f e = f refl
+some_left (x ∷ xs) ys f e = cc
+
+some_right : {A : Type 0} (xs ys : List A) → ys ≢ [] → (xs ++ ys) ≢ []
+some_right [] ys f e = f e
+some_right (x ∷ xs) ys f e = cc
+
 late_up : {E : Type 0} (ends : E → E → Ordering) → IsTotalOrder ends → (at : Option E) (end best : E) → IsUpTo ends end best → is_late ends at end ≡ true → is_late ends at best ≡ true
 late_up ends o None end best h e = refl
 late_up ends o (Some at) end best h e = le_from (ends at best) (upto o at end best (gt_from (ends at end) e) h)
@@ -110,6 +118,15 @@ module _ {K E V : Type 0} (keys : K → K → Ordering) (ends : E → E → Orde
         let none_right : wanted keys ends query right ≡ [] = wanted_none right (all_weaker (λ x. entry_order keys ends values m x ≡ Less) (λ x. is_wanted keys ends query x ≡ false) (λ x h. behind_range k x m (first_up _ _ h) behind) right (about s).above) in
         let none_middle : wanted keys ends query (m ∷ []) ≡ [] = wanted_none (m ∷ []) (behind_range k m m (ap is_gt (tied_itself k m.key)) behind, tt) in
         wanted_parts ∙ rw (none_right, none_middle) (append-nil _)
+
+    pub found_left : wanted keys ends query left ≢ [] → wanted keys ends query all ≢ []
+    found_left f = rw wanted_parts (some_left _ _ f)
+
+    -- where the middle key is in the range and its end late enough, something is wanted
+    pub found_middle : is_within keys query.from query.to m.key ≡ true → is_late ends query.at m.end ≡ true → wanted keys ends query all ≢ []
+    found_middle within late =
+        let own : wanted keys ends query (m ∷ []) ≡ m.value ∷ [] = rw (within, late) refl in
+        rw (wanted_parts, own) (some_right (wanted keys ends query left) (m.value ∷ wanted keys ends query right) (λ e. cc))
 
 pub part_none : {V : Type 0} (old due : List V) → IsPart old old due
 part_none old due = record { done = []; left = due; is = sym (append-nil old); both = refl }

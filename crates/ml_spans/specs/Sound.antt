@@ -1,4 +1,4 @@
-use Rattle.std.specs.Prelude.{◌≡◌, ℕ, ◌+◌, ◌≤◌, max, List, [], ◌∷◌, ◌++◌, Option, Some, None, ◌⊎◌}
+use Rattle.std.specs.Prelude.{◌≡◌, ℕ, ◌+◌, ◌≤◌, ◌^◌, max, List, [], ◌∷◌, ◌++◌, Option, Some, None, ◌⊎◌}
 use Rattle.std.specs.Option.{IsSome}
 use Rattle.std.specs.List.{AllByRecursion}
 use Rattle.std.specs.declared.cmp.Ordering.{Ordering}
@@ -104,3 +104,20 @@ pub record IsDepthOver (left right both : ℕ) : Type 0 where
   pub not_lower : max left right ≤ both
   pub one_higher : both ≤ max left right + 1
   pub settled : AreNear 1 left right → both ≡ max left right + 1
+
+-- a tree over two sound sides, of which one may be two levels higher
+abbrev pub IsTurnable : {K E V : Type 0} → (E → E → Ordering) → Tree K E V → Type 0
+IsTurnable order Leaf = ⊥
+IsTurnable order (Fork' height p content left right) =
+    (IsSound order left × IsSound order right) × (AreNear 2 (depth left) (depth right) × IsSome content × (depth left ≤ 2 ^ 10))
+
+-- the same, where one side gained an entry of this end
+abbrev pub IsGrown : {K E V : Type 0} → (E → E → Ordering) → E → Tree K E V → Type 0
+IsGrown order end Leaf = ⊥
+IsGrown order end (Fork' height p content left right) =
+    IsTurnable order (Fork' height p content left right) × HoldsGreatestBut order end (entries left ++ (entries_in content ++ entries right)) content
+
+-- the depth that the tree's two sides give once they are balanced anew
+abbrev pub IsDepthOfSides : {K E V : Type 0} → Tree K E V → ℕ → Type 0
+IsDepthOfSides Leaf deep = ⊥
+IsDepthOfSides (Fork' height p content left right) deep = IsDepthOver (depth left) (depth right) deep

@@ -58,17 +58,20 @@ pub(crate) fn keep_greatest<K: Key, E: Key, V: Key>(
 // Keeps in a node over two sides, which have one entry more, the greater of its greatest end and that entry's.
 pub(crate) fn raise<K: Key, E: Key, V: Key>(
     content: &mut Option<Content<K, E, V>>,
-    end: E,
+    end: &E,
     left: &Tree<K, E, V>,
     right: &Tree<K, E, V>,
 )
     requires held { IsSome content.old }
-    requires greatest { HoldsGreatestBut E.order end (entries left.now ++ (entries_in content.old ++ entries right.now)) content.old }
+    requires greatest { HoldsGreatestBut E.order end.now (entries left.now ++ (entries_in content.old ++ entries right.now)) content.old }
     ensures entry { entries_in content.new ≡ entries_in content.old }
     ensures greatest { HoldsGreatest E.order (entries left.now ++ (entries_in content.old ++ entries right.now)) content.new }
 {
     match content {
-        Some(content) => content.greatest = greater_of(content.greatest, end),
+        Some(content) => match content.greatest.compare(end) {
+            Ordering::Less => content.greatest = *end,
+            _ => {}
+        },
         None => unreachable!(),
     }
 }

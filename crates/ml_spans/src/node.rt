@@ -3,9 +3,9 @@ ghost use Rattle.std.specs.Prelude.{◌≡◌, ◌+◌, ◌≤◌, ◌^◌, max,
 ghost use Rattle.std.specs.Option.{IsSome};
 ghost use Rattle.std.specs.List.{AllByRecursion};
 ghost use Rattle.ml_spans.specs.Order.{entry_order};
-ghost use Rattle.ml_spans.specs.Sound.{entries, entries_in, depth, IsSound, IsSoundNode, AreNear, HoldsGreatest, HoldsGreatestBut, IsOpened};
+ghost use Rattle.ml_spans.specs.Sound.{entries, entries_in, depth, IsSound, IsSoundNode, AreNear, HoldsGreatest, IsOpened};
 
-use crate::ends::{keep_greatest, raise};
+use crate::ends::keep_greatest;
 use crate::entry::{Entry, compare_entries};
 use crate::key::Key;
 use crate::shape::{Node, Tree};
@@ -60,27 +60,6 @@ pub(crate) fn settled<K: Key, E: Key, V: Key>(
     ensures sound { IsSound E.order result }
 {
     keep_greatest(&mut node.content, &left, &right);
-    kept(node, left, right)
-}
-
-// The node over its two sides, which have one entry more, of this end.
-pub(crate) fn raised<K: Key, E: Key, V: Key>(
-    mut node: Box<Node<K, E, V>>,
-    left: Tree<K, E, V>,
-    right: Tree<K, E, V>,
-    end: E,
-) -> Tree<K, E, V>
-    requires held { IsSome node.value.content }
-    requires left { IsSound E.order left }
-    requires right { IsSound E.order right }
-    requires near { AreNear 1 (depth left) (depth right) }
-    requires low { depth left ≤ 2 ^ 16 }
-    requires greatest { HoldsGreatestBut E.order end (entries left ++ (entries_in node.value.content ++ entries right)) node.value.content }
-    ensures entries { entries result ≡ entries left ++ (entries_in node.value.content ++ entries right) }
-    ensures depth { depth result ≡ max (depth left) (depth right) + 1 }
-    ensures sound { IsSound E.order result }
-{
-    raise(&mut node.content, end, &left, &right);
     kept(node, left, right)
 }
 

@@ -1,5 +1,5 @@
 //! The values of the entries in a range of keys, in order.
-ghost use Rattle.std.specs.Prelude.{◌≡◌, ℕ, ◌+◌, ◌≤◌, ◌^◌, ◌++◌, ◌∷◌, [], true, Some, OnOk, OnErr};
+ghost use Rattle.std.specs.Prelude.{◌≡◌, ◌≢◌, ℕ, ◌+◌, ◌≤◌, ◌^◌, ◌++◌, ◌∷◌, [], true, Some, OnOk, OnErr, MatchBool};
 ghost use Rattle.std.specs.Ordering.{MatchOrdering, is_le};
 ghost use Rattle.std.specs.Option.{IsSome};
 ghost use Rattle.ml_spans.specs.Order.{entry_order, IsRising};
@@ -94,6 +94,30 @@ pub(crate) fn collect<K: Key, E: Key, V: Key>(
                     keep(content, query, out)?;
                     collect(&node.right, query, out)
                 }
+            }
+        }
+    }
+}
+
+// Whether the query asks for any of a tree's entries.
+pub(crate) fn has_wanted<K: Key, E: Key, V: Key>(tree: &Tree<K, E, V>, query: &Query<K, E>) -> bool
+    requires sound { IsSound E.order tree.now }
+    requires rising { IsRising (entry_order K.order E.order V.order) (entries tree.now) }
+    ensures { MatchBool result (wanted K.order E.order query.now (entries tree.now) ≢ []) (wanted K.order E.order query.now (entries tree.now) ≡ []) }
+{
+    match tree {
+        Tree::Leaf => false,
+        Tree::Fork(_, node) => {
+            let node = node.as_ref();
+            let content = content_of(node);
+            if !is_reached(query, &content.greatest) {
+                return false;
+            }
+            match side_of(query, &content.entry.key) {
+                Ordering::Less => has_wanted(&node.right, query),
+                Ordering::Greater => has_wanted(&node.left, query),
+                Ordering::Equal if is_reached(query, &content.entry.end) => true,
+                Ordering::Equal => has_wanted(&node.left, query) || has_wanted(&node.right, query),
             }
         }
     }

@@ -1,5 +1,5 @@
 //! The index: a balanced tree of entries, and spare nodes for those to come.
-ghost use Rattle.std.specs.Prelude.{◌≡◌, ℕ, ◌+◌, ◌*◌, ◌^◌, ◌<◌, ◌≤◌, ◌++◌, ◌↔◌, [], length, vec_len, vec_capacity, OnOk, OnErr, MatchBool, IsTrue, Contains, if◌then◌else◌, max};
+ghost use Rattle.std.specs.Prelude.{◌≡◌, ◌≢◌, ℕ, ◌+◌, ◌*◌, ◌^◌, ◌<◌, ◌≤◌, ◌++◌, ◌↔◌, [], length, vec_len, vec_capacity, OnOk, OnErr, MatchBool, IsTrue, Contains, if◌then◌else◌, max};
 ghost use Rattle.ml_spans.specs.Order.{entry_order, IsRising, IsAdded};
 ghost use Rattle.ml_spans.specs.Search.{is_in_range, is_stabbed, values_where, IsPart};
 ghost use Rattle.ml_spans.specs.Spans.{entry_of};
@@ -10,7 +10,7 @@ use crate::key::Key;
 use crate::node::height_of;
 use crate::query::Query;
 use crate::removal::take;
-use crate::search::collect;
+use crate::search::{collect, has_wanted};
 use crate::shape::{Node, Tree};
 use ml_ratio::Seq;
 use std::alloc::{AllocError, Global};
@@ -109,8 +109,7 @@ impl<K: Key, E: Key, V: Key> SpanTree<K, E, V> {
         let Some(node) = self.spares.pop() else {
             unreachable!()
         };
-        let root = mem::replace(&mut self.root, Tree::Leaf);
-        self.root = put(root, node, &entry);
+        put(&mut self.root, node, &entry);
         self.count += 1;
     }
 
@@ -160,6 +159,22 @@ impl<K: Key, E: Key, V: Key> SpanTree<K, E, V> {
             at: Some(*at),
         };
         collect(&self.root, &query, out)
+    }
+
+    /// Whether an entry has a key in the closed range and an end of at least `at`: whether
+    /// [`SpanTree::stab`] would give anything. Parts of the tree without such an end are passed over,
+    /// and it stops at the first one found.
+    pub fn is_stabbed(&self, from: &K, to: &K, at: &E) -> bool
+        ensures { IsTrue result
+            ↔ (values_where (is_stabbed K.order E.order from.now to.now at.now) self.now.entries ≢ []) }
+    {
+        let at = Some(*at);
+        let query = Query {
+            from: *from,
+            to: *to,
+            at,
+        };
+        has_wanted(&self.root, &query)
     }
 
     /// Appends the values of the entries with a key in the closed range, in the order of the entries.

@@ -21,7 +21,7 @@ pub loop-at-preserved : goal.loop-at-preserved
 loop-at-preserved c =
     let h = c.in-Ok.ensures in
     record {
-      reached = reached_more c.args.bytes.now c.loop-at.at (mode_of c.loop-at.mode, frames_of c.loop-at.frames.items) (mode_of c.in-Ok.next, frames_of c.step.new.frames.items) c.loop-at-test.true c.loop-at.invariant.reached h.0 h.1;
+      reached = reached_more c.args.bytes.now c.loop-at.at (mode_of c.loop-at.mode, frames_of c.loop-at.frames.items) (mode_of c.advance.new.mode, frames_of c.advance.new.frames.items) c.loop-at-test.true c.loop-at.invariant.reached h.0 h.1;
       shallow = h.1;
     }
 

@@ -7,8 +7,8 @@ use Rattle.ml_spans.proofs.span_tree.SpanTree.insert.Goals as goal
 pub put-requires-clause-new : goal.put-requires-clause-new
 put-requires-clause-new g c =
     let exact = entry_exact g.met.K.Key.exact g.met.E.Key.exact g.met.V.Key.exact in
-    rw c.replace-root.ensures.value (new_from_absent _ exact _ _ (rw (← c.self.view_is) at c.requires.new))
+    new_from_absent _ exact _ _ (rw (← c.self.view_is) at c.requires.new)
 
 pub put-requires-clause-low : goal.put-requires-clause-low
 put-requires-clause-low g c =
-    rw c.replace-root.ensures.value (low_from_count g.E.Key.order _ _ c.self.invariant.sound c.self.invariant.counted (omega arith))
+    low_from_count g.E.Key.order _ _ c.self.invariant.sound c.self.invariant.counted (omega arith)
