@@ -1,5 +1,5 @@
 -- The numbers that a search finds.
-use Rattle.std.proofs.Common.{◌≡◌, sym, refl, ℕ, ◌+◌, ◌≤◌, arith, Bool, true, false, List, ◌++◌, subst, inl, inr}
+use Rattle.std.proofs.Common.{◌≡◌, ◌≢◌, sym, refl, ℕ, ◌+◌, ◌<◌, ◌≤◌, arith, Bool, true, false, List, [], ◌∷◌, ◌++◌, subst, inl, inr}
 use Rattle.std.specs.Prelude.{Contains, ◌⊎◌, ◌↔◌, ◌&&◌, OnOk, Result, Ok, Err, ℤ, pos, ◌+ℤ◌, ◌≤ℤ◌}
 use Rattle.std.specs.Ordering.{is_le, nat_cmp}
 use Rattle.std.proofs.lemmas.Bool.{false≢true}
@@ -16,7 +16,7 @@ use Rattle.ml_grid.specs.Column.{IsInColumn, IsInColumnFrom, IsAmongFrom}
 use Rattle.ml_grid.proofs.Partial.{IsAmongFirst, IsAmongFirstFrom}
 use Rattle.ml_grid.specs.Count.{span_of}
 use Rattle.ml_grid.specs.Entry.{Entry}
-use Rattle.ml_grid.specs.Found.{IsNumberOf, Finds, IsAmong}
+use Rattle.ml_grid.specs.Found.{IsNumberOf, HasEntry, Finds, IsAmong}
 use Rattle.ml_grid.proofs.Columns.{in_column, of_column}
 
 -- ---- numbers that come in, as sets
@@ -54,6 +54,14 @@ Picks p entries =
     ((e : Entry) → Contains entries e → p e ≡ true → Contains (values_where p entries) e.value)
     × ((n : ℕ) → Contains (values_where p entries) n → (e : Entry) × Contains entries e × (p e ≡ true) × (e.value ≡ n))
 
+-- a list that is not empty has something in it, and an empty one has nothing
+first_of : (ns : List ℕ) → ns ≢ [] → (n : ℕ) × Contains ns n
+first_of [] some = absurd (some refl)
+first_of (n ∷ ns) some = (n, (0, omega arith, refl))
+
+lacks_all : (n : ℕ) → ¬ (Contains [] n)
+lacks_all n h = let lt : h.0 < 0 = h.1 in omega arith
+
 -- what a search appends
 pub finds_picked : (p : Entry → Bool) (P : Entry → Type 0) (entries : List Entry) (a b : List ℕ) → Picks p entries → ((e : Entry) → P e ↔ (p e ≡ true)) → b ≡ a ++ values_where p entries → Finds P entries a b
 finds_picked p P entries a b picks r is n = (
@@ -66,6 +74,13 @@ finds_picked p P entries a b picks r is n = (
     | inr some ↦ Contains-append_right a (values_where p entries) n
         (subst (λ (m : ℕ). Contains (values_where p entries) m) some.2 (picks.0 some.0 some.1 ((r some.0).0 some.3)))
   ]),
+)
+
+-- whether a search gives anything
+pub some_picked : (p : Entry → Bool) (P : Entry → Type 0) (entries : List Entry) → Picks p entries → ((e : Entry) → P e ↔ (p e ≡ true)) → (values_where p entries ≢ []) ↔ HasEntry P entries
+some_picked p P entries picks r = (
+  λ some. let n = first_of (values_where p entries) some in let found = picks.1 n.0 n.1 in (found.0, found.1, (r found.0).1 found.2),
+  λ has none. lacks_all has.0.value (subst (λ (ns : List ℕ). Contains ns has.0.value) none (picks.0 has.0 has.1 ((r has.0).0 has.2))),
 )
 
 pub on_ok : {E : Type 0} (r : Result (Unit {0}) E) (P Q : Type 0) → (P → Q) → OnOk r P → OnOk r Q
@@ -137,3 +152,24 @@ first_more_from cells s i e = (
 
 pub first_all_from : (cells : Cells) (s : Ratio) (n : ℕ) → cells.x0 ≤ℤ cells.x1 → n ≡ span_of cells.x0 cells.x1 → (e : Entry) → IsAmongFrom cells s e ↔ IsAmongFirstFrom cells s n e
 first_all_from cells s n h is e = (λ k. ((first_all cells n h is e).0 k.0, k.1), λ k. ((first_all cells n h is e).1 k.0, k.1))
+
+-- ---- whether there is one at all
+
+first_upto : (cells : Cells) (s : Ratio) (i n : ℕ) (e : Entry) → i ≤ n → IsAmongFirstFrom cells s i e → IsAmongFirstFrom cells s n e
+first_upto cells s i n e le h = let a = h.0.2 in ((h.0.0, h.0.1, omega (arith, ints), h.0.3, h.0.4), h.1)
+
+pub lacks_none : (cells : Cells) (s : Ratio) (entries : List Entry) → ¬ (HasEntry (IsAmongFirstFrom cells s 0) entries)
+lacks_none cells s entries h = none_first_from cells s h.0 h.2
+
+pub lacks_more : (cells : Cells) (s : Ratio) (i : ℕ) (entries : List Entry) → ¬ (HasEntry (IsAmongFirstFrom cells s i) entries) → ¬ (HasEntry (IsInColumnFrom cells (cells.x0 +ℤ pos i) s) entries) → ¬ (HasEntry (IsAmongFirstFrom cells s (i + 1)) entries)
+lacks_more cells s i entries before here h =
+    elim ((first_more_from cells s i h.0).0 h.2) [
+      | inl one ↦ before (h.0, h.1, one)
+      | inr one ↦ here (h.0, h.1, one)
+    ]
+
+pub has_here : (cells : Cells) (s : Ratio) (i n : ℕ) (entries : List Entry) → i < n → cells.x0 ≤ℤ cells.x1 → n ≡ span_of cells.x0 cells.x1 → HasEntry (IsInColumnFrom cells (cells.x0 +ℤ pos i) s) entries → HasEntry (IsAmongFrom cells s) entries
+has_here cells s i n entries low some is h = (h.0, h.1, (first_all_from cells s n some is h.0).1 (first_upto cells s (i + 1) n h.0 (omega arith) ((first_more_from cells s i h.0).1 (inr h.2))))
+
+pub lacks_all_from : (cells : Cells) (s : Ratio) (n : ℕ) (entries : List Entry) → cells.x0 ≤ℤ cells.x1 → n ≡ span_of cells.x0 cells.x1 → ¬ (HasEntry (IsAmongFirstFrom cells s n) entries) → ¬ (HasEntry (IsAmongFrom cells s) entries)
+lacks_all_from cells s n entries some is none h = none (h.0, h.1, (first_all_from cells s n some is h.0).0 h.2)

@@ -10,6 +10,10 @@ use Rattle.ml_cone.specs.declared.label.Label.{Label}
 use Rattle.ml_cone.specs.declared.view.View.{View}
 use Rattle.ml_grid.specs.Entry.{Entry}
 
+-- some entry has the property
+abbrev pub HasEntry : (Entry → Type 0) → List Entry → Type 0
+HasEntry P entries = (e : Entry) × Contains entries e × P e
+
 -- some entry with the property has the number
 abbrev pub IsNumberOf : (Entry → Type 0) → List Entry → ℕ → Type 0
 IsNumberOf P entries n = (e : Entry) × Contains entries e × (e.value ≡ n) × P e

@@ -23,10 +23,14 @@ impl Key for Cell {
 
     ghost exact = { cell_exact };
 
+    // A search compares cells at each step down, mostly of other bands: what decides is looked at alone.
     fn compare(&self, other: &Cell) -> Ordering {
-        self.band
-            .cmp(&other.band)
-            .then(self.x.cmp(&other.x))
-            .then(self.y.cmp(&other.y))
+        match self.band.cmp(&other.band) {
+            Ordering::Equal => match self.x.cmp(&other.x) {
+                Ordering::Equal => self.y.cmp(&other.y),
+                unequal => unequal,
+            },
+            unequal => unequal,
+        }
     }
 }

@@ -1,9 +1,9 @@
 //! The numbers that are found in cells.
-ghost use Rattle.std.specs.Prelude.{ℕ, ◌≡◌, ◌+◌, ◌<◌, ◌++◌, ◌≤ℤ◌, ◌↔◌, OnOk, OnErr, Contains, take, length};
+ghost use Rattle.std.specs.Prelude.{ℕ, ◌≡◌, ◌+◌, ◌<◌, ◌++◌, ◌≤ℤ◌, ◌↔◌, IsTrue, OnOk, OnErr, Contains, take, length};
 ghost use Rattle.std.specs.List.Sorted.{IsStrictlyIncreasing};
 ghost use Rattle.ml_ratio.specs.Fraction.{value_of, IsAtMost};
 ghost use Rattle.ml_grid.specs.Count.{AreUpToNine};
-ghost use Rattle.ml_grid.specs.Found.{Finds, IsAmong};
+ghost use Rattle.ml_grid.specs.Found.{Finds, HasEntry, IsAmong};
 ghost use Rattle.ml_grid.specs.Column.{IsInColumn, IsInColumnFrom, IsAmongFrom};
 
 use crate::bands::span_len;
@@ -59,6 +59,25 @@ fn find_column_from(
     tree.stab(&from, &to, scale, found)
 }
 
+// Whether an entry in the cells of the column ends at the scale at the earliest.
+fn has_in_column(tree: &Tree, x: i64, cells: &Cells, scale: &Ratio) -> bool
+    ensures { IsTrue result ↔ HasEntry (IsInColumnFrom cells.now x scale.now) tree.now.entries }
+{
+    let from = Cell {
+        band: cells.band,
+        x,
+        y: cells.y0,
+    };
+    let to = Cell {
+        band: cells.band,
+        x,
+        y: cells.y1,
+    };
+    value_found::<Cell, Ratio, u32>();
+    found_value::<Cell, Ratio, u32>();
+    tree.is_stabbed(&from, &to, scale)
+}
+
 /// Finds the numbers in the cells.
 pub fn find_cells(tree: &Tree, cells: &Cells, found: &mut Seq<u32>) -> Result<(), AllocError>
     requires few { AreUpToNine cells.now.x0 cells.now.x1 }
@@ -84,6 +103,19 @@ pub fn find_cells_from(
         find_column_from(tree, cells.x0 + i as i64, cells, scale, found)?;
     }
     Ok(())
+}
+
+/// Whether an entry in the cells ends at the scale at the earliest.
+pub fn has_in_cells(tree: &Tree, cells: &Cells, scale: &Ratio) -> bool
+    requires few { AreUpToNine cells.now.x0 cells.now.x1 }
+    ensures { IsTrue result ↔ HasEntry (IsAmongFrom cells.now scale.now) tree.now.entries }
+{
+    for i in 0..span_len(cells.x0, cells.x1) {
+        if has_in_column(tree, cells.x0 + i as i64, cells, scale) {
+            return true;
+        }
+    }
+    false
 }
 
 /// The same numbers, ascending and each once.

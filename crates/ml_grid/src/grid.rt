@@ -1,16 +1,16 @@
 //! The grid.
-ghost use Rattle.std.specs.Prelude.{ℕ, ◌≡◌, ◌+◌, ◌≤◌, ◌↔◌, [], max, length, Contains, OnOk, OnErr, IfOk};
+ghost use Rattle.std.specs.Prelude.{ℕ, ◌≡◌, ◌+◌, ◌≤◌, ◌↔◌, [], max, length, Contains, IsTrue, OnOk, OnErr, IfOk};
 ghost use Rattle.std.specs.Ordering.{nat_cmp};
 ghost use Rattle.ml_ratio.specs.RatioOrder.{ratio_cmp};
 ghost use Rattle.ml_spans.specs.Order.{entry_order, IsRising};
 ghost use Rattle.ml_grid.specs.Cell.{cell_cmp};
 ghost use Rattle.ml_grid.specs.Count.{AreUpToNine, entry_count};
 ghost use Rattle.ml_grid.specs.Entry.{IsEntryOf, Adds, Drops, IsFree, AreEntriesOf};
-ghost use Rattle.ml_grid.specs.Found.{Appends, AppendsFirst, IsInHull, IsNumberOf, IsSeen};
+ghost use Rattle.ml_grid.specs.Found.{Appends, AppendsFirst, IsInHull, IsNumberOf, HasEntry, IsSeen};
 ghost use Rattle.ml_grid.specs.Column.{IsAmongFrom};
 
 use crate::bands::entries_of;
-use crate::find::{append, append_counted, ascending, find_cells, find_cells_from};
+use crate::find::{append, append_counted, ascending, find_cells, find_cells_from, has_in_cells};
 use crate::keep::{Tree, add_all, drop_all};
 use crate::window::window_cells;
 use ml_cone::{Cells, Label, Span, View, hull};
@@ -138,6 +138,15 @@ impl Grid {
         let mut found = Seq::new(alloc);
         find_cells_from(&self.tree, cells, scale, &mut found)?;
         Ok(found)
+    }
+
+    /// Whether there is an entry in one of the cells, of which there are nine columns at most, with an end of
+    /// at least the scale. It ends at the first one.
+    pub fn has_in_cells(&self, cells: &Cells, scale: &Ratio) -> bool
+        requires few { AreUpToNine cells.now.x0 cells.now.x1 }
+        ensures { IsTrue result ↔ HasEntry (IsAmongFrom cells.now scale.now) self.now.entries }
+    {
+        has_in_cells(&self.tree, cells, scale)
     }
 
     /// Appends the numbers that have an entry in the band of the view's scale, in a cell whose square meets

@@ -18,8 +18,8 @@ use Rattle.ml_conflict.specs.Begin.{SetsNoneUpTo}
 use Rattle.ml_store.specs.Rows.{labels_in, slots_in}
 use Rattle.ml_store.specs.declared.row.Row.{Row}
 use Rattle.ml_repair.specs.declared.edit.Moved.{Moved}
-use Rattle.ml_repair.specs.Roster.{OverlapsAt}
-use Rattle.ml_repair.specs.Repair.{Stands, IsBoundBy, ReachesBand, AreReaching, Counts, AreEnough, AreSifted, present_slots}
+use Rattle.ml_repair.specs.Roster.{OverlapsAt, NoneBefore}
+use Rattle.ml_repair.specs.Repair.{Stands, IsBoundBy, ReachesBand, AreReaching, IsClear, Counts, AreEnough, AreSifted, present_slots}
 
 -- ---- bands
 
@@ -68,6 +68,22 @@ reaching_lasts k scale u first num den reaches =
       | inl some ↦ let n = num some in let h = reaches some in rw (n, den) (omega arith)
       | inr none ↦ let n = first (omega arith) in rw (n, den) (omega arith)
     ]
+
+-- a range that reaches into a band reaches into those before it
+reaches_before : (k n : ℕ) (u : Fraction) → k ≤ n → ReachesBand n u → ReachesBand k u
+reaches_before k n u le reaches some =
+    let p : 2 ^ k ≤ 2 ^ n = pow-le-pow_right (omega arith) le in
+    let q = mul-le (2 ^ k) u.den (2 ^ n) u.den p (omega arith) in
+    let h = reaches (omega arith) in
+    omega arith
+
+-- where no label's own slot lasts so long, none reaches into one of the bands
+pub clear_bands : (rows : List Row) (moved : List Moved) (low : Label) (i k m : ℕ) (scale : Ratio) → (m ≡ k + 3) ⊎ (27 ≤ m) → NoneBefore rows low i k m scale →
+    ((p : ℕ) → ReachesBand k (ends (present_slots rows moved) p) → IsAtMost (value_of scale) (ends (slots_in rows) p)) → IsClear rows moved low i k (k + 3)
+clear_bands rows moved low i k m scale wide none lasts p n before from upto over reaches =
+    let few : n < 28 = (over.1 low).low in
+    let last : n ≤ m = elim wide [ inl e ↦ omega arith | inr h ↦ omega arith ] in
+    none p n before from last over (lasts p (reaches_before k n (ends (present_slots rows moved) p) from reaches))
 
 -- ---- places that are sifted
 
@@ -177,6 +193,17 @@ module _ (rows : List Row) (moved : List Moved) (low : Label) (at : ℕ) (comes 
       | inr here ↦
           let e : k ≡ band = omega arith in
           are.whole p (all.whole p (subst (λ (b : ℕ). OverlapsAt rows low b p) e f) (subst (λ (b : ℕ). ReachesBand b (ends (present_slots rows moved) p)) e r)) s
+    ];
+  }
+
+  -- bands in which there is nothing to gather
+  pub gathered_clear : (band : ℕ) (bound : Ratio) (places : List ℕ) → GatheredBelow rows moved low at comes i first band bound places → IsClear rows moved low i band (band + 3) → GatheredBelow rows moved low at comes i first (band + 4) bound places
+  gathered_clear band bound places so_far clear = record {
+    stand = so_far.stand;
+    bound_is = so_far.bound_is;
+    whole = λ p k s f r a b. elim (cases_lt k band) [
+      | inl less ↦ so_far.whole p k s f r a less
+      | inr here ↦ absurd (clear p k s.0 here (omega arith) f r)
     ];
   }
 

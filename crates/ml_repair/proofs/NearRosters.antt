@@ -13,13 +13,13 @@ use Rattle.ml_cone.specs.Outline.{OverlapIn}
 use Rattle.ml_cone.specs.declared.label.Label.{Label}
 use Rattle.ml_cone.specs.declared.slot.Slot.{Slot}
 use Rattle.ml_store.specs.Rows.{numbers_in, labels_in, slots_in, IsFresh, HaveOwnNumbers}
-use Rattle.ml_store.specs.Search.{IsFoundIn, IsNumberWith, Gathers, AreOverlapping}
+use Rattle.ml_store.specs.Search.{IsFoundIn, IsNumberWith, Gathers, AreOverlapping, NoneOverlaps}
 use Rattle.ml_store.specs.Table.{IsRowAt}
 use Rattle.ml_store.specs.declared.row.Row.{Row}
 use Rattle.ml_store.proofs.Fresh.{differ_inserted, differ_removed}
 use Rattle.ml_store.proofs.Lists.{added_remove, added_insert, added_has, all_longer, all_shorter, map_insert, map_remove}
 use Rattle.ml_store.proofs.Naming.{number_read}
-use Rattle.ml_repair.specs.Roster.{left_rows, joined_rows, AreNumbered, AreFound, AreOverlapped, PlacesCame}
+use Rattle.ml_repair.specs.Roster.{left_rows, joined_rows, AreNumbered, AreFound, AreOverlapped, NoneBefore, PlacesCame}
 use Rattle.ml_repair.proofs.Rosters.{joined_above, left_most}
 
 pub row_there : (rows : List Row) (j : ℕ) → j < length rows → (r : Row) × (r ≡ get_or rows j r)
@@ -124,6 +124,20 @@ overlapping_found come at gone rows a k scale numbers middle after in' le found 
             subst (λ (s : Slot). IsAtMost (value_of scale) (value_of s.until)) (slot_read all p r no_slot h.0 read) lasts,
           ));
     }
+
+-- where no label is to come before a place, those before it are among those that were there
+pub clear_before : (come : Option (Bor Row)) (at : ℕ) (gone : Option ℕ) (rows : List Row) (a : Label) (i k m : ℕ) (scale : Ratio) →
+    IfSome gone (λ g. g < length rows) → IfSome come (λ row. at ≤ length (left_rows gone rows)) → (IsSome come → i ≤ at) → NoneOverlaps rows a k m scale →
+    NoneBefore (joined_rows come at (left_rows gone rows)) a i k m scale
+clear_before come at gone rows a i k m scale in' le behind none p n before from upto over lasts =
+    let all : List Row = joined_rows come at (left_rows gone rows) in
+    elim (row_from come at gone rows p in' le over.0) [
+      | inl one ↦ (let h = behind one.0 in let e = one.1 in absurd (omega arith))
+      | inr some ↦
+          let r : Row = some.0 in
+          none r n some.1 from upto (subst (λ (b : Label). OverlapIn a b n) (label_read all p r r.label over.0 some.2) (over.1 r.label))
+          (subst (λ (s : Slot). IsAtMost (value_of scale) (value_of s.until)) (slot_read all p r no_slot over.0 some.2) lasts)
+    ]
 
 -- ---- places of numbers, a number at a time
 

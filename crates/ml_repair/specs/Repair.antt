@@ -48,6 +48,10 @@ pub record AreReaching (rows : List Row) (moved : List Moved) (low : Label) (k :
   pub within : All (λ p. p < length rows) places
   pub whole : (p : ℕ) → OverlapsAt rows low k p → ReachesBand k (ends (present_slots rows moved) p) → Contains places p
 
+-- of the labels before place i that the label overlaps in any of the bands from k to m none has a present active range that reaches into that band
+abbrev pub IsClear : List Row → List Moved → Label → ℕ → ℕ → ℕ → Type 0
+IsClear rows moved low i k m = (p n : ℕ) → p < i → k ≤ n → n ≤ m → OverlapsAt rows low n p → ¬ (ReachesBand n (ends (present_slots rows moved) p))
+
 -- a place counts: it is among the places, or its label sets no limit up to the bound
 abbrev pub Counts : List Row → List Moved → Label → Ratio → List ℕ → ℕ → Type 0
 Counts rows moved low bound places p =

@@ -46,6 +46,10 @@ pub record AreOverlapped (rows : List Row) (a : Label) (k : ℕ) (scale : Ratio)
   pub within : All (λ p. p < length rows) places
   pub whole : (p : ℕ) → OverlapsAt rows a k p → IsAtMost (value_of scale) (ends (slots_in rows) p) → Contains places p
 
+-- of the labels before place i that the label overlaps in any of the bands from k to m none has an own slot that ends at the scale or later
+abbrev pub NoneBefore : List Row → Label → ℕ → ℕ → ℕ → Ratio → Type 0
+NoneBefore rows a i k m scale = (p n : ℕ) → p < i → k ≤ n → n ≤ m → OverlapsAt rows a n p → ¬ (IsAtMost (value_of scale) (ends (slots_in rows) p))
+
 -- the places of the numbers came in, and nothing else changed
 abbrev pub PlacesCame : List Row → List ℕ → List ℕ → List ℕ → Type 0
 PlacesCame rows numbers before after = (p : ℕ) → Contains after p ↔ (Contains before p ⊎ ((n : ℕ) × Contains numbers n × IsRowAt rows n p))

@@ -1,12 +1,12 @@
 //! The rivals that may bound a label.
-ghost use Rattle.std.specs.Prelude.{ℕ, ◌≡◌, ◌^◌, ◌<◌, ◌≤◌, ◌↔◌, true, IsTrue, List, [], ◌∷◌, length, All, Contains, IfOk, slice_index_or};
+ghost use Rattle.std.specs.Prelude.{ℕ, ◌≡◌, ◌+◌, ◌^◌, ◌<◌, ◌≤◌, ◌↔◌, true, IsTrue, List, [], ◌∷◌, length, All, Contains, IfOk, slice_index_or};
 ghost use Rattle.std.specs.List.Sorted.{IsStrictlyIncreasing};
 ghost use Rattle.ml_ratio.specs.Fraction.{value_of, IsAtMost};
 ghost use Rattle.ml_cone.specs.Slots.{ends};
 ghost use Rattle.ml_cone.specs.declared.label.Label.{Label};
 ghost use Rattle.ml_store.specs.Rows.{slots_in};
 ghost use Rattle.ml_store.specs.declared.row.Row.{Row};
-ghost use Rattle.ml_repair.specs.Repair.{Stands, ReachesBand, AreReaching, AreEnough, AreSifted, present_slots};
+ghost use Rattle.ml_repair.specs.Repair.{Stands, ReachesBand, AreReaching, IsClear, AreEnough, AreSifted, present_slots};
 
 use crate::chosen::present_slot;
 use crate::moves::Moves;
@@ -75,6 +75,15 @@ fn search(
     roster.overlapping(alloc, low, band, &last_scale(moves, band))
 }
 
+// Whether no label before `i` that the label overlaps in any of the four bands from `band` on reaches into
+// that band.
+fn is_clear(roster: &Roster<'_>, moves: &Moves, low: &Label, i: usize, band: u8) -> bool
+    requires { band ≤ 27 }
+    ensures { IsTrue result → IsClear roster.now moves.now low.now i band (band + 3) }
+{
+    roster.is_clear(low, i, band, (band + 3).min(27), &last_scale(moves, band))
+}
+
 // A place comes in where it stands before `i` and its label sets a limit up to the bound; that limit is
 // the bound from then on.
 fn sift_one(
@@ -130,7 +139,7 @@ fn sift(
 
 /// Places before `i` that are enough for the slot of the label `low` at `i`. Bands are searched upwards
 /// from the label's minimum, up to that of the least limit found so far; a label that sets none up to
-/// there is passed over.
+/// there is passed over. Below the first band with a neighbour four bands are passed over at a time.
 ///
 /// # Errors
 /// Want of memory.
@@ -150,20 +159,17 @@ pub fn gather(
     let mut places = Seq::new(alloc);
     let mut bound = low.max();
     let mut band = low.min().band();
+    let mut apart = true;
     while band <= bound.band() && band < 28 {
-        let found = search(alloc, roster, moves, low, band)?;
-        bound = sift(
-            roster,
-            moves,
-            low,
-            at,
-            comes,
-            i,
-            found.as_slice(),
-            bound,
-            &mut places,
-        )?;
-        band += 1;
+        apart = apart && is_clear(roster, moves, low, i, band);
+        if apart {
+            band += 4;
+        } else {
+            let found = search(alloc, roster, moves, low, band)?;
+            let found = found.as_slice();
+            bound = sift(roster, moves, low, at, comes, i, found, bound, &mut places)?;
+            band += 1;
+        }
     }
     Ok(ascending(places))
 }

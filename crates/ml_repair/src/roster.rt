@@ -1,9 +1,9 @@
 //! The labels that an edit is planned over.
-ghost use Rattle.std.specs.Prelude.{ℕ, ◌≡◌, ◌+◌, ◌<◌, ◌≤◌, ◌⊎◌, ◌↔◌, List, length, insert, take, Contains, Option, Some, None, IsSome, IfSome, IfOk, MatchOption, HoldsAt, OnOk};
+ghost use Rattle.std.specs.Prelude.{ℕ, ◌≡◌, ◌+◌, ◌<◌, ◌≤◌, ◌⊎◌, ◌↔◌, List, length, insert, take, Contains, Option, Some, None, IsTrue, IsSome, IfSome, IfOk, MatchOption, HoldsAt, OnOk};
 ghost use Rattle.ml_store.specs.Rows.{IsFresh};
 ghost use Rattle.ml_store.specs.Search.{Gathers};
 ghost use Rattle.ml_store.specs.Table.{IsRowAt};
-ghost use Rattle.ml_repair.specs.Roster.{left_rows, joined_rows, AreNumbered, AreFound, AreOverlapped, PlacesCame, IsPlaceWithout};
+ghost use Rattle.ml_repair.specs.Roster.{left_rows, joined_rows, AreNumbered, AreFound, AreOverlapped, NoneBefore, PlacesCame, IsPlaceWithout};
 
 use ml_cone::Label;
 use ml_ratio::{Ratio, Seq};
@@ -301,5 +301,18 @@ impl<'a> Roster<'a> {
         push_places(self, numbers.as_slice(), &mut places)?;
         push_come(self.come, self.at, &mut places)?;
         Ok(places)
+    }
+
+    /// True only where of the labels before the place `before` that the label overlaps in any of the bands
+    /// from `band` to `upto`, which is at most 27, none has an own slot that ends at the scale or later. It
+    /// takes no memory. Of a label that is to come before that place it cannot tell, and is false.
+    pub fn is_clear(&self, label: &Label, before: usize, band: u8, upto: u8, scale: &Ratio) -> bool
+        requires { upto ≤ 27 }
+        ensures { IsTrue result → NoneBefore self.now label.now before band upto scale.now }
+    {
+        if self.come.is_some() && self.at < before {
+            return false;
+        }
+        self.store.is_clear(label, band, upto, scale)
     }
 }

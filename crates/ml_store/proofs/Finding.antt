@@ -9,18 +9,18 @@ use Rattle.ml_spans.specs.Spans.{entry_of}
 use Rattle.ml_cone.specs.Choice.{IsEnd, ActiveUntil}
 use Rattle.ml_cone.specs.Cell.{IsInCell}
 use Rattle.ml_cone.specs.Shown.{IsInView}
-use Rattle.ml_cone.specs.Outline.{OverlapIn, IsWithin, IsKeptAmong}
+use Rattle.ml_cone.specs.Outline.{OverlapIn, IsWithin, IsKeptAmong, HoldOverlapped}
 use Rattle.ml_cone.specs.declared.cells.Cells.{Cells}
 use Rattle.ml_cone.specs.declared.label.Label.{Label}
 use Rattle.ml_cone.specs.declared.outline.Outline.{Outline}
 use Rattle.ml_cone.specs.declared.view.View.{View}
 use Rattle.ml_grid.specs.Cell.{cell_of}
 use Rattle.ml_grid.specs.Entry.{Entry, AreEntriesOf}
-use Rattle.ml_grid.specs.Found.{IsNumberOf, IsInHull, IsSeen, Appends}
+use Rattle.ml_grid.specs.Found.{IsNumberOf, HasEntry, IsInHull, IsSeen, Appends}
 use Rattle.ml_grid.specs.Column.{IsAmongFrom}
 use Rattle.ml_grid.specs.Near.{IsNear}
 use Rattle.ml_store.specs.Rows.{HaveOwnNumbers, IsLive}
-use Rattle.ml_store.specs.Search.{IsFoundIn, IsNumberWith, Gathers, AreOverlapping, AreNearNumbers}
+use Rattle.ml_store.specs.Search.{IsFoundIn, IsNumberWith, Gathers, AreOverlapping, NoneOverlaps, AreNearNumbers}
 use Rattle.ml_store.specs.Store.{IsIndex, IsEntryIn, AreWithin}
 use Rattle.ml_store.specs.declared.row.Row.{Row}
 use Rattle.ml_store.proofs.Lists.{added_remove}
@@ -74,6 +74,13 @@ module _ (rows : List Row) (entries : List Entry) (kept : IsIndex IsEntryIn rows
       let f = whole r.label (All-contains (λ (s : Row). IsWithin o s.label) rows r within there) over in
       let e = entry_of (cell_of cells.band f.x f.y) r.slot.until r.number in
       (found r.number).1 (e, (kept e).1 (r, there, record { in_cell = f.kept; its_end = refl; its_number = refl }), refl, ((refl, f.among), lasts))
+
+  -- where no entry of such a cell lasts long enough, none of these labels does
+  pub clear_of : (o : Outline) → AreWithin o rows → (a : Label) (k m : ℕ) (scale : Ratio) (cells : Cells) → HoldOverlapped o a k m cells → ¬ (HasEntry (IsAmongFrom cells scale) entries) → NoneOverlaps rows a k m scale
+  clear_of o within a k m scale cells whole none r n there from upto over lasts =
+      let f = whole r.label n (All-contains (λ (s : Row). IsWithin o s.label) rows r within there) from upto over in
+      let e = entry_of (cell_of cells.band f.x f.y) r.slot.until r.number in
+      none (e, (kept e).1 (r, there, record { in_cell = f.kept; its_end = refl; its_number = refl }), ((refl, f.among), lasts))
 
   -- each number that is found in cells is a row's
   pub found_live : (cells : Cells) (scale : Ratio) (numbers : List ℕ) → ((n : ℕ) → Contains numbers n ↔ IsNumberOf (IsAmongFrom cells scale) entries n) → (n : ℕ) → Contains numbers n → IsLive rows n

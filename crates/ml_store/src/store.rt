@@ -1,12 +1,12 @@
 //! The live labels with the grid and the index of blockers, which always agree.
-ghost use Rattle.std.specs.Prelude.{ℕ, ◌≡◌, ◌+◌, ◌<◌, ◌≤◌, [], List, length, insert, remove, All, Contains, OnOk, IfOk, MatchOption, HoldsAt, ◌⊎◌, ◌↔◌};
+ghost use Rattle.std.specs.Prelude.{ℕ, ◌≡◌, ◌+◌, ◌<◌, ◌≤◌, [], List, length, insert, remove, All, Contains, IsTrue, OnOk, IfOk, MatchOption, HoldsAt, ◌⊎◌, ◌↔◌};
 ghost use Rattle.ml_ratio.specs.Fraction.{value_of};
 ghost use Rattle.ml_cone.specs.Choice.{IsEnd, ActiveUntil};
 ghost use Rattle.ml_cone.specs.Shown.{IsInView};
 ghost use Rattle.ml_grid.specs.Count.{entry_count};
 ghost use Rattle.ml_store.specs.Pairs.{pair_count};
 ghost use Rattle.ml_store.specs.Rows.{numbers_in, labels_in, IsLive, IsFresh, HasId, HaveOwnNumbers, IsNumberOf};
-ghost use Rattle.ml_store.specs.Search.{IsFoundIn, IsNumberWith, Gathers, AreOverlapping, AreNearNumbers};
+ghost use Rattle.ml_store.specs.Search.{IsFoundIn, IsNumberWith, Gathers, AreOverlapping, NoneOverlaps, AreNearNumbers};
 ghost use Rattle.ml_grid.specs.Entry.{IsFree, Adds, Drops, AreEntriesOf};
 ghost use Rattle.ml_store.specs.Store.{IsStored, AreWithin, IsIndex, IsEntryIn, IsPairIn, Pair};
 ghost use Rattle.ml_store.specs.Table.{IsRowAt, with_slot, slot_at};
@@ -173,6 +173,28 @@ fn find_overlapping(
     ensures live { IfOk result (λ numbers. (n : ℕ) → Contains numbers n → IsLive rows.now.rows n) }
 {
     grid.in_cells(alloc, &outline.around(label, band), scale)
+}
+
+// Whether no label that the label overlaps in any of the bands is active up to the scale. False also where
+// the labels cannot be searched for all these bands at once.
+fn is_clear(
+    rows: &Table,
+    grid: &Grid,
+    outline: &Outline,
+    label: &Label,
+    band: u8,
+    upto: u8,
+    scale: &Ratio,
+) -> bool
+    requires bands { upto ≤ 27 }
+    requires kept { IsIndex IsEntryIn rows.now.rows grid.now.entries }
+    requires within { AreWithin outline.now rows.now.rows }
+    ensures { IsTrue result → NoneOverlaps rows.now.rows label.now band upto scale.now }
+{
+    match outline.across(label, band, upto) {
+        Some(cells) => !grid.has_in_cells(&cells, scale),
+        None => false,
+    }
 }
 
 // The numbers of the labels near the view, each once.
@@ -371,6 +393,24 @@ impl Store {
             &self.outline,
             label,
             band,
+            scale,
+        )
+    }
+
+    /// True only where no label that the label overlaps in any of the bands from `band` to `upto`, which is at
+    /// most 27, is active up to the scale at least. It takes no memory, and one search for up to four bands of
+    /// labels that do not reach far; of other labels it cannot tell, and is false.
+    pub fn is_clear(&self, label: &Label, band: u8, upto: u8, scale: &Ratio) -> bool
+        requires { upto ≤ 27 }
+        ensures { IsTrue result → NoneOverlaps self.now.rows label.now band upto scale.now }
+    {
+        is_clear(
+            &self.table,
+            &self.grid,
+            &self.outline,
+            label,
+            band,
+            upto,
             scale,
         )
     }

@@ -1,7 +1,9 @@
-use Rattle.std.proofs.Common.{◌<◌, ◌≤◌, ◌⊎◌, inl, inr}
-use Rattle.ml_repair.proofs.Gathering.{gathered_none, gathered_more, gathered_enough}
+use Rattle.std.proofs.Common.{◌+◌, ◌<◌, ◌≤◌, ◌⊎◌, inl, inr, sym, ◌∙◌}
+use Rattle.std.proofs.lemmas.Bool.{false≢true}
+use Rattle.ml_repair.specs.Repair.{IsClear}
+use Rattle.ml_repair.proofs.Gathering.{gathered_none, gathered_more, gathered_clear, gathered_enough}
 use Rattle.ml_repair.proofs.gather.gather.Goals as goal
-use Rattle.ml_repair.proofs.gather.gather.Goals.{then-loop-band-test+else-band-lt28, else-loop-band-test}
+use Rattle.ml_repair.proofs.gather.gather.Goals.{then-apart, else-apart, then-loop-band-test+else-band-lt28, else-loop-band-test}
 
 pub loop-band-init : goal.loop-band-init
 loop-band-init c = (
@@ -11,12 +13,22 @@ loop-band-init c = (
 )
 
 pub sift-requires : goal.sift-requires
-sift-requires c = rw c.as_slice.ensures c.in_ok-found.ensures.within
+sift-requires c = rw c.as_slice-found.ensures c.in_ok-found.ensures.within
 
 pub loop-band-preserved : goal.loop-band-preserved
 loop-band-preserved c =
     let i = c.loop-band.invariant in
-    (i.0, i.1, gathered_more c.args.roster.now c.args.moves.now c.args.low.now c.args.at c.args.comes c.args.i i.0 c.loop-band.band c.loop-band.bound c.in_ok-bound.bound c.loop-band.places c.sift.new.out c.in_ok-found.found i.2 c.in_ok-found.ensures (rw c.as_slice.ensures at c.in_ok-bound.ensures))
+    (i.0, i.1, gathered_more c.args.roster.now c.args.moves.now c.args.low.now c.args.at c.args.comes c.args.i i.0 c.loop-band.band c.loop-band.bound c.in_ok-bound.bound c.loop-band.places c.sift.new.out c.in_ok-found.found i.2 c.in_ok-found.ensures (rw c.as_slice-found.ensures at c.in_ok-bound.ensures))
+
+pub loop-band-preserved-then-apart-2 : goal.loop-band-preserved-then-apart-2
+loop-band-preserved-then-apart-2 c =
+    let i = c.loop-band.invariant in
+    let clear : IsClear c.args.roster.now c.args.moves.now c.args.low.now c.args.i c.loop-band.band (c.loop-band.band + 3) =
+    elim c.if-apart.branch [
+      | then-apart w ↦ w.is_clear-apart.ensures (sym w.apart-is ∙ c.if-apart-2.true)
+      | else-apart w ↦ absurd (false≢true (sym w.if-apart.false ∙ sym w.apart-is ∙ c.if-apart-2.true))
+    ] in
+    (i.0, i.1, gathered_clear c.args.roster.now c.args.moves.now c.args.low.now c.args.at c.args.comes c.args.i i.0 c.loop-band.band c.loop-band.bound c.loop-band.places i.2 clear)
 
 pub returns-clause-enough : goal.returns-clause-enough
 returns-clause-enough c =
