@@ -4,7 +4,7 @@ use crate::cases::{
     is_rising, label_of, label_told, number, pieces_of, told_of_label, told_of_pair, view_of,
     view_told, word,
 };
-use ml_cone::{BoxPx, Label, Order, Span, active, meets, overlaps};
+use ml_cone::{BoxPx, Label, Order, Outline, Span, active, meets, overlaps};
 use ml_ratio::lines::parts_of;
 use ml_ratio::{Seq, Text};
 use std::alloc::Global;
@@ -355,4 +355,24 @@ impl OfLabel for Windows {
 #[test]
 fn a_label_that_touches_the_window_is_outside(rt: HostRuntime) {
     hold::<Windows>(&rt, rt.alloc())
+}
+
+/// The cells for four bands from 0 on about a label at (0, 0), among labels like it, if there are such.
+fn cells_across(rt: &impl Abort, alloc: Global, reach: &str) -> Option<(i64, i64, i64, i64)> {
+    let text = format!(in alloc; "0 0 0 1000 0 1 {reach}").expect(rt, "memory");
+    let label = good_label(rt, alloc, text.as_str());
+    let cells = Outline::none().with(&label).across(&label, 0, 3)?;
+    if cells.band != 0 {
+        panic!(rt; "cells of the first band");
+    }
+    Some((cells.x0, cells.y0, cells.x1, cells.y1))
+}
+
+// In band 3 a pixel is 16 units at most: two such labels overlap up to 320 units from one another.
+#[test]
+fn labels_that_do_not_reach_far_have_cells_for_four_bands(rt: HostRuntime) {
+    let near = cells_across(&rt, rt.alloc(), "-10,-5,10,5");
+    assert!(rt; near == Some((-1, -1, 0, 0)));
+    let far = cells_across(&rt, rt.alloc(), "-100,-5,100,5");
+    assert!(rt; far.is_none());
 }

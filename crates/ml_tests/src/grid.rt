@@ -183,7 +183,9 @@ fn near_told(rt: &impl Abort, alloc: Global, grid: &Grid, other: &Label, scale: 
         .in_cells(alloc, &hull(other, 1), &fraction(rt, scale))
         .expect(rt, "memory");
     let near = numbers.as_slice() == [7].as_slice();
-    format!(in alloc; "{near} {}", lasting.as_slice().contains(&7)).expect(rt, "memory")
+    let has = grid.has_in_cells(&hull(other, 1), &fraction(rt, scale));
+    let found = lasting.as_slice().contains(&7);
+    format!(in alloc; "{near} {found} {has}").expect(rt, "memory")
 }
 
 /// Labels that are near a label at (1000, 0), which ends at 1000, in band 1, and those that are not, with
@@ -192,9 +194,9 @@ struct Near;
 
 impl Table for Near {
     const LINES: &'static str = "\
-2100 0 0 1000 0 1 -10,-5,10,5 | 1000 => true true
-2100 0 0 1000 0 1 -10,-5,10,5 | 1001 => true false
-4200 0 0 1000 0 1 -10,-5,10,5 | 1000 => false false";
+2100 0 0 1000 0 1 -10,-5,10,5 | 1000 => true true true
+2100 0 0 1000 0 1 -10,-5,10,5 | 1001 => true false false
+4200 0 0 1000 0 1 -10,-5,10,5 | 1000 => false false false";
 
     fn told(rt: &impl Abort, alloc: Global, input: &str) -> String {
         told_of_label::<Near>(rt, alloc, input)

@@ -53,6 +53,14 @@ fn an_entry_is_removed_once(rt: HostRuntime) {
     assert!(rt; tree.len() == 2 && tree.spare() == 1);
 }
 
+#[test]
+fn a_test_tells_whether_a_search_finds(rt: HostRuntime) {
+    let tree = three(&rt, rt.alloc());
+    assert!(rt; tree.is_stabbed(&1, &3, &9) && !tree.is_stabbed(&1, &3, &10));
+    assert!(rt; tree.is_stabbed(&3, &3, &4) && !tree.is_stabbed(&3, &3, &5));
+    assert!(rt; !tree.is_stabbed(&4, &9, &0) && !tree.is_stabbed(&3, &1, &0));
+}
+
 /// The index of the keys from 1 to `count` in this order, each with the end 0 and the value 0.
 fn rising(rt: &impl Abort, alloc: Global, count: u32) -> SpanTree<u32, u8, u8> {
     let mut tree = SpanTree::new(alloc);
