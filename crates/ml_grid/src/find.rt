@@ -2,6 +2,7 @@
 ghost use Rattle.std.specs.Prelude.{ℕ, ◌≡◌, ◌+◌, ◌<◌, ◌++◌, ◌≤ℤ◌, ◌↔◌, IsTrue, OnOk, OnErr, Contains, take, length};
 ghost use Rattle.std.specs.List.Sorted.{IsStrictlyIncreasing};
 ghost use Rattle.ml_ratio.specs.Fraction.{value_of, IsAtMost};
+ghost use Rattle.ml_grid.specs.Cell.{cell_of};
 ghost use Rattle.ml_grid.specs.Count.{AreUpToNine};
 ghost use Rattle.ml_grid.specs.Found.{Finds, HasEntry, IsAmong};
 ghost use Rattle.ml_grid.specs.Column.{IsInColumn, IsInColumnFrom, IsAmongFrom};
@@ -15,9 +16,10 @@ use ml_spans::laws::{found_value, value_found};
 use std::alloc::AllocError;
 use std::sync::ledger::Ledger;
 
-// Finds the numbers in the cells of the column.
-fn find_column(tree: &Tree, x: i64, cells: &Cells, found: &mut Seq<u32>) -> Result<(), AllocError>
-    ensures ok { OnOk result (Finds (IsInColumn cells.now x) tree.now.entries found.old found.new) }
+// The first and the last cell of the column.
+fn column_ends(x: i64, cells: &Cells) -> (Cell, Cell)
+    ensures first { result.0 ≡ cell_of cells.now.band x cells.now.y0 }
+    ensures last { result.1 ≡ cell_of cells.now.band x cells.now.y1 }
 {
     let from = Cell {
         band: cells.band,
@@ -29,6 +31,14 @@ fn find_column(tree: &Tree, x: i64, cells: &Cells, found: &mut Seq<u32>) -> Resu
         x,
         y: cells.y1,
     };
+    (from, to)
+}
+
+// Finds the numbers in the cells of the column.
+fn find_column(tree: &Tree, x: i64, cells: &Cells, found: &mut Seq<u32>) -> Result<(), AllocError>
+    ensures ok { OnOk result (Finds (IsInColumn cells.now x) tree.now.entries found.old found.new) }
+{
+    let (from, to) = column_ends(x, cells);
     value_found::<Cell, Ratio, u32>();
     found_value::<Cell, Ratio, u32>();
     tree.range(&from, &to, found)
@@ -44,16 +54,7 @@ fn find_column_from(
 ) -> Result<(), AllocError>
     ensures ok { OnOk result (Finds (IsInColumnFrom cells.now x scale.now) tree.now.entries found.old found.new) }
 {
-    let from = Cell {
-        band: cells.band,
-        x,
-        y: cells.y0,
-    };
-    let to = Cell {
-        band: cells.band,
-        x,
-        y: cells.y1,
-    };
+    let (from, to) = column_ends(x, cells);
     value_found::<Cell, Ratio, u32>();
     found_value::<Cell, Ratio, u32>();
     tree.stab(&from, &to, scale, found)
@@ -63,16 +64,7 @@ fn find_column_from(
 fn has_in_column(tree: &Tree, x: i64, cells: &Cells, scale: &Ratio) -> bool
     ensures { IsTrue result ↔ HasEntry (IsInColumnFrom cells.now x scale.now) tree.now.entries }
 {
-    let from = Cell {
-        band: cells.band,
-        x,
-        y: cells.y0,
-    };
-    let to = Cell {
-        band: cells.band,
-        x,
-        y: cells.y1,
-    };
+    let (from, to) = column_ends(x, cells);
     value_found::<Cell, Ratio, u32>();
     found_value::<Cell, Ratio, u32>();
     tree.is_stabbed(&from, &to, scale)

@@ -376,3 +376,21 @@ fn labels_that_do_not_reach_far_have_cells_for_four_bands(rt: HostRuntime) {
     let far = cells_across(&rt, rt.alloc(), "-100,-5,100,5");
     assert!(rt; far.is_none());
 }
+
+/// The band and the cells that are searched in band 3 about a label at (0, 0), among labels like it.
+fn cells_around(rt: &impl Abort, alloc: Global, reach: &str) -> (u8, i64, i64, i64, i64) {
+    let text = format!(in alloc; "0 0 0 1000 0 1 {reach}").expect(rt, "memory");
+    let label = good_label(rt, alloc, text.as_str());
+    let cells = Outline::none().with(&label).around(&label, 3);
+    (cells.band, cells.x0, cells.y0, cells.x1, cells.y1)
+}
+
+// In band 3 a pixel is 16 units at most. Two labels of 20 pixels are found in cells of band 0, of 1,024
+// units; those of 600 pixels in cells of band 3.
+#[test]
+fn labels_that_do_not_reach_far_are_searched_for_in_small_cells(rt: HostRuntime) {
+    let near = cells_around(&rt, rt.alloc(), "-10,-5,10,5");
+    assert!(rt; near == (0, -1, -1, 0, 0));
+    let far = cells_around(&rt, rt.alloc(), "-300,-5,300,5");
+    assert!(rt; far == (3, -1, -1, 0, 0));
+}

@@ -5,6 +5,7 @@
 //! case is a line of a table, `input => answer`, as the formats write it.
 //!
 //! - `cases`: what a table is, what the parts of a case write, and answers as texts;
+//! - `store`: labels that are searched for about another one;
 //! - `engine`: labels that come and go, edit by edit; `editor`: the same of features, and what is asked
 //!   of a map between edits; `made_map`: generated maps;
 //! - `follow`: states that are offered to a follower; `tiles`: tiles that are held;
@@ -27,6 +28,8 @@ mod follow;
 mod made_map;
 #[cfg(test)]
 mod replies;
+#[cfg(test)]
+mod store;
 #[cfg(test)]
 mod svg;
 #[cfg(test)]
