@@ -4,7 +4,7 @@
 //! the more of the world it covers. `specs/` says when labels overlap, what a choice of active ranges
 //! is, which choice is the longest, what blocks a label, and which labels a view shows.
 //!
-//! - [`label`]: boxes and labels; [`order`]: the priority order;
+//! - [`label`]: boxes and labels; [`order`]: the priority order; [`same`]: whether labels are the same;
 //! - [`slot`]: active ranges and what ends them; [`view`]: a window of the world at a scale;
 //! - [`overlap`], [`window`]: the tests of single labels at a scale, over `edge` and `margin`: where
 //!   edges lie, and boxes widened by a margin ([`widened`]);
@@ -23,6 +23,7 @@ pub mod order;
 pub mod outline;
 pub mod overlap;
 pub mod reach;
+pub mod same;
 pub mod slot;
 pub mod view;
 pub mod window;
@@ -34,6 +35,7 @@ pub use order::Order;
 pub use outline::Outline;
 pub use overlap::overlaps;
 pub use reach::hull;
+pub use same::{are_alike, same_labels, same_spans};
 pub use slot::{Slot, Span, active};
 pub use view::View;
 pub use window::meets;

@@ -1,12 +1,12 @@
 -- What sets no limit may be left out of the rivals, and what is alike may stand in.
-use Rattle.std.proofs.Common.{◌≡◌, ℕ, ◌<◌, ◌⊎◌, inl, inr, arith, Option, Some, None, sym, ◌∙◌, ap, refl}
+use Rattle.std.proofs.Common.{◌≡◌, ℕ, inl, inr, arith, Option, Some, None, sym, ◌∙◌, ap, refl}
 use Rattle.std.specs.Prelude.{MatchOption}
 use Rattle.ml_ratio.specs.Fraction.{Fraction, value_of, IsLess, IsAtMost, IsSame}
-use Rattle.ml_cone.specs.Choice.{IsEnd, Allows, IsLimit}
+use Rattle.ml_cone.specs.Choice.{IsEnd, IsLimit}
 use Rattle.ml_cone.specs.Slots.{Rival, RivalAllows, IsFirstAt, IsOwnSlot}
 use Rattle.ml_cone.specs.declared.label.Label.{Label}
 use Rattle.ml_cone.specs.declared.slot.Slot.{Slot}
-use Rattle.ml_conflict.specs.Carried.{IsFree, IsBeyond, AreAlike, AreCarried, AreJoined}
+use Rattle.ml_conflict.specs.Carried.{IsFree, AreAlike, AreCarried, AreJoined}
 use Rattle.ml_conflict.proofs.Greedy.{Allows-smaller}
 
 pub alike_of : (r s : Rival) → r ≡ s → AreAlike r s

@@ -1,5 +1,5 @@
 -- Smaller ends are allowed too; and there is at most one longest choice.
-use Rattle.std.proofs.Common.{ℕ, zero, suc, ◌*◌, ◌<◌, ◌≤◌, List, length, get_or, arith, inl, inr}
+use Rattle.std.proofs.Common.{ℕ, zero, suc, ◌*◌, ◌<◌, ◌≤◌, List, length, arith, inl, inr}
 use Rattle.std.proofs.lemmas.Bool.{cases_eq, cases_lt}
 use Rattle.ml_ratio.specs.Fraction.{Fraction, IsLess, IsAtMost, IsSame}
 use Rattle.ml_cone.specs.Choice.{Allows, Choice, IsLongest}

@@ -1,5 +1,5 @@
 -- Own slots are the longest choice with its blockers, and the other way round.
-use Rattle.std.proofs.Common.{◌≡◌, ℕ, ◌<◌, arith, List, length, get_or, Option, Some, None}
+use Rattle.std.proofs.Common.{ℕ, ◌<◌, arith, List, length, get_or, Option, Some, None}
 use Rattle.std.specs.Prelude.{MatchOption}
 use Rattle.std.proofs.lemmas.List.{get_or_default}
 use Rattle.ml_ratio.specs.Fraction.{value_of, IsLess, IsSame}

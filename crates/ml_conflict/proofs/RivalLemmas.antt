@@ -1,5 +1,5 @@
 -- Two labels are rivals, or the one sets the other no limit.
-use Rattle.std.proofs.Common.{◌≡◌, ℕ, ◌*◌, ◌⊎◌, inl, inr, arith, Option, Some, None, true, false, refl, ◌↔◌, IsTrue}
+use Rattle.std.proofs.Common.{◌≡◌, ◌*◌, ◌⊎◌, inl, inr, arith, Option, Some, None, true, false, refl, ◌↔◌, IsTrue}
 use Rattle.std.specs.Prelude.{IfSome, IfNone, is_some}
 use Rattle.ml_ratio.specs.declared.ratio.Ratio.{Ratio}
 use Rattle.std.proofs.lemmas.Bool.{cases_lt}

@@ -9,8 +9,7 @@ ghost use Rattle.ml_repair.specs.Settled.{IsSettled};
 ghost use Rattle.ml_editor.specs.State.{HasFeature};
 ghost use Rattle.ml_editor.specs.Changing.{ranged, ranged_of, IsChangeOf, IsTakenIn, AreChangesAt};
 
-use crate::compare::{same_labels, same_ratios};
-use ml_cone::{Label, Span};
+use ml_cone::{Label, Span, same_labels, same_spans};
 use ml_ratio::{Feature, Seq, Text};
 use ml_repair::Engine;
 use ml_watch::{Change, by_id};
@@ -36,18 +35,11 @@ fn held_by<'a>(engine: &'a Engine, id: &Text) -> Option<Held<'a>>
     Some(Held { label, span })
 }
 
-// Whether the active ranges are the same.
-fn same_span(one: Span, other: Span) -> bool
-    ensures { MatchBool result (one ≡ other) (¬ (one ≡ other)) }
-{
-    same_ratios(one.min, other.min) && same_ratios(one.until, other.until)
-}
-
 // Whether both are the same label with the same active range.
 fn same_label(one: &Held<'_>, other: &Held<'_>) -> bool
     ensures { MatchBool result (ranged_of one.now ≡ ranged_of other.now) (¬ (ranged_of one.now ≡ ranged_of other.now)) }
 {
-    same_span(one.span, other.span) && same_labels(one.label, other.label)
+    same_spans(one.span, other.span) && same_labels(one.label, other.label)
 }
 
 // Whether both are none, or the same label with the same active range.

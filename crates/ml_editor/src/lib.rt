@@ -4,7 +4,7 @@
 //! - [`edit`]: the edits of a map ([`Edit`]);
 //! - [`features`]: the features of a map, found by id ([`Features`]);
 //! - `prepare`: how an edit is made ready, over `check`, what refuses it, and `making`, its making;
-//! - `changes`: what a new style changes of the labels, over `compare`, whether two are the same;
+//! - `changes`: what a new style changes of the labels;
 //! - `commit`: how it is carried out, over `carry`, its parts;
 //! - [`ready`]: an edit that is ready to be carried out ([`Ready`]); [`draft`]: what is drawn up for it
 //!   ([`Draft`]); [`work`]: what it makes of the labels ([`Work`]);
@@ -15,7 +15,6 @@ mod carry;
 mod changes;
 mod check;
 mod commit;
-mod compare;
 pub mod draft;
 pub mod edit;
 pub mod editor;

@@ -1,4 +1,3 @@
-pub mod Equals
 pub mod Texts
 pub mod Changing
 pub mod Ids

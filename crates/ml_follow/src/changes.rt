@@ -4,9 +4,9 @@ ghost use Rattle.std.specs.Option.{option_map};
 ghost use Rattle.ml_cone.specs.Label.{IsLabelList};
 ghost use Rattle.ml_follow.specs.Changes.{IsStateOf, IsListed, ranged_of, ranged, IsChangeOf, IsTakenIn, IsTakenIfGone, HasId, AreChangesAmong, AreChanges};
 
-use crate::compare::{are_alike, same_spans};
+use crate::compare::same_unplaced;
 use ml_cert::places::{place_of, places_of};
-use ml_cone::{Label, Slot, Span};
+use ml_cone::{Label, Slot, Span, same_spans};
 use ml_ratio::{Seq, Text};
 use ml_watch::{Change, by_id};
 use std::alloc::{AllocError, Global};
@@ -66,7 +66,7 @@ fn standing_by<'a>(list: &Listed<'a>, id: &'a str) -> Option<Standing<'a>>
 fn stand_alike(one: &Standing<'_>, other: &Standing<'_>) -> bool
     ensures { MatchBool result (ranged_of one.now ≡ ranged_of other.now) (¬ (ranged_of one.now ≡ ranged_of other.now)) }
 {
-    same_spans(one.span, other.span) && are_alike(one.label, other.label)
+    same_spans(one.span, other.span) && same_unplaced(one.label, other.label)
 }
 
 // Whether both are none, or alike with the same active range.

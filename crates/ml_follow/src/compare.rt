@@ -1,38 +1,8 @@
-//! Whether two labels are alike but for their class and rank.
+//! Whether two labels are the same but for their class and rank.
 ghost use Rattle.std.specs.Prelude.{◌≡◌, MatchBool};
 ghost use Rattle.ml_follow.specs.Changes.{unplaced};
 
-use ml_cone::{BoxPx, Label, Span};
-use ml_ratio::{Ratio, Text};
-
-// Whether the boxes are the same.
-fn same_box(one: &BoxPx, other: &BoxPx) -> bool
-    ensures { MatchBool result (one.now ≡ other.now) (¬ (one.now ≡ other.now)) }
-{
-    one.l == other.l && one.b == other.b && one.r == other.r && one.t == other.t
-}
-
-// Whether the lists of boxes are the same.
-fn same_boxes(one: &[BoxPx], other: &[BoxPx]) -> bool
-    ensures { MatchBool result (one.now ≡ other.now) (¬ (one.now ≡ other.now)) }
-{
-    if one.len() != other.len() {
-        return false;
-    }
-    for k in 0..one.len() {
-        if !same_box(&one[k], &other[k]) {
-            return false;
-        }
-    }
-    true
-}
-
-// Whether the pieces of text are the same.
-fn same_pieces(one: &[Text], other: &[Text]) -> bool
-    ensures { MatchBool result (one.now ≡ other.now) (¬ (one.now ≡ other.now)) }
-{
-    one == other
-}
+use ml_cone::{Label, are_alike};
 
 // Whether the ids are the same.
 fn same_ids(one: &Label, other: &Label) -> bool
@@ -41,43 +11,9 @@ fn same_ids(one: &Label, other: &Label) -> bool
     one.id() == other.id()
 }
 
-// Whether the labels stand at one place of the world with the same margin.
-fn same_anchors(one: &Label, other: &Label) -> bool
-    ensures { MatchBool result ((one.now.x ≡ other.now.x) × (one.now.y ≡ other.now.y) × (one.now.margin ≡ other.now.margin))
-        (¬ ((one.now.x ≡ other.now.x) × (one.now.y ≡ other.now.y) × (one.now.margin ≡ other.now.margin))) }
-{
-    one.x() == other.x() && one.y() == other.y() && one.margin() == other.margin()
-}
-
-// Whether the fractions are the same.
-fn same_ratios(one: Ratio, other: Ratio) -> bool
-    ensures { MatchBool result (one ≡ other) (¬ (one ≡ other)) }
-{
-    one == other
-}
-
-// Whether the selectable ranges are the same.
-fn same_ranges(one: &Label, other: &Label) -> bool
-    ensures { MatchBool result ((one.now.min ≡ other.now.min) × (one.now.max ≡ other.now.max))
-        (¬ ((one.now.min ≡ other.now.min) × (one.now.max ≡ other.now.max))) }
-{
-    same_ratios(one.min(), other.min()) && same_ratios(one.max(), other.max())
-}
-
-/// Whether the active ranges are the same.
-pub fn same_spans(one: Span, other: Span) -> bool
-    ensures { MatchBool result (one ≡ other) (¬ (one ≡ other)) }
-{
-    same_ratios(one.min, other.min) && same_ratios(one.until, other.until)
-}
-
 /// Whether the labels are the same but for their class and rank.
-pub fn are_alike(one: &Label, other: &Label) -> bool
+pub fn same_unplaced(one: &Label, other: &Label) -> bool
     ensures { MatchBool result (unplaced one.now ≡ unplaced other.now) (¬ (unplaced one.now ≡ unplaced other.now)) }
 {
-    same_ids(one, other)
-        && same_anchors(one, other)
-        && same_ranges(one, other)
-        && same_boxes(one.boxes().as_slice(), other.boxes().as_slice())
-        && same_pieces(one.pieces().as_slice(), other.pieces().as_slice())
+    same_ids(one, other) && are_alike(one, other)
 }

@@ -20,7 +20,6 @@ pub mod Noting
 pub mod Sorting
 pub mod Changing
 pub mod Joining
-pub mod Equals
 pub mod Shapes
 pub mod Plans
 pub mod Carries

@@ -20,6 +20,10 @@ use Rattle.ml_repair.specs.Touched.{IsRivalBefore}
 abbrev pub present_slots : List Row → List Moved → List Slot
 present_slots rows moved = slots_in (moved_rows moved rows)
 
+-- the present slot of the row at a place
+abbrev pub present_at : List Row → List Moved → ℕ → Slot
+present_at rows moved i = slice_index_or (present_slots rows moved) i no_slot
+
 -- j is before i, and it is the edited label only where that is there: before the edit, or after it
 abbrev pub Stands : Bool → Bool → ℕ → ℕ → ℕ → Type 0
 Stands comes after at i j = (j < i) × (j ≡ at → comes ≡ after)
@@ -33,6 +37,11 @@ pub record AreOwn (number : ℕ → ℕ) (labels : List Label) (slots : List Slo
 -- the row at a place as a rival
 abbrev pub rival_in : List Row → List Moved → Label → ℕ → Rival
 rival_in rows moved low j = row (number_at rows) (labels_in rows) (present_slots rows moved) low j
+
+-- those before place i with their present ends, the edited label only where it comes, leave the label there the slot
+abbrev pub AreLeaving : List Row → List Moved → ℕ → Bool → ℕ → Slot → Type 0
+AreLeaving rows moved at comes i slot =
+    (d : Label) → IsOwnSlot (row (number_at rows) (labels_in rows) (present_slots rows moved) d) (Stands comes true at i) (slice_index_or (labels_in rows) i d) slot
 
 -- the bound is the label's maximum, or the limit that the label at one of the places sets it
 abbrev pub IsBoundBy : List Row → List Moved → Label → List ℕ → Ratio → Type 0
@@ -86,8 +95,8 @@ IsWokenBy labels i places t before after =
 
 -- the row at a place has another slot, and no other row has
 pub record IsMovedAt (rows : List Row) (i : ℕ) (slot : Slot) (before after : List Moved) : Type 0 where
-  pub here : slice_index_or (present_slots rows after) i no_slot ≡ slot
-  pub others : (k : ℕ) → k ≢ i → slice_index_or (present_slots rows after) k no_slot ≡ slice_index_or (present_slots rows before) k no_slot
+  pub here : present_at rows after i ≡ slot
+  pub others : (k : ℕ) → k ≢ i → present_at rows after k ≡ present_at rows before k
   pub same : (n : ℕ) (own : Slot) → n ≢ number_at rows i → slot_for n own after ≡ slot_for n own before
 
 -- the present slots are the longest choice with its blockers
@@ -96,5 +105,4 @@ AreSettled rows moved = AreSlots (number_at rows) (labels_in rows) (present_slot
 
 -- the label at a place has the slot that all labels before it leave
 abbrev pub IsSettledAt : List Row → List Moved → ℕ → Type 0
-IsSettledAt rows moved at =
-    (d : Label) → IsOwnSlot (row (number_at rows) (labels_in rows) (present_slots rows moved) d) (Stands true true at at) (slice_index_or (labels_in rows) at d) (slice_index_or (present_slots rows moved) at no_slot)
+IsSettledAt rows moved at = AreLeaving rows moved at true at (present_at rows moved at)

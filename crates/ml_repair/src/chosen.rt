@@ -1,7 +1,6 @@
 //! Labels at some places as the rivals of a label.
-ghost use Rattle.std.specs.Prelude.{ℕ, ◌≡◌, ◌<◌, All, List, length, map, slice_index_or};
-ghost use Rattle.ml_cone.specs.Slots.{no_slot};
-ghost use Rattle.ml_repair.specs.Repair.{present_slots};
+ghost use Rattle.std.specs.Prelude.{ℕ, ◌≡◌, ◌<◌, All, List, length, map};
+ghost use Rattle.ml_repair.specs.Repair.{present_at};
 
 use crate::moves::Moves;
 use crate::roster::Roster;
@@ -22,7 +21,7 @@ pub struct Chosen<'a> {
 /// The present slot of the label at a place.
 pub fn present_slot(roster: &Roster<'_>, moves: &Moves, place: usize) -> Slot
     requires { place < length roster.now }
-    ensures { result ≡ slice_index_or (present_slots roster.now moves.now) place no_slot }
+    ensures { result ≡ present_at roster.now moves.now place }
 {
     let _many = roster.len();
     let row = roster.row(place);

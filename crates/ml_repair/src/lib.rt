@@ -24,7 +24,6 @@ mod read;
 mod repair;
 pub mod room;
 mod roster;
-mod same;
 mod settle;
 mod shown;
 mod wake;

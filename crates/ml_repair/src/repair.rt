@@ -2,12 +2,12 @@
 ghost use Rattle.std.specs.Prelude.{ℕ, ◌≡◌, ◌≢◌, ◌+◌, ◌<◌, ◌≤◌, true, false, List, length, IfOk, MatchBool, slice_index_or, if◌then◌else◌};
 ghost use Rattle.ml_ratio.specs.Fraction.{value_of, IsSame};
 ghost use Rattle.ml_cone.specs.Choice.{IsEnd};
-ghost use Rattle.ml_cone.specs.Slots.{IsOwnSlot, row, ends, no_slot};
+ghost use Rattle.ml_cone.specs.Slots.{ends};
 ghost use Rattle.ml_cone.specs.declared.label.Label.{Label};
 ghost use Rattle.ml_cone.specs.declared.slot.Slot.{Slot};
 ghost use Rattle.ml_store.specs.Rows.{number_at, labels_in};
 ghost use Rattle.ml_repair.specs.Plan.{slot_for};
-ghost use Rattle.ml_repair.specs.Repair.{Stands, AreOwn, IsMovedAt, present_slots};
+ghost use Rattle.ml_repair.specs.Repair.{Stands, AreOwn, AreLeaving, IsMovedAt, present_slots, present_at};
 ghost use Rattle.ml_repair.specs.Size.{IsSize};
 ghost use Rattle.ml_repair.specs.Touched.{IsTouched};
 
@@ -52,10 +52,8 @@ fn renew<L: Ledger>(
 ) -> Result<bool, AllocError>
     requires is_place { i < length roster.now }
     requires ends { (d : Label) (j : ℕ) → Stands comes true at i j → IsEnd (slice_index_or (labels_in roster.now) j d) (ends (present_slots roster.now moves.old) j) }
-    ensures own { IfOk result (λ _. (d : Label) →
-        IsOwnSlot (row (number_at roster.now) (labels_in roster.now) (present_slots roster.now moves.old) d) (Stands comes true at i)
-        (slice_index_or (labels_in roster.now) i d) (slice_index_or (present_slots roster.now moves.new) i no_slot)) }
-    ensures others { IfOk result (λ _. (k : ℕ) → k ≢ i → slice_index_or (present_slots roster.now moves.new) k no_slot ≡ slice_index_or (present_slots roster.now moves.old) k no_slot) }
+    ensures own { IfOk result (λ _. AreLeaving roster.now moves.old at comes i (present_at roster.now moves.new i)) }
+    ensures others { IfOk result (λ _. (k : ℕ) → k ≢ i → present_at roster.now moves.new k ≡ present_at roster.now moves.old k) }
     ensures same { IfOk result (λ _. (n : ℕ) (own : Slot) → n ≢ number_at roster.now i → slot_for n own moves.new ≡ slot_for n own moves.old) }
     ensures moved { IfOk result (λ moved. MatchBool moved
         (¬ (IsSame (ends (present_slots roster.now moves.old) i) (ends (present_slots roster.now moves.new) i)))
@@ -83,9 +81,7 @@ pub fn repair<L: Ledger>(
 ) -> Result<u32, AllocError>
     requires is_place { at < length roster.now }
     requires was { AreOwn (number_at roster.now) (labels_in roster.now) (present_slots roster.now moves.old) at comes false }
-    requires here { comes ≡ true → (d : Label) →
-        IsOwnSlot (row (number_at roster.now) (labels_in roster.now) (present_slots roster.now moves.old) d) (Stands comes true at at)
-        (slice_index_or (labels_in roster.now) at d) (slice_index_or (present_slots roster.now moves.old) at no_slot) }
+    requires here { comes ≡ true → AreLeaving roster.now moves.old at comes at (present_at roster.now moves.old at) }
     ensures own { IfOk result (λ _. AreOwn (number_at roster.now) (labels_in roster.now) (present_slots roster.now moves.new) at comes true) }
     ensures kept { IfOk result (λ _. (own : Slot) → slot_for (number_at roster.now at) own moves.new ≡ slot_for (number_at roster.now at) own moves.old) }
     ensures touched { IfOk result (IsSize (IsTouched (labels_in roster.now) at comes (ends (present_slots roster.now moves.old)) (ends (present_slots roster.now moves.new)))) }

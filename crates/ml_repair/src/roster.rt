@@ -2,7 +2,7 @@
 ghost use Rattle.std.specs.Prelude.{ℕ, ◌≡◌, ◌+◌, ◌<◌, ◌≤◌, ◌⊎◌, ◌↔◌, List, length, insert, take, Contains, Option, Some, None, IsTrue, IsSome, IfSome, IfOk, MatchOption, HoldsAt, OnOk};
 ghost use Rattle.ml_store.specs.Rows.{IsFresh};
 ghost use Rattle.ml_store.specs.Search.{Gathers};
-ghost use Rattle.ml_store.specs.Table.{IsRowAt};
+ghost use Rattle.ml_store.specs.Table.{IsRowAt, IsPlaceIn};
 ghost use Rattle.ml_repair.specs.Roster.{left_rows, joined_rows, AreNumbered, AreFound, AreOverlapped, NoneBefore, PlacesCame, IsPlaceWithout};
 
 use ml_cone::Label;
@@ -55,7 +55,7 @@ fn left_row(store: &Store, gone: Option<usize>, at: usize) -> &Row
 // The place of a number among the rows that are left.
 fn left_place(store: &Store, gone: Option<usize>, number: u32) -> Option<usize>
     requires gone { IfSome gone (λ g. g < length store.now.rows) }
-    ensures { MatchOption result (IsFresh number (left_rows gone store.now.rows)) (IsRowAt (left_rows gone store.now.rows) number) }
+    ensures { IsPlaceIn (left_rows gone store.now.rows) number result }
 {
     let _many = store.len();
     match store.place_of(number) {
@@ -104,7 +104,7 @@ fn joined_place(
     requires gone { IfSome gone (λ g. g < length store.now.rows) }
     requires at { IfSome come (λ row. at ≤ length (left_rows gone store.now.rows)) }
     requires numbered { AreNumbered (joined_rows come at (left_rows gone store.now.rows)) }
-    ensures { MatchOption result (IsFresh number (joined_rows come.entry at (left_rows gone store.now.rows))) (IsRowAt (joined_rows come.entry at (left_rows gone store.now.rows)) number) }
+    ensures { IsPlaceIn (joined_rows come.entry at (left_rows gone store.now.rows)) number result }
 {
     let left = left_place(store, gone, number);
     match come {
@@ -255,7 +255,7 @@ impl<'a> Roster<'a> {
 
     /// The place of the label with this number; none where no label has it.
     pub fn place_of(&self, number: u32) -> Option<usize>
-        ensures { MatchOption result (IsFresh number self.now) (IsRowAt self.now number) }
+        ensures { IsPlaceIn self.now number result }
     {
         joined_place(self.store, self.gone, self.come, self.at, number)
     }

@@ -1,10 +1,10 @@
 //! The slot of one label.
 ghost use Rattle.std.specs.Prelude.{ℕ, ◌≡◌, ◌+◌, ◌<◌, true, List, length, IfOk, slice_index_or};
 ghost use Rattle.ml_cone.specs.Choice.{IsEnd};
-ghost use Rattle.ml_cone.specs.Slots.{IsOwnSlot, row, ends};
+ghost use Rattle.ml_cone.specs.Slots.{ends};
 ghost use Rattle.ml_cone.specs.declared.label.Label.{Label};
 ghost use Rattle.ml_store.specs.Rows.{number_at, labels_in};
-ghost use Rattle.ml_repair.specs.Repair.{Stands, present_slots};
+ghost use Rattle.ml_repair.specs.Repair.{Stands, AreLeaving, present_slots};
 
 use crate::chosen::Chosen;
 use crate::gather::gather;
@@ -34,8 +34,7 @@ pub fn settle<L: Ledger>(
 ) -> Result<Slot, AllocError>
     requires is_place { i < length roster.now }
     requires ends { (d : Label) (j : ℕ) → Stands comes true at i j → IsEnd (slice_index_or (labels_in roster.now) j d) (ends (present_slots roster.now moves.now) j) }
-    ensures own { IfOk result (λ slot. (d : Label) →
-        IsOwnSlot (row (number_at roster.now) (labels_in roster.now) (present_slots roster.now moves.now) d) (Stands comes true at i) (slice_index_or (labels_in roster.now) i d) slot) }
+    ensures own { IfOk result (AreLeaving roster.now moves.now at comes i) }
     ensures spent { IfOk result (λ _. steps.new ≡ steps.old + 1) }
 {
     carried();

@@ -1,8 +1,8 @@
 -- The table of live labels.
-use Rattle.std.specs.Prelude.{ℕ, zero, suc, ◌≡◌, ◌<◌, List, [], ◌∷◌, length, slice_index_or}
+use Rattle.std.specs.Prelude.{ℕ, zero, suc, ◌≡◌, ◌<◌, List, [], ◌∷◌, length, slice_index_or, Option, MatchOption}
 use Rattle.ml_cone.specs.Slots.{no_slot}
 use Rattle.ml_cone.specs.declared.slot.Slot.{Slot}
-use Rattle.ml_store.specs.Rows.{numbers_in, slots_in, number_at}
+use Rattle.ml_store.specs.Rows.{numbers_in, slots_in, number_at, IsFresh}
 use Rattle.ml_store.specs.Names.{names_in, AreByName}
 use Rattle.ml_store.specs.declared.row.Row.{Row}
 
@@ -14,6 +14,10 @@ pub record Listed : Type 0 where
 -- the row at a place has the number
 abbrev pub IsRowAt : List Row → ℕ → ℕ → Type 0
 IsRowAt rows number at = (at < length rows) × (number_at rows at ≡ number)
+
+-- the place of the row with the number; none where no row has it
+abbrev pub IsPlaceIn : List Row → ℕ → Option ℕ → Type 0
+IsPlaceIn rows number place = MatchOption place (IsFresh number rows) (IsRowAt rows number)
 
 -- the slot of the row at a place
 abbrev pub slot_at : List Row → ℕ → Slot

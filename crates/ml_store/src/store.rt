@@ -9,7 +9,7 @@ ghost use Rattle.ml_store.specs.Rows.{numbers_in, labels_in, IsLive, IsFresh, Ha
 ghost use Rattle.ml_store.specs.Search.{IsFoundIn, IsNumberWith, Gathers, AreOverlapping, NoneOverlaps, AreNearNumbers};
 ghost use Rattle.ml_grid.specs.Entry.{IsFree, Adds, Drops, AreEntriesOf};
 ghost use Rattle.ml_store.specs.Store.{IsStored, AreWithin, IsIndex, IsEntryIn, IsPairIn, Pair};
-ghost use Rattle.ml_store.specs.Table.{IsRowAt, with_slot, slot_at};
+ghost use Rattle.ml_store.specs.Table.{IsPlaceIn, with_slot, slot_at};
 ghost use Rattle.ml_store.specs.declared.row.Row.{Row};
 
 use crate::entries::move_entries;
@@ -257,7 +257,7 @@ impl Store {
 
     /// The place of the label with this number; none where no label has it.
     pub fn place_of(&self, number: u32) -> Option<usize>
-        ensures { MatchOption result (IsFresh number self.now.rows) (IsRowAt self.now.rows number) }
+        ensures { IsPlaceIn self.now.rows number result }
     {
         self.table.place_of(number)
     }

@@ -4,7 +4,7 @@ ghost use Rattle.std.specs.Vec.{vec_capacity};
 ghost use Rattle.ml_store.specs.Boxes.{unboxed};
 ghost use Rattle.ml_store.specs.Names.{names_in, HaveId};
 ghost use Rattle.ml_store.specs.Rows.{numbers_in, labels_in, HaveOwnNumbers, HasId, IsFresh, IsNumberOf};
-ghost use Rattle.ml_store.specs.Table.{IsTable, IsRowAt, with_slot};
+ghost use Rattle.ml_store.specs.Table.{IsTable, IsPlaceIn, with_slot};
 ghost use Rattle.ml_store.specs.declared.row.Row.{Row};
 
 use crate::names::{find_id, put_name, take_name};
@@ -138,7 +138,7 @@ impl Table {
 
     /// The place of the row with this number; none where no row has it.
     pub fn place_of(&self, number: u32) -> Option<usize>
-        ensures { MatchOption result (IsFresh number self.now.rows) (IsRowAt self.now.rows number) }
+        ensures { IsPlaceIn self.now.rows number result }
     {
         self.numbers.place_of(number)
     }

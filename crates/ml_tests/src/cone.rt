@@ -4,7 +4,9 @@ use crate::cases::{
     is_rising, label_of, label_told, number, pieces_of, told_of_label, told_of_pair, view_of,
     view_told, word,
 };
-use ml_cone::{BoxPx, Label, Order, Outline, Span, active, meets, overlaps};
+use ml_cone::{
+    BoxPx, Label, Order, Outline, Span, active, are_alike, meets, overlaps, same_labels,
+};
 use ml_ratio::lines::parts_of;
 use ml_ratio::{Seq, Text};
 use std::alloc::Global;
@@ -127,6 +129,40 @@ impl Table for Copies {
 #[test]
 fn a_label_and_its_copy_have_its_parts(rt: HostRuntime) {
     hold::<Copies>(&rt, rt.alloc())
+}
+
+/// Two labels with one order, and whether they are the same.
+struct Likes;
+
+impl Table for Likes {
+    const LINES: &'static str = "\
+7 9 1/2 7/3 5 2 -30,-7,4,8 4,-6,33,9 | 7 9 1/2 7/3 5 2 -30,-7,4,8 4,-6,33,9 | - => true
+7 9 1/2 7/3 5 2 -30,-7,4,8 4,-6,33,9 | 7 9 2/4 14/6 5 2 -30,-7,4,8 4,-6,33,9 | - => true
+7 9 1/2 7/3 5 2 -30,-7,4,8 4,-6,33,9 | 8 9 1/2 7/3 5 2 -30,-7,4,8 4,-6,33,9 | - => false
+7 9 1/2 7/3 5 2 -30,-7,4,8 4,-6,33,9 | 7 8 1/2 7/3 5 2 -30,-7,4,8 4,-6,33,9 | - => false
+7 9 1/2 7/3 5 2 -30,-7,4,8 4,-6,33,9 | 7 9 1/3 7/3 5 2 -30,-7,4,8 4,-6,33,9 | - => false
+7 9 1/2 7/3 5 2 -30,-7,4,8 4,-6,33,9 | 7 9 1/2 7/4 5 2 -30,-7,4,8 4,-6,33,9 | - => false
+7 9 1/2 7/3 5 2 -30,-7,4,8 4,-6,33,9 | 7 9 1/2 7/3 4 2 -30,-7,4,8 4,-6,33,9 | - => false
+7 9 1/2 7/3 5 2 -30,-7,4,8 4,-6,33,9 | 7 9 1/2 7/3 5 1 -30,-7,4,8 | - => false
+7 9 1/2 7/3 5 2 -30,-7,4,8 4,-6,33,9 | 7 9 1/2 7/3 5 2 -30,-7,4,8 5,-6,33,9 | - => false
+7 9 1/2 7/3 5 2 -30,-7,4,8 4,-6,33,9 | 7 9 1/2 7/3 5 2 -30,-7,4,8 4,-5,33,9 | - => false
+7 9 1/2 7/3 5 2 -30,-7,4,8 4,-6,33,9 | 7 9 1/2 7/3 5 2 -30,-7,4,8 4,-6,34,9 | - => false
+7 9 1/2 7/3 5 2 -30,-7,4,8 4,-6,33,9 | 7 9 1/2 7/3 5 2 -30,-7,4,8 4,-6,33,8 | - => false";
+
+    fn told(rt: &impl Abort, alloc: Global, input: &str) -> String {
+        told_of_pair::<Likes>(rt, alloc, input)
+    }
+}
+
+impl OfPair for Likes {
+    fn told_of(rt: &impl Abort, alloc: Global, a: &Label, b: &Label, _rest: &str) -> String {
+        both_told(rt, alloc, same_labels(a, b), are_alike(b, a))
+    }
+}
+
+#[test]
+fn labels_with_one_order_are_the_same_where_they_are_alike(rt: HostRuntime) {
+    hold::<Likes>(&rt, rt.alloc())
 }
 
 /// The order that a text writes, as `CLASS RANK ID`.

@@ -1,6 +1,5 @@
 use Rattle.std.proofs.Common.{arith}
 use Rattle.ml_ratio.specs.Fraction.{value_of, IsSame, IsLess, IsAtMost}
-use Rattle.ml_cone.specs.Choice.{IsLimit, Allows}
 use Rattle.ml_ratio.proofs.Fractions.{at_most_less, less_at_most, at_most_trans}
 use Rattle.ml_conflict.specs.Quotient.{worth}
 use Rattle.ml_conflict.proofs.Greedy.{Allows-smaller}

@@ -1,4 +1,4 @@
-use Rattle.std.proofs.Common.{◌≡◌, ◌<◌, arith, sym, ◌∙◌, length, drop, length-drop}
+use Rattle.std.proofs.Common.{arith, sym, ◌∙◌, drop, length-drop}
 use Rattle.ml_ratio.proofs.LineLemmas.{ended_before, ended_none}
 use Rattle.ml_ratio.proofs.lines.next_ended.Goals as goal
 
