@@ -36,7 +36,9 @@ fn search_told(
     label: &Label,
     scale: &Ratio,
 ) -> String {
-    let found = store.overlapping(alloc, label, 3, scale).expect(rt, "memory");
+    let found = store
+        .overlapping(alloc, label, 3, scale)
+        .expect(rt, "memory");
     let some = found.len() > 0;
     let clear = store.is_clear(label, 0, 3, scale);
     format!(in alloc; "found {some} clear {clear}").expect(rt, "memory")
