@@ -1,5 +1,5 @@
 //! The making of edits that nothing refuses.
-ghost use Rattle.std.specs.Prelude.{◌≡◌, ◌+◌, ◌<◌, ◌⊎◌, length, IfOk};
+ghost use Rattle.std.specs.Prelude.{◌≡◌, ◌+◌, ◌<◌, ◌⊎◌, length, IfOk, OnOk};
 ghost use Rattle.ml_editor.specs.declared.edit.Edit.TheVariants.{Add as add_edit, Replace as replace_edit, Remove as remove_edit, Restyle as style_edit};
 ghost use Rattle.ml_editor.specs.State.{HasFeature, IsAllowed};
 ghost use Rattle.ml_editor.specs.Faults.{IsLast};
@@ -79,6 +79,16 @@ impl Editor {
         })
     }
 
+    // Takes the room for the edit and for the work that is drawn up for it.
+    fn make_room(&mut self, edit: &Edit, draft: &Draft) -> Result<(), AllocError>
+        requires of_state { IsReady (prepared edit.now draft.now (self.old.state.rev + 1)) self.old.state self.old.engine.rows }
+        ensures ok { OnOk result (HasRoomFor (prepared edit.now draft.now (self.old.state.rev + 1)) self.new) }
+        ensures same { IsSameMap self.old self.new }
+    {
+        reserve_feature(&mut self.features, edit)?;
+        reserve_work(&mut self.engine, &draft.work)
+    }
+
     // The edit made ready, with the room that it and its work take.
     fn make_ready(&mut self, edit: Edit, key: Text, draft: Draft) -> Result<Ready, AllocError>
         requires of_state { IsReady (prepared edit draft (self.old.state.rev + 1)) self.old.state self.old.engine.rows }
@@ -87,8 +97,7 @@ impl Editor {
         ensures room { IfOk result (λ ready. HasRoomFor ready self.new) }
         ensures same { IsSameMap self.old self.new }
     {
-        reserve_feature(&mut self.features, &edit)?;
-        reserve_work(&mut self.engine, &draft.work)?;
+        self.make_room(&edit, &draft)?;
         Ok(Ready {
             edit,
             key,
@@ -112,8 +121,8 @@ impl Editor {
         ensures spent { IfOk result (λ ready. steps.new ≡ steps.old + ready.evaluated) }
         ensures same { IsSameMap self.old self.new }
     {
-        let draft = self.draft_feature(alloc, &feature, steps)?;
         let key = feature.id.copy()?;
+        let draft = self.draft_feature(alloc, &feature, steps)?;
         self.make_ready(Edit::Add(feature), key, draft)
     }
 
@@ -132,8 +141,8 @@ impl Editor {
         ensures spent { IfOk result (λ ready. steps.new ≡ steps.old + ready.evaluated) }
         ensures same { IsSameMap self.old self.new }
     {
-        let draft = self.draft_feature(alloc, &feature, steps)?;
         let key = feature.id.copy()?;
+        let draft = self.draft_feature(alloc, &feature, steps)?;
         self.make_ready(Edit::Replace(feature), key, draft)
     }
 
@@ -152,11 +161,12 @@ impl Editor {
         ensures spent { IfOk result (λ ready. steps.new ≡ steps.old + ready.evaluated) }
         ensures same { IsSameMap self.old self.new }
     {
-        let draft = self.draft_removal(alloc, id, steps)?;
         let edit = Edit::Remove(id.copy()?);
         let key = id.copy()?;
+        let draft = self.draft_removal(alloc, id, steps)?;
         self.make_ready(edit, key, draft)
     }
+
     // The new style, made ready.
     pub(crate) fn make_restyle(&mut self, alloc: Global, style: Style) -> Result<Ready, AllocError>
         requires not_last { ¬ (IsLast self.old.state) }

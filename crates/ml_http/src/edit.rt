@@ -5,6 +5,8 @@ ghost use Rattle.ml_http.specs.Link.{Follows, IsAccepted, LinkIdles, beside, len
 ghost use Rattle.ml_http.specs.Routes.{pair_bytes};
 ghost use Rattle.ml_editor.specs.Faults.{IsRemoveFault, IsRemoval};
 ghost use Rattle.ml_editor.specs.declared.edit.Edit.TheVariants.{Remove as Removes};
+ghost use Rattle.ml_http.specs.Replies.{json_reply as json_reply_text};
+ghost use Rattle.ml_answer.specs.Edit.{edit_text};
 ghost use Rattle.ml_http.specs.Step.{IsEdited, IsEditAnswered};
 ghost use Rattle.ml_http.specs.declared.route.EditRoute.TheVariants as edits;
 
@@ -175,6 +177,14 @@ fn remove_id<W: Watcher, L: Ledger>(
     }
 }
 
+// The reply to an edit that is ready.
+fn accepted_reply(alloc: Global, ready: &Ready, closes: bool) -> Result<Vec<u8>, AllocError>
+    ensures { IfOk result (λ bytes. bytes.items ≡ json_reply_text 200 closes (edit_text ready.now.rev ready.now.changes)) }
+{
+    let text = edit_json(alloc, ready.rev(), ready.changes())?;
+    json_reply(alloc, StatusCode::OK, closes, text.as_slice())
+}
+
 // Makes the reply to an edit that is ready, and then drops the tiles that show what it changes and
 // carries it out, which cannot fail.
 fn accept<W: Watcher>(
@@ -193,8 +203,7 @@ fn accept<W: Watcher>(
     ensures memory { OnErr result ((editor.new.state ≡ editor.old.state) × (crowd.new ≡ crowd.old) × (tiles.new ≡ tiles.old)) }
 {
     let _before = editor.rev();
-    let text = edit_json(alloc, ready.rev(), ready.changes())?;
-    let reply = json_reply(alloc, StatusCode::OK, closes, text.as_slice())?;
+    let reply = accepted_reply(alloc, &ready, closes)?;
     forget_changes(editor, tiles, &ready);
     editor.commit(ready, crowd);
     Ok(reply)

@@ -25,11 +25,7 @@ returns-clause-ok g c =
         cost = of_state.cost;
         reply =
             c.in_ok-reply.ensures
-            ∙ ap (λ t. json_reply 200 c.args.closes t)
-            (c.as_slice.ensures
-            ∙ c.in_ok-text.ensures
-            ∙ ap (λ changes. edit_text c.rev.result changes) c.changes.ensures
-            ∙ ap (λ r. edit_text r ready.changes) (c.rev.ensures ∙ of_state.rev ∙ sym (ap (λ s. s.rev) c.commit.ensures.step)));
+            ∙ ap (λ r. json_reply 200 c.args.closes (edit_text r ready.changes)) (of_state.rev ∙ sym (ap (λ s. s.rev) c.commit.ensures.step));
         work = refl;
       };
       hears = c.commit.ensures.told;
