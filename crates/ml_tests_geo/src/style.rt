@@ -1,9 +1,8 @@
 //! Whole styles, and styles with one thing wrong, with the answers that the format gives them. A case
 //! is a line, what is given before the arrow and what is wanted behind it; `|` stands for a new line.
 ghost use Rattle.ml_ratio.specs.Feature.{IsScalar};
-ghost use Rattle.ml_ratio.specs.Geometry.{IsSomeGeometry};
 
-use crate::cases::{Subject, each_holds};
+use crate::cases::{Subject, each_holds, feature_of};
 use ml_ratio::{Feature, Geometry, Pos, Prop, Scalar, Seq, Text};
 use ml_style::{Class, Font, Kind, SAMPLE, Style, StyleFault, class_of, read_style};
 use std::alloc::Global;
@@ -196,6 +195,12 @@ place  => 1
 name city => 1
 place null => 1";
 
+/// A shape, and its class in the sample.
+const SHAPES: &str = "\
+Point [0,0] => 1
+LineString [[0,0],[0,0]] => 2
+Polygon [[[0,0],[0,0],[0,0],[0,0]]] => 3";
+
 /// A property of a point, and its class where flags are asked for.
 const IN_FLAGGED: &str = "river true => 1
 river false => none
@@ -300,12 +305,20 @@ fn row_of(class: &Class) -> (Kind, u32, u32, u64, bool) {
     )
 }
 
+/// Whether the class of this number, or none, is what [`CLASSES`] says.
+fn is_as_told(style: &Style, number: usize) -> bool {
+    match (style.classes().get(number), CLASSES.get(number)) {
+        (Some(class), Some(row)) => row_of(class) == *row,
+        (None, None) => true,
+        _ => false,
+    }
+}
+
 #[test]
 fn the_sample_is_read(rt: HostRuntime) {
     let style = sample(&rt, rt.alloc());
-    assert!(rt; style.classes().len() == CLASSES.len());
-    for (class, want) in style.classes().as_slice().iter().zip(CLASSES) {
-        assert!(rt; row_of(class) == want);
+    for number in 0..5 {
+        assert!(rt; is_as_told(&style, number));
     }
 }
 
@@ -492,49 +505,32 @@ fn points_have_the_first_class_that_applies(rt: HostRuntime) {
     each_holds::<InFlagged>(&rt, alloc, IN_FLAGGED)
 }
 
-/// A feature of this shape without properties.
-fn bare(rt: &impl Abort, alloc: Global, geometry: Option<Geometry>) -> Feature
-    requires { IsSomeGeometry geometry }
-{
+/// A feature without a shape and properties.
+fn bare(rt: &impl Abort, alloc: Global) -> Feature {
     Feature {
         id: Text::of(alloc, "f").expect(rt, "memory"),
-        geometry,
+        geometry: None,
         props: Seq::new(alloc),
     }
 }
 
-/// The class that the sample gives a feature of this shape without properties.
-fn class_for(rt: &impl Abort, alloc: Global, geometry: Option<Geometry>) -> Option<usize>
-    requires { IsSomeGeometry geometry }
-{
-    let feature = bare(rt, alloc, geometry);
-    class_in(rt, alloc, SAMPLE, &feature)
+/// Shapes without properties, and their classes in the sample.
+struct OfShape;
+
+impl Subject for OfShape {
+    fn holds(rt: &impl Abort, alloc: Global, input: &str, want: &str) -> bool {
+        let feature = feature_of(rt, alloc, input);
+        class_in(rt, alloc, SAMPLE, &feature) == want.parse::<usize>().ok()
+    }
 }
 
 #[test]
 fn shapes_have_classes_of_their_kinds(rt: HostRuntime) {
-    let place = Pos { x: 0, y: 0 };
-    assert_eq!(rt;
-        class_for(&rt, rt.alloc(), Some(Geometry::Point(place))),
-        Some(1)
-    );
-    let mut line = Seq::new(rt.alloc());
-    line.push(place).expect(&rt, "memory");
-    assert_eq!(rt;
-        class_for(&rt, rt.alloc(), Some(Geometry::LineString(line))),
-        Some(2)
-    );
-    assert_eq!(rt; class_for(&rt, rt.alloc(), None), None);
+    each_holds::<OfShape>(&rt, rt.alloc(), SHAPES)
 }
 
 #[test]
-fn areas_have_their_class(rt: HostRuntime) {
-    let place = Pos { x: 0, y: 0 };
-    let ring = Seq::of_vec(vec![in rt.alloc(); place, place, place, place].expect(&rt, "memory"));
-    let mut rings = Seq::new(rt.alloc());
-    rings.push(ring).expect(&rt, "memory");
-    assert_eq!(rt;
-        class_for(&rt, rt.alloc(), Some(Geometry::Polygon(rings))),
-        Some(3)
-    );
+fn a_feature_without_a_shape_has_no_class(rt: HostRuntime) {
+    let feature = bare(&rt, rt.alloc());
+    assert!(rt; class_in(&rt, rt.alloc(), SAMPLE, &feature).is_none());
 }

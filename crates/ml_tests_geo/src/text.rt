@@ -3,8 +3,8 @@ ghost use Rattle.std.specs.Prelude.{◌≤◌};
 
 use crate::cases::{Subject, count, each_holds, lines_of};
 use ml_ratio::Text;
-use ml_style::{Font, read_style};
-use ml_text::{clusters, label_text, width};
+use ml_style::{Font, Style, read_style};
+use ml_text::{Cluster, clusters, label_text, width};
 use std::alloc::Global;
 use std::process::Abort;
 
@@ -50,18 +50,31 @@ const MEASURES: &str = "\
 20 \u{1f469}\u{200d}\u{1f469}\u{200d}\u{1f467} => 50 \u{1f469}\u{200d}\u{1f469}\u{200d}\u{1f467}| 2500
 20 \u{1112}\u{1161}\u{11ab}\u{ac00}\u{11a8} => 50 \u{1112}\u{1161}\u{11ab}|\u{ac00}\u{11a8}| 2500";
 
-/// The clusters of a text, each ended by a stroke, and the sum of their advances.
-fn clusters_told(rt: &impl Abort, alloc: Global, font: &Font, text: &Text) -> String {
+/// Clusters, each ended by a stroke.
+fn clusters_told(rt: &impl Abort, alloc: Global, clusters: &[Cluster]) -> String {
     let mut told = String::new(alloc);
-    let mut sum: u64 = 0;
-    for cluster in clusters(alloc, font, text).expect(rt, "memory").as_slice() {
+    for cluster in clusters {
         told.push_str(cluster.text.as_str()).expect(rt, "memory");
         told.push('|').expect(rt, "memory");
+    }
+    told
+}
+
+/// The sum of the advances of clusters.
+fn advances_of(clusters: &[Cluster]) -> u64 {
+    let mut sum: u64 = 0;
+    for cluster in clusters {
         sum = sum.saturating_add(cluster.advance);
     }
-    told.push_str(&format!(in alloc; " {sum}").expect(rt, "memory"))
-        .expect(rt, "memory");
-    told
+    sum
+}
+
+/// The clusters of a text, and the sum of their advances.
+fn parts_told(rt: &impl Abort, alloc: Global, font: &Font, text: &Text) -> String {
+    let clusters = clusters(alloc, font, text).expect(rt, "memory");
+    let told = clusters_told(rt, alloc, clusters.as_slice());
+    let (told, sum) = (told.as_str(), advances_of(clusters.as_slice()));
+    format!(in alloc; "{told} {sum}").expect(rt, "memory")
 }
 
 /// The size, which has to be 1 to 256.
@@ -76,20 +89,24 @@ fn good_size(rt: &impl Abort, size: u32) -> u32
 }
 
 /// The width of a text at a size, and its clusters.
-fn measure_told(rt: &impl Abort, alloc: Global, input: &str) -> String {
+fn measure_told(rt: &impl Abort, alloc: Global, font: &Font, size: u32, text: &Text) -> String
+    requires { (1 ≤ size) × (size ≤ 256) }
+{
+    let width = width(font, size, text);
+    let told = parts_told(rt, alloc, font, text);
+    let told = told.as_str();
+    format!(in alloc; "{width} {told}").expect(rt, "memory")
+}
+
+/// The measures of the text that is written behind its size, in the font of the first class.
+fn told_in_first_class(rt: &impl Abort, alloc: Global, style: &Style, input: &str) -> String {
     let (size, text) = input.split_once(' ').expect(rt, "a size");
     let size = good_size(rt, count(rt, size));
     let text = Text::of(alloc, text).expect(rt, "memory");
-    let style = read_style(alloc, STYLE.as_bytes()).expect(rt, "a style");
-    let classes = style.classes().as_slice();
-    if classes.is_empty() {
-        panic!(rt; "a class");
+    match style.classes().get(0) {
+        Some(class) => measure_told(rt, alloc, style.font(class), size, &text),
+        None => panic!(rt; "a class"),
     }
-    let font = style.font(&classes[0]);
-    let width = width(font, size, &text);
-    let told = clusters_told(rt, alloc, font, &text);
-    let told = told.as_str();
-    format!(in alloc; "{width} {told}").expect(rt, "memory")
 }
 
 /// The measures of texts. In a case ` / ` stands for a line feed.
@@ -99,7 +116,8 @@ impl Subject for Measured {
     fn holds(rt: &impl Abort, alloc: Global, input: &str, want: &str) -> bool {
         let input = lines_of(rt, alloc, input);
         let want = lines_of(rt, alloc, want);
-        measure_told(rt, alloc, &input).as_str() == want.as_str()
+        let style = read_style(alloc, STYLE.as_bytes()).expect(rt, "a style");
+        told_in_first_class(rt, alloc, &style, &input).as_str() == want.as_str()
     }
 }
 
