@@ -1,6 +1,7 @@
 //! Whole styles, and styles with one thing wrong, with the answers that the format gives them. A case
 //! is a line, what is given before the arrow and what is wanted behind it; `|` stands for a new line.
 ghost use Rattle.ml_ratio.specs.Feature.{IsScalar};
+ghost use Rattle.ml_ratio.specs.Geometry.{IsSomeGeometry};
 
 use crate::cases::{Subject, each_holds, feature_of};
 use ml_ratio::{Feature, Geometry, Pos, Prop, Scalar, Seq, Text};
@@ -505,11 +506,13 @@ fn points_have_the_first_class_that_applies(rt: HostRuntime) {
     each_holds::<InFlagged>(&rt, alloc, IN_FLAGGED)
 }
 
-/// A feature without a shape and properties.
-fn bare(rt: &impl Abort, alloc: Global) -> Feature {
+/// A feature of this shape without properties.
+fn bare(rt: &impl Abort, alloc: Global, geometry: Option<Geometry>) -> Feature
+    requires { IsSomeGeometry geometry }
+{
     Feature {
         id: Text::of(alloc, "f").expect(rt, "memory"),
-        geometry: None,
+        geometry,
         props: Seq::new(alloc),
     }
 }
@@ -531,6 +534,16 @@ fn shapes_have_classes_of_their_kinds(rt: HostRuntime) {
 
 #[test]
 fn a_feature_without_a_shape_has_no_class(rt: HostRuntime) {
-    let feature = bare(&rt, rt.alloc());
+    let feature = bare(&rt, rt.alloc(), None);
     assert!(rt; class_in(&rt, rt.alloc(), SAMPLE, &feature).is_none());
+}
+
+// No map file writes such a line.
+#[test]
+fn a_line_of_one_position_has_its_class(rt: HostRuntime) {
+    let mut line = Seq::new(rt.alloc());
+    line.push(Pos { x: 0, y: 0 }).expect(&rt, "memory");
+    let feature = bare(&rt, rt.alloc(), Some(Geometry::LineString(line)));
+    let class = class_in(&rt, rt.alloc(), SAMPLE, &feature);
+    assert!(rt; class == Some(2));
 }
