@@ -1,0 +1,1 @@
+"""Random cases of all commands, and how they are run and compared."""

@@ -1,0 +1,41 @@
+"""One case: words, files, standard input, and what stands in their way."""
+
+from dataclasses import dataclass, field
+
+LONG_FILE = 67_108_865
+
+
+@dataclass
+class Case:
+    """`files` maps a name to its bytes, to a folder (None) or to a file of LONG_FILE bytes (int).
+
+    `words` are texts or bytes. `stdin` is what standard input brings, None where it
+    cannot be read; `pieces` are the same bytes where they come one piece after another.
+    `is_out_full` says that nothing can be printed. `links` are the bytes
+    that each connection of `serve` brings, in pieces; `is_port_taken` that another
+    program listens at its port.
+    """
+
+    kind: str
+    words: list
+    files: dict = field(default_factory=dict)
+    stdin: object = b""
+    pieces: list = None
+    is_out_full: bool = False
+    links: list = None
+    is_port_taken: bool = False
+
+
+@dataclass
+class Outcome:
+    """How a run ended: the exit code, and all that it wrote."""
+
+    status: int
+    out: bytes
+    err: bytes
+    replies: list = None
+
+    def differs_in(self, other):
+        """The names of the parts in which two outcomes differ."""
+        parts = ("status", "out", "err", "replies")
+        return [part for part in parts if getattr(self, part) != getattr(other, part)]
