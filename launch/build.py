@@ -1,0 +1,208 @@
+"""Proves and builds a crate and all below it, side by side, and keeps what is done."""
+
+import os
+import signal
+import subprocess
+import time
+from typing import NamedTuple
+
+import crates
+import machine
+import records
+import schedule
+import shown
+from faults import Fault, Interrupted, end_by
+from lane import Lanes
+
+PROGRAM = "maplabel"
+# `rt` ends with this status where its check was killed, for want of memory most likely.
+KILLED = (247, -signal.SIGKILL)
+# A check that ends sooner had little to do, so its time tells nothing of the others.
+TELLS = 4
+PAUSE = 0.2
+# The line on a terminal is made anew so often.
+LINE = 1.0
+# How long `rt` has to end once it is asked to.
+PATIENCE = 10
+
+
+class Run(NamedTuple):
+    """A check at work."""
+
+    process: subprocess.Popen
+    jobs: int
+    begun: float
+
+
+def command_of(crate, jobs):
+    """The words that prove and build a crate; a program is run on a small table as well."""
+    if crate.is_program:
+        return ["rt", "run", "--jobs", str(jobs), "--", "slots", "data/two.table"]
+    return ["rt", "lib", "--jobs", str(jobs)]
+
+
+class Build:
+    """One build."""
+
+    def __init__(self, needed, sums, lanes, view):
+        self.crates = {it.name: it for it in needed}
+        self.sums, self.lanes, self.view = sums, lanes, view
+        self.running, self.busy, self.alone = {}, set(), set()
+        self.done = {it.name for it in needed if records.is_done(it, sums[it.name])}
+        self.begun, self.lines, self.seconds = shown.now(), 0, 0.0
+        steps = {}
+        for it in needed:
+            lines = crates.lines_of(it)
+            steps[it.name] = schedule.Step(it.uses, lines, schedule.memory_for(lines))
+        self.plan = schedule.Plan(steps, machine.processors(), machine.free_memory())
+
+    def go(self):
+        """Builds all that is not done."""
+        due = 0.0
+        try:
+            while len(self.done) < len(self.crates):
+                self.start_all()
+                if shown.now() >= due:
+                    self.view.show(self.line())
+                    due = shown.now() + LINE
+                time.sleep(PAUSE)
+                self.look()
+        finally:
+            self.end_all()
+
+    def start_all(self):
+        """Begins what can begin now."""
+        self.busy.clear()
+        while True:
+            jobs_of = {name: run.jobs for name, run in self.running.items()}
+            chosen = self.plan.next(self.done, jobs_of, self.busy)
+            if not chosen or not self.has_room(chosen[0]):
+                return
+            self.start(*chosen)
+
+    def has_room(self, name):
+        """Whether a crate may begin beside those at work: one that was killed before begins alone."""
+        if not self.running:
+            return True
+        if self.alone:
+            return False
+        return self.plan.steps[name].memory <= machine.free_memory()
+
+    def start(self, name, jobs):
+        crate = self.crates[name]
+        below = [it for it in crates.needed(self.crates, name) if it.name != name]
+        if not self.lanes.open(crate, below):
+            self.busy.add(name)
+            self.view.waits(name)
+            return
+        with open(self.lanes.log(name), "wb") as log:
+            process = subprocess.Popen(
+                command_of(crate, 1 if name in self.alone else jobs), cwd=self.lanes.folder(name),
+                stdin=subprocess.DEVNULL, stdout=log, stderr=subprocess.STDOUT, pass_fds=[self.lanes.lock])
+        self.running[name] = Run(process, jobs, shown.now())
+
+    def look(self):
+        """Takes note of the checks that have ended."""
+        for name, run in list(self.running.items()):
+            status = run.process.poll()
+            if status is None:
+                continue
+            if status == -signal.SIGINT:
+                end_by(signal.SIGINT)
+            if status in KILLED and name not in self.alone:
+                self.leave(name)
+                self.alone.add(name)
+            elif status or not records.note(self.crates[name], self.sums[name], f"{self.lanes.folder(name)}/out"):
+                raise Fault(self.failure(name, run, status))
+            else:
+                self.finish(name, run)
+
+    def finish(self, name, run):
+        seconds = shown.now() - run.begun
+        if seconds > TELLS:
+            self.lines += self.plan.work(name)
+            self.seconds += seconds * schedule.SPEED[run.jobs]
+        self.leave(name)
+        self.alone.discard(name)
+        self.done.add(name)
+        self.view.ended(name, seconds, len(self.done), len(self.crates))
+
+    def leave(self, name):
+        """Ends the lane of a crate whose check has ended."""
+        del self.running[name]
+        self.lanes.close(name)
+
+    def failure(self, name, run, status):
+        """What is said where a check failed, with what the check said."""
+        kept = f"crates/{name}/out/build.log"
+        with open(self.lanes.log(name), encoding="utf-8", errors="replace") as log:
+            said = log.read()
+        os.makedirs(f"{self.lanes.folder(name)}/out", exist_ok=True)
+        with open(f"{self.lanes.folder(name)}/out/build.log", "w", encoding="utf-8") as file:
+            file.write(said)
+        told = [it for it in said.rstrip("\n").split("\n") if not is_progress(it)]
+        words = " ".join(run.process.args)
+        return "\n".join([f"`{words}` failed in crates/{name} with status {status} (its log: {kept}):", *told])
+
+    def line(self):
+        """The line that tells where the build is."""
+        seconds, left = shown.now() - self.begun, None
+        if self.seconds:
+            running = {name: (run.jobs, shown.now() - run.begun) for name, run in self.running.items()}
+            left = self.plan.seconds_left(self.done, running, self.lines / self.seconds)
+        return shown.line_of(len(self.done), len(self.crates), list(self.running), seconds, left)
+
+    def end_all(self):
+        """Ends what is at work; `rt` ends its provers, and what they have done so far stays in their lanes."""
+        for run in self.running.values():
+            run.process.terminate()
+        for run in self.running.values():
+            try:
+                run.process.wait(PATIENCE)
+            except subprocess.TimeoutExpired:
+                run.process.kill()
+                run.process.wait()
+
+
+def is_progress(line):
+    """Whether a line of a check's log tells only how far it was."""
+    return line.startswith(("checked ", "so far:")) or line.startswith("fn ") and line.endswith(": proved")
+
+
+def is_built(needed, kit):
+    """Whether the last of these crates was built from the texts as they stand."""
+    return records.is_done(needed[-1], crates.digests(needed, kit)[needed[-1].name])
+
+
+def make(needed, kit, lanes, view):
+    """Builds what is not done of these crates, from one copy of their texts."""
+    lanes.copy_text(needed)
+    sums = crates.digests([it._replace(folder=f"{lanes.text}/{it.name}") for it in needed], kit)
+    made, clock = Build(needed, sums, lanes, view), shown.now()
+    left = len(needed) - len(made.done)
+    view.tell(f"maplabel: proves and builds {left} crates first; README.md, \"Quick start\", tells how long that takes")
+    try:
+        made.go()
+    except Interrupted:
+        view.tell("maplabel: what is done is kept, and the next start goes on from there")
+        raise
+    view.tell(f"maplabel: proved and built in {shown.clock(shown.now() - clock)}")
+
+
+def build(top, view, target=PROGRAM):
+    """Proves and builds the target where that is not done, and returns whether there was something to do."""
+    begun, kit = time.time_ns(), crates.kit_version()
+    needed = crates.needed(crates.read(top), target)
+    has_work = not is_built(needed, kit)
+    if has_work:
+        with Lanes(top) as lanes:
+            # (another launcher may have built it while this one waited)
+            begun = time.time_ns()
+            has_work = not is_built(needed, kit)
+            if has_work:
+                make(needed, kit, lanes, view)
+    program = f"{top}/crates/{target}/out/{target}"
+    if os.path.isfile(program):
+        # it counts as built when its sources were read, so that a later edit is seen
+        os.utime(program, ns=(begun, begun))
+    return has_work
