@@ -5,7 +5,7 @@ use Rattle.std.proofs.Math.ListN.{get_or-append}
 use Rattle.std.proofs.lemmas.Grind.{flat_map-append}
 use Rattle.std.proofs.lemmas.List.{append-nil, map-append, get_or-append-add}
 use Rattle.std.proofs.lemmas.List.Elements.{All-append, All-cons, All-nil}
-use Rattle.ml_io.specs.Causes.{Appends, AppendsPart}
+use Rattle.ml_io.specs.Causes.{one_more, Appends, AppendsPart}
 use Rattle.ml_follow.specs.Follower.{IsOfferFault}
 use Rattle.ml_follow.specs.declared.fault.OfferFault.{OfferFault}
 use Rattle.ml_follow.specs.declared.fault.OfferFault.TheVariants.{Stale, NotBest, Memory}
@@ -95,31 +95,33 @@ answered_more hearing twice a b c states answers state answer u v w so_far next 
 }
 
 -- the first of the states were offered and all their lines printed; these are left
-pub record SoFar {W : Type 0} (hearing : W → Hearing) (held : Option State) (states rest : List State) (held_now : Option State) (crowd crowd_now : List W) (written written_now : Option (List ℕ)) (all : Bool) : Type 0 where
+pub record SoFar {W : Type 0} (hearing : W → Hearing) (held : Option State) (states rest : List State) (held_now : Option State) (crowd crowd_now : List W) (written written_now : Option (List ℕ)) (writes writes_now : ℕ) (all : Bool) : Type 0 where
   pub front : List State
   pub are : states ≡ front ++ rest
   pub answers : List Offered
   pub answered : AreAnswered hearing held front answers held_now crowd crowd_now
   pub wrote : Appends written written_now (joined (lines_of answers))
   pub told : MatchBool all (AllAdopted answers) (SomeNotAdopted answers)
+  pub calm : writes_now ≡ writes
 
-pub at_start : {W : Type 0} (hearing : W → Hearing) (held : Option State) (states : List State) (crowd : List W) (written : Option (List ℕ)) → AllHear hearing [] crowd crowd
-    → SoFar hearing held states states held crowd crowd written written true
-at_start hearing held states crowd written nothing = record {
+pub at_start : {W : Type 0} (hearing : W → Hearing) (held : Option State) (states : List State) (crowd : List W) (written : Option (List ℕ)) (writes : ℕ) → AllHear hearing [] crowd crowd
+    → SoFar hearing held states states held crowd crowd written written writes writes true
+at_start hearing held states crowd written writes nothing = record {
   front = [];
   are = refl;
   answers = [];
   answered = record { offers = refl; hears = nothing };
   wrote = printed_nothing written;
   told = All-nil (λ a. a.adopted ≡ true);
+  calm = refl;
 }
 
-module _ {W : Type 0} (hearing : W → Hearing) (twice : HearTwice hearing) (held : Option State) (states : List State) (state : State) (rest : List State) (held_now : Option State) (crowd crowd_now : List W) (written written_now : Option (List ℕ)) (all : Bool)
-    (so_far : SoFar hearing held states (state ∷ rest) held_now crowd crowd_now written written_now all) (held_after : Option State) (crowd_after : List W) (written_after : Option (List ℕ)) (writes writes_after : ℕ) where
+module _ {W : Type 0} (hearing : W → Hearing) (twice : HearTwice hearing) (held : Option State) (states : List State) (state : State) (rest : List State) (held_now : Option State) (crowd crowd_now : List W) (written written_now : Option (List ℕ)) (writes writes_now : ℕ) (all : Bool)
+    (so_far : SoFar hearing held states (state ∷ rest) held_now crowd crowd_now written written_now writes writes_now all) (held_after : Option State) (crowd_after : List W) (written_after : Option (List ℕ)) (writes_after : ℕ) where
   -- one state more, with its line
-  pub one_more : (adopted : Bool) → IsTurn hearing held_now state held_after crowd_now crowd_after written_now written_after writes writes_after (Ok adopted)
-      → SoFar hearing held states rest held_after crowd crowd_after written written_after (all && adopted)
-  one_more adopted (answer, (offer, heard), wrote, says) = record {
+  pub next_turn : (adopted : Bool) → IsTurn hearing held_now state held_after crowd_now crowd_after written_now written_after writes_now writes_after (Ok adopted)
+      → SoFar hearing held states rest held_after crowd crowd_after written written_after writes writes_after (all && adopted)
+  next_turn adopted (answer, (offer, heard), wrote, says, calm) = record {
     front = so_far.front ++ state ∷ [];
     are = so_far.are ∙ sym (append_assoc so_far.front (state ∷ []) rest);
     answers = so_far.answers ++ answer ∷ [];
@@ -127,12 +129,13 @@ module _ {W : Type 0} (hearing : W → Hearing) (twice : HearTwice hearing) (hel
     wrote = subst (λ text. Appends written written_after text) (sym (ap joined (lines_more so_far.answers answer) ∙ joined_more (lines_of so_far.answers) answer.line))
         (printed_on written written_now written_after (joined (lines_of so_far.answers)) answer.line so_far.wrote wrote);
     told = told_more all adopted so_far.answers answer says so_far.told;
+    calm = calm ∙ so_far.calm;
   }
 
   -- one state more, with a part of its line; or memory was wanting for it
-  pub halted_at : (earlier : ℕ) → earlier ≤ writes → (why : Halt) → IsTurn hearing held_now state held_after crowd_now crowd_after written_now written_after writes writes_after (Err why)
-      → AreOffered hearing held states held_after crowd crowd_after written written_after earlier writes_after (Err why)
-  halted_at earlier later halt.WriteFault (answer, (offer, heard), part, rose) = (
+  pub halted_at : (why : Halt) → IsTurn hearing held_now state held_after crowd_now crowd_after written_now written_after writes_now writes_after (Err why)
+      → AreOffered hearing held states held_after crowd crowd_after written written_after writes writes_after (Err why)
+  halted_at halt.WriteFault (answer, (offer, heard), part, failed) = (
     record {
       front = so_far.front ++ state ∷ [];
       rest = rest;
@@ -141,21 +144,24 @@ module _ {W : Type 0} (hearing : W → Hearing) (twice : HearTwice hearing) (hel
       answered = answered_more hearing twice held held_now held_after so_far.front so_far.answers state answer crowd crowd_now crowd_after so_far.answered offer heard;
       printed = subst (λ texts. IsCut written written_after texts) (sym (lines_more so_far.answers answer)) (cut_after_all written written_now written_after (lines_of so_far.answers) answer.line so_far.wrote part);
     },
-    omega (arith, rose),
+    failed ∙ ap one_more so_far.calm,
   )
-  halted_at earlier later halt.Memory (same_held, same_crowd, same_written) = record {
-    front = so_far.front;
-    rest = state ∷ rest;
-    are = so_far.are;
-    answers = so_far.answers;
-    answered = rw (same_held, same_crowd) so_far.answered;
-    printed = rw same_written so_far.wrote;
-  }
+  halted_at halt.Memory (same_held, same_crowd, same_written, same_writes) = (
+    record {
+      front = so_far.front;
+      rest = state ∷ rest;
+      are = so_far.are;
+      answers = so_far.answers;
+      answered = rw (same_held, same_crowd) so_far.answered;
+      printed = rw same_written so_far.wrote;
+    },
+    same_writes ∙ so_far.calm,
+  )
 
 -- none is left
 pub at_end : {W : Type 0} (hearing : W → Hearing) (held : Option State) (states rest : List State) (held_now : Option State) (crowd crowd_now : List W) (written written_now : Option (List ℕ)) (writes writes_now : ℕ) (all : Bool)
-    → rest ≡ [] → SoFar hearing held states rest held_now crowd crowd_now written written_now all
+    → rest ≡ [] → SoFar hearing held states rest held_now crowd crowd_now written written_now writes writes_now all
     → AreOffered hearing held states held_now crowd crowd_now written written_now writes writes_now (Ok all)
 at_end hearing held states rest held_now crowd crowd_now written written_now writes writes_now all none so_far =
     let are : states ≡ so_far.front = so_far.are ∙ ap (λ xs. so_far.front ++ xs) none ∙ append-nil so_far.front in
-    (so_far.answers, rw are so_far.answered, so_far.wrote, so_far.told)
+    (so_far.answers, rw are so_far.answered, so_far.wrote, so_far.told, so_far.calm)

@@ -1,16 +1,14 @@
-pub mod Accepted
-pub mod Answering
-pub mod Chosen
-pub mod EndsWell
-pub mod MapViewing
-pub mod MapLines
-pub mod ShownMore
-pub mod FormLemmas
-pub mod ZoomLemmas
-pub mod GapLemmas
-pub mod Stopping
-pub mod ServesWell
-pub mod Makings
-pub mod FollowLemmas
-pub mod FollowEnds
-pub mod FollowsWell
+mod Accepted
+mod Chosen
+mod CommandLemmas
+mod Completeness
+mod FollowEnds
+mod FollowLemmas
+mod GapLemmas
+mod Makings
+mod MapLines
+mod MapViewing
+mod RunLemmas
+mod ShownMore
+mod WordLemmas
+mod ZoomLemmas

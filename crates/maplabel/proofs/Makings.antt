@@ -8,7 +8,6 @@ use Rattle.maplabel.specs.declared.stop.Stop.{Stop}
 use Rattle.maplabel.specs.declared.stop.Stop.TheVariants as stop
 
 pub sample_refused : (bytes : List ℕ) (fault : StyleFault) (s : Stop) → bytes ≡ sample_style → style_answer.IsRefusal bytes fault → IsStyleRefusal fault s → IsMakingStop s
-sample_refused bytes fault stop.Usage same refuses told = told
 sample_refused bytes fault (stop.StyleRefused line) same refuses told = (fault, subst (λ b. style_answer.IsRefusal b fault) same refuses, told)
 sample_refused bytes fault (stop.InputRefused line) same refuses told = told
 sample_refused bytes fault stop.FileFault same refuses told = told

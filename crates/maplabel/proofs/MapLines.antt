@@ -17,7 +17,6 @@ use Rattle.ml_label.specs.Labels.{AreLabelsOf}
 use Rattle.ml_style.specs.declared.style.Style.{Style}
 use Rattle.ml_store.specs.Rows.{labels_in, slots_in, numbers_in, number_at, HaveOwnNumbers}
 use Rattle.ml_store.specs.declared.row.Row.{Row}
-use Rattle.ml_repair.proofs.OneRow.{one_number}
 use Rattle.ml_editor.specs.State.{State, first_state}
 use Rattle.ml_answer.specs.MapView.{IsViewText, json_body, shown_of}
 use Rattle.ml_answer.specs.View.{view_text}
@@ -84,7 +83,11 @@ module _ (rows : List Row) (are : AreSlots (number_at rows) (labels_in rows) (sl
         },
       )
 
-module _ (rows : List Row) (own : HaveOwnNumbers rows) (slots : List Slot) (untils : (i : ℕ) → (get_or (slots_in rows) i no_slot).until ≡ (get_or slots i no_slot).until) where
+-- that no two live labels have one number
+abbrev pub OneRowANumber : Type 0
+OneRowANumber = (rows : List Row) (one other : Row) → HaveOwnNumbers rows → Contains rows one → Contains rows other → one.number ≡ other.number → one ≡ other
+
+module _ (one_row : OneRowANumber) (rows : List Row) (own : HaveOwnNumbers rows) (slots : List Slot) (untils : (i : ℕ) → (get_or (slots_in rows) i no_slot).until ≡ (get_or slots i no_slot).until) where
   many_labels : length (labels_in rows) ≡ length rows
   many_labels = length-map rows (λ r. r.label)
 
@@ -95,7 +98,7 @@ module _ (rows : List Row) (own : HaveOwnNumbers rows) (slots : List Slot) (unti
       let s : Row = get_or rows p row in
       let in_s : Contains rows s = (p, in_rows, get_or_default rows p s row in_rows) in
       let its : number_at rows p ≡ s.number = get_or-map (λ r. r.number) rows p row 0 in_rows in
-      let at : s ≡ row = one_number rows s row in_s there own (sym its ∙ sym number) in
+      let at : s ≡ row = one_row rows s row own in_s there (sym its ∙ sym number) in
       let label : row.label ≡ get_or (labels_in rows) p row.label = sym (get_or-map (λ r. r.label) rows p row row.label in_rows ∙ ap (λ r. r.label) at) in
       let slot : get_or (slots_in rows) p no_slot ≡ row.slot = get_or-map (λ r. r.slot) rows p row no_slot in_rows ∙ ap (λ r. r.slot) at in
       let until : (get_or slots p no_slot).until ≡ row.slot.until = sym (untils p) ∙ ap (λ s. s.until) slot in
@@ -116,13 +119,13 @@ module _ (rows : List Row) (own : HaveOwnNumbers rows) (slots : List Slot) (unti
       ap (λ o. cons_option o (filter_map (shown_at (labels_in rows) slots) places)) first ∙ ap (λ ss. shown_of r ∷ ss) rest
 
 -- the text of a view and the end of a line are the line of the view
-pub map_lined : (classes : Style) (features : List Feature) (s : State) (view : View) (text line : List ℕ) → s ≡ first_state classes features → IsViewText json_body s view text → line ≡ text ++ codes "\n" → IsMapView classes features view line
-map_lined classes features s view text line is (rows, its, (shown, are, body)) end =
+pub map_lined : OneRowANumber → (classes : Style) (features : List Feature) (s : State) (view : View) (text line : List ℕ) → s ≡ first_state classes features → IsViewText json_body s view text → line ≡ text ++ codes "\n" → IsMapView classes features view line
+map_lined one_row classes features s view text line is (rows, its, (shown, are, body)) end =
     let placed = slots_by_place rows its.settled.slots in
     let places = are.numbers.places in
     let sound = are.numbers.shown.sound in
     let within : All (λ p. p < length (labels_in rows)) places = (λ k d lt. subst (λ p. p < length (labels_in rows)) (get_or_default places k 0 d lt) (sound k lt).0) in
-    let same = shown_rows rows its.settled.own_numbers placed.0 placed.1.same_untils places shown within are.among are.numbers.numbers_are in (
+    let same = shown_rows one_row rows its.settled.own_numbers placed.0 placed.1.same_untils places shown within are.among are.numbers.numbers_are in (
       labels_in rows,
       subst (λ (t : State). AreLabelsOf t.style t.features (labels_in rows)) is its.labels,
       record {

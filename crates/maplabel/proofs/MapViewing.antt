@@ -1,7 +1,7 @@
 -- From the readers of styles and maps to what is asked of a map.
-use Rattle.std.proofs.Common.{◌≡◌, ℕ, ◌<◌, ◌≤◌, List, length, Result, Ok, Err, IfErr, inr, sym, arith}
+use Rattle.std.proofs.Common.{◌≡◌, ℕ, ◌<◌, List, length, Result, Ok, Err, IfErr, inr, sym, ap, ◌∙◌}
 use Rattle.std.specs.Result.{IsErrAnd}
-use Rattle.ml_io.specs.Causes.{Rose}
+use Rattle.ml_io.specs.Causes.{one_more}
 use Rattle.ml_io.specs.Files.{Seen, IsLoaded}
 use Rattle.ml_ratio.specs.declared.feature.Feature.{Feature}
 use Rattle.ml_style.specs.Answer.{IsRefusal}
@@ -16,7 +16,6 @@ use Rattle.maplabel.specs.declared.stop.Stop.TheVariants as stop
 
 -- a refused style
 pub style_stopped : (seen : Seen) (name bytes : List ℕ) (fault : StyleFault) (s : Stop) → IsLoaded seen.told name most_bytes bytes → IsRefusal bytes fault → IsStyleRefusal fault s → IsStyleStop seen name s
-style_stopped seen name bytes fault stop.Usage loaded refused h = absurd h
 style_stopped seen name bytes fault (stop.StyleRefused line) loaded refused h = (bytes, fault, loaded, refused, h)
 style_stopped seen name bytes fault (stop.InputRefused line) loaded refused h = absurd h
 style_stopped seen name bytes fault stop.FileFault loaded refused h = absurd h
@@ -25,7 +24,6 @@ style_stopped seen name bytes fault stop.Memory loaded refused h = tt
 
 -- a map of too many features
 pub map_full : (seen : Seen) (name bytes : List ℕ) (features : List Feature) (s : Stop) → IsLoaded seen.told name most_bytes bytes → IsMap bytes features → most_features < length features → IsInputRefusal IsFullLine s → IsMapStop seen name s
-map_full seen name bytes features stop.Usage loaded is more h = absurd h
 map_full seen name bytes features (stop.StyleRefused line) loaded is more h = absurd h
 map_full seen name bytes features (stop.InputRefused line) loaded is more h = inr (bytes, features, loaded, is, more, h)
 map_full seen name bytes features stop.FileFault loaded is more h = absurd h
@@ -42,16 +40,15 @@ since one two = record {
   name_after = two.name_after;
 }
 
--- a count that rose since between rose since before
-map_earlier : (one two : Seen) (name : List ℕ) (s : Stop) → two.told ≡ one.told → one.faults_before ≤ two.faults_before → IsMapStop two name s → IsMapStop (since one two) name s
-map_earlier one two name stop.Usage same later h = h
-map_earlier one two name (stop.StyleRefused line) same later h = h
-map_earlier one two name (stop.InputRefused line) same later h = rw same at h
-map_earlier one two name stop.FileFault same later h = (let rose : Rose two.faults_before two.faults_after = h.0 in let from : Rose one.faults_before two.faults_after = omega arith in (from, h.1))
-map_earlier one two name stop.TooLong same later h = rw same at h
-map_earlier one two name stop.Memory same later h = tt
+-- a load that failed since between failed since before, where none had failed between
+map_earlier : (one two : Seen) (name : List ℕ) (s : Stop) → two.told ≡ one.told → two.faults_before ≡ one.faults_before → IsMapStop two name s → IsMapStop (since one two) name s
+map_earlier one two name (stop.StyleRefused line) same calm h = h
+map_earlier one two name (stop.InputRefused line) same calm h = rw same at h
+map_earlier one two name stop.FileFault same calm h = (h.0 ∙ ap one_more calm, h.1)
+map_earlier one two name stop.TooLong same calm h = rw same at h
+map_earlier one two name stop.Memory same calm h = tt
 
 -- a map that was not read after its style was
-pub map_stopped : {A : Type 0} (one two : Seen) (style map : List ℕ) (classes : Style) (answer : Result A Stop) (s : Stop) → two.told ≡ one.told → one.faults_before ≤ two.faults_before → HasStyle one.told style classes → IsErrAnd answer (λ e. e ≡ s) → IsMapStop two map s → IfErr answer (IsMapAnswerStop (since one two) style map)
-map_stopped one two style map classes (Ok a) s same later has is h = tt
-map_stopped one two style map classes (Err e) s same later has is h = inr (classes, has, map_earlier one two map e same later (rw (sym is) at h))
+pub map_stopped : {A : Type 0} (one two : Seen) (style map : List ℕ) (classes : Style) (answer : Result A Stop) (s : Stop) → two.told ≡ one.told → two.faults_before ≡ one.faults_before → HasStyle one.told style classes → IsErrAnd answer (λ e. e ≡ s) → IsMapStop two map s → IfErr answer (IsMapAnswerStop (since one two) style map)
+map_stopped one two style map classes (Ok a) s same calm has is h = tt
+map_stopped one two style map classes (Err e) s same calm has is h = inr (classes, has, map_earlier one two map e same calm (rw (sym is) at h))

@@ -1,7 +1,8 @@
 -- States of a file that are offered to a follower, one after another, and what is printed of them.
 use Rattle.std.specs.Prelude.{◌≡◌, ◌⊎◌, ℕ, Bool, true, false, List, [], ◌∷◌, ◌++◌, length, map, flat_map, All, Any, codes, decimal, Option, Some, None}
-use Rattle.ml_io.specs.Causes.{Rose, Appends}
-use Rattle.ml_io.specs.Files.{FileSet, Seen, KeptName, IsLoaded}
+use Rattle.ml_io.specs.Calls.{Put}
+use Rattle.ml_io.specs.Causes.{one_more, Appends}
+use Rattle.ml_io.specs.Files.{FileSet, Seen, IsLoaded}
 use Rattle.ml_cert.specs.Judged.{IsVerdict}
 use Rattle.ml_cert.specs.declared.verdict.Verdict.{Verdict}
 use Rattle.ml_follow.specs.Changes.{AreChanges}
@@ -14,19 +15,10 @@ use Rattle.ml_http.specs.Connection.{IsCut}
 use Rattle.ml_watch.specs.Hearing.{Hearing, AllHear}
 use Rattle.ml_watch.specs.declared.change.Change.{Change}
 use Rattle.maplabel.specs.FollowLines.{spelled_ids, adopted_line, stale_line, refused_line, held_line}
-use Rattle.maplabel.specs.Inputs.{most_bytes, IsNoLine, IsReadStop, StopKeeps}
-use Rattle.maplabel.specs.Serving.{IsStopPrinted}
+use Rattle.maplabel.specs.Inputs.{most_bytes, IsNoLine, IsReadStop}
 use Rattle.maplabel.specs.declared.status.Status.{Status}
 use Rattle.maplabel.specs.declared.status.Status.TheVariants.{Done, NotBest, Usage, StyleRefused, InputRefused, FileFault, ReadFault, WriteFault, DoorFault, Memory, TooLong, NotAdopted}
 use Rattle.maplabel.specs.declared.stop.Stop.{Stop}
-
--- the words ask for the states of this file to be followed
-abbrev pub AskFollow : List (List ℕ) → List ℕ → Type 0
-AskFollow words name = words ≡ codes "follow" ∷ name ∷ []
-
--- the words ask for the states of some file to be followed
-abbrev pub IsFollow : List (List ℕ) → Type 0
-IsFollow words = (name : List ℕ) × AskFollow words name
 
 -- what an offered state is answered: its line, whether it was adopted, and the changes that the watchers are told
 pub record Offered : Type 0 where
@@ -98,36 +90,37 @@ pub record Following (states : List State) : Type 0 where
   pub held : Option State
   pub offers : Offers None offered answers held
 
--- all states were offered, and all lines were printed
-pub record IsPrintedWhole {states : List State} (f : Following states) (written written_after : Option (List ℕ)) : Type 0 where
+-- all states were offered, and all lines were printed; the output did not fail
+pub record IsPrintedWhole {states : List State} (f : Following states) (out : Put) : Type 0 where
   pub all : f.rest ≡ []
-  pub wrote : Appends written written_after (joined (lines_of f.answers) ++ held_line f.held)
+  pub wrote : Appends out.written out.written_after (joined (lines_of f.answers) ++ held_line f.held)
+  pub calm : out.faults_after ≡ out.faults
 
--- the lines of what was offered were printed, but of the last line a part that is not the whole
-abbrev pub IsPrintedInPart : {states : List State} → Following states → Option (List ℕ) → Option (List ℕ) → Type 0
-IsPrintedInPart f written written_after =
-    IsCut written written_after (lines_of f.answers)
-    ⊎ ((f.rest ≡ []) × IsCut written written_after (lines_of f.answers ++ held_line f.held ∷ []))
+-- the lines of what was offered were printed, but of the last line a part that is not the whole, since the output failed once
+pub record IsPrintedInPart {states : List State} (f : Following states) (out : Put) : Type 0 where
+  pub wrote : IsCut out.written out.written_after (lines_of f.answers)
+      ⊎ ((f.rest ≡ []) × IsCut out.written out.written_after (lines_of f.answers ++ held_line f.held ∷ []))
+  pub failed : out.faults_after ≡ one_more out.faults
 
 -- how following ended: all states were offered and adopted, or all were offered and not all adopted; or, after some of them, the output failed or memory was wanting
-abbrev pub IsEndOfFollowing : {states : List State} → Following states → Option (List ℕ) → Option (List ℕ) → ℕ → ℕ → Status → Type 0
-IsEndOfFollowing f written written_after writes writes_after Done = IsPrintedWhole f written written_after × AllAdopted f.answers
-IsEndOfFollowing f written written_after writes writes_after NotAdopted = IsPrintedWhole f written written_after × SomeNotAdopted f.answers
-IsEndOfFollowing f written written_after writes writes_after WriteFault = IsPrintedInPart f written written_after × Rose writes writes_after
-IsEndOfFollowing f written written_after writes writes_after Memory = Appends written written_after (joined (lines_of f.answers))
-IsEndOfFollowing f written written_after writes writes_after NotBest = ⊥
-IsEndOfFollowing f written written_after writes writes_after Usage = ⊥
-IsEndOfFollowing f written written_after writes writes_after StyleRefused = ⊥
-IsEndOfFollowing f written written_after writes writes_after InputRefused = ⊥
-IsEndOfFollowing f written written_after writes writes_after FileFault = ⊥
-IsEndOfFollowing f written written_after writes writes_after ReadFault = ⊥
-IsEndOfFollowing f written written_after writes writes_after DoorFault = ⊥
-IsEndOfFollowing f written written_after writes writes_after TooLong = ⊥
+abbrev pub IsEndOfFollowing : {states : List State} → Following states → Put → Status → Type 0
+IsEndOfFollowing f out Done = IsPrintedWhole f out × AllAdopted f.answers
+IsEndOfFollowing f out NotAdopted = IsPrintedWhole f out × SomeNotAdopted f.answers
+IsEndOfFollowing f out WriteFault = IsPrintedInPart f out
+IsEndOfFollowing f out Memory = Appends out.written out.written_after (joined (lines_of f.answers)) × (out.faults_after ≡ out.faults)
+IsEndOfFollowing f out NotBest = ⊥
+IsEndOfFollowing f out Usage = ⊥
+IsEndOfFollowing f out StyleRefused = ⊥
+IsEndOfFollowing f out InputRefused = ⊥
+IsEndOfFollowing f out FileFault = ⊥
+IsEndOfFollowing f out ReadFault = ⊥
+IsEndOfFollowing f out DoorFault = ⊥
+IsEndOfFollowing f out TooLong = ⊥
 
 -- the states were followed so: the watchers were told the changes of all that were adopted, together and in order
-pub record IsFollowed {W : Type 0} (hearing : W → Hearing) (states : List State) (crowd crowd_after : List W) (written written_after : Option (List ℕ)) (writes writes_after : ℕ) (status : Status) : Type 0 where
+pub record IsFollowed {W : Type 0} (hearing : W → Hearing) (states : List State) (crowd crowd_after : List W) (out : Put) (status : Status) : Type 0 where
   pub following : Following states
-  pub ended : IsEndOfFollowing following written written_after writes writes_after status
+  pub ended : IsEndOfFollowing following out status
   pub hears : AllHear hearing (changes_of following.answers) crowd crowd_after
 
 -- the named file holds these states
@@ -147,15 +140,3 @@ AreNoStates told name line =
 -- why the named states were not read
 abbrev pub IsStatesStop : Seen → List ℕ → Stop → Type 0
 IsStatesStop seen name s = IsReadStop IsNoLine (AreNoStates seen.told name) seen name s
-
--- the states were not read, and the line that is due was printed
-abbrev pub IsNotFollowed : Seen → List ℕ → Option (List ℕ) → Option (List ℕ) → ℕ → ℕ → Status → Type 0
-IsNotFollowed seen name written written_after writes writes_after status =
-    (s : Stop) × IsStatesStop seen name s × StopKeeps seen s × IsStopPrinted s written written_after writes writes_after status
-
--- the named file was not read, and the watchers stay as they were; or its states were followed
-abbrev pub IsFollowEnd : {W : Type 0} → (W → Hearing) → Seen → List ℕ → List W → List W → Option (List ℕ) → Option (List ℕ) → ℕ → ℕ → Status → Type 0
-IsFollowEnd hearing seen name crowd crowd_after written written_after writes writes_after status =
-    (IsNotFollowed seen name written written_after writes writes_after status × (crowd_after ≡ crowd))
-    ⊎ ((states : List State) × HasStates seen.told name states × KeptName seen
-    × IsFollowed hearing states crowd crowd_after written written_after writes writes_after status)

@@ -18,7 +18,6 @@ most_bytes = 67108864
 
 -- why a file that is due was not read: it was refused, as the line says, or it was not loaded
 abbrev pub IsReadStop : (List ℕ → Type 0) → (List ℕ → Type 0) → Seen → List ℕ → Stop → Type 0
-IsReadStop RefusesStyle RefusesInput seen name stop.Usage = ⊥
 IsReadStop RefusesStyle RefusesInput seen name (stop.StyleRefused line) = RefusesStyle line
 IsReadStop RefusesStyle RefusesInput seen name (stop.InputRefused line) = RefusesInput line
 IsReadStop RefusesStyle RefusesInput seen name stop.FileFault = FailedAt seen name
@@ -27,7 +26,6 @@ IsReadStop RefusesStyle RefusesInput seen name stop.Memory = Unit {0}
 
 -- but for a file fault, the name that failed last is the one before
 abbrev pub StopKeeps : Seen → Stop → Type 0
-StopKeeps seen stop.Usage = KeptName seen
 StopKeeps seen (stop.StyleRefused line) = KeptName seen
 StopKeeps seen (stop.InputRefused line) = KeptName seen
 StopKeeps seen stop.FileFault = Unit {0}
@@ -49,7 +47,6 @@ IsLoadStop seen name s = IsReadStop IsNoLine IsNoLine seen name s
 
 -- the stop tells a refused input by this line, or want of memory
 abbrev pub IsInputRefusal : (List ℕ → Type 0) → Stop → Type 0
-IsInputRefusal IsLine stop.Usage = ⊥
 IsInputRefusal IsLine (stop.StyleRefused line) = ⊥
 IsInputRefusal IsLine (stop.InputRefused line) = IsLine line
 IsInputRefusal IsLine stop.FileFault = ⊥

@@ -34,7 +34,6 @@ IsStyleLine Memory line = ⊥
 
 -- the stop tells a style's fault by its line, or want of memory
 abbrev pub IsStyleRefusal : StyleFault → Stop → Type 0
-IsStyleRefusal fault stop.Usage = ⊥
 IsStyleRefusal fault (stop.StyleRefused line) = IsStyleLine fault line
 IsStyleRefusal fault (stop.InputRefused line) = ⊥
 IsStyleRefusal fault stop.FileFault = ⊥

@@ -1,6 +1,6 @@
 -- What the steps of following come to.
 use Rattle.std.specs.Prelude.{◌≡◌, ℕ, Bool, List, ◌++◌, Option, Result, Ok, Err, MatchBool}
-use Rattle.ml_io.specs.Causes.{Rose, Appends, AppendsPart}
+use Rattle.ml_io.specs.Causes.{one_more, Appends, AppendsPart}
 use Rattle.ml_follow.specs.declared.state.State.{State}
 use Rattle.ml_http.specs.Connection.{IsCut}
 use Rattle.ml_watch.specs.Hearing.{Hearing, AllHear}
@@ -35,12 +35,12 @@ IsAnswered hearing held state held_after crowd crowd_after answer =
 abbrev pub IsTurn : {W : Type 0} → (W → Hearing) → Option State → State → Option State → List W → List W → Option (List ℕ) → Option (List ℕ) → ℕ → ℕ → Result Bool Halt → Type 0
 IsTurn hearing held state held_after crowd crowd_after written written_after writes writes_after (Ok adopted) =
     (answer : Offered) × IsHeardOffer hearing held state answer held_after crowd crowd_after
-    × Appends written written_after answer.line × (answer.adopted ≡ adopted)
+    × Appends written written_after answer.line × (answer.adopted ≡ adopted) × (writes_after ≡ writes)
 IsTurn hearing held state held_after crowd crowd_after written written_after writes writes_after (Err WriteFault) =
     (answer : Offered) × IsHeardOffer hearing held state answer held_after crowd crowd_after
-    × AppendsPart written written_after answer.line × Rose writes writes_after
+    × AppendsPart written written_after answer.line × (writes_after ≡ one_more writes)
 IsTurn hearing held state held_after crowd crowd_after written written_after writes writes_after (Err Memory) =
-    (held_after ≡ held) × (crowd_after ≡ crowd) × (written_after ≡ written)
+    (held_after ≡ held) × (crowd_after ≡ crowd) × (written_after ≡ written) × (writes_after ≡ writes)
 
 -- states were offered and answered so, and the watchers were told what changed by them
 pub record AreAnswered {W : Type 0} (hearing : W → Hearing) (held : Option State) (states : List State) (answers : List Offered) (held_after : Option State) (crowd crowd_after : List W) : Type 0 where
@@ -60,14 +60,14 @@ pub record AreFirstAnswered {W : Type 0} (hearing : W → Hearing) (held : Optio
 abbrev pub AreOffered : {W : Type 0} → (W → Hearing) → Option State → List State → Option State → List W → List W → Option (List ℕ) → Option (List ℕ) → ℕ → ℕ → Result Bool Halt → Type 0
 AreOffered hearing held states held_after crowd crowd_after written written_after writes writes_after (Ok all) =
     (answers : List Offered) × AreAnswered hearing held states answers held_after crowd crowd_after
-    × Appends written written_after (joined (lines_of answers)) × MatchBool all (AllAdopted answers) (SomeNotAdopted answers)
+    × Appends written written_after (joined (lines_of answers)) × MatchBool all (AllAdopted answers) (SomeNotAdopted answers) × (writes_after ≡ writes)
 AreOffered hearing held states held_after crowd crowd_after written written_after writes writes_after (Err WriteFault) =
-    AreFirstAnswered hearing held states held_after crowd crowd_after (λ lines. IsCut written written_after lines) × Rose writes writes_after
+    AreFirstAnswered hearing held states held_after crowd crowd_after (λ lines. IsCut written written_after lines) × (writes_after ≡ one_more writes)
 AreOffered hearing held states held_after crowd crowd_after written written_after writes writes_after (Err Memory) =
-    AreFirstAnswered hearing held states held_after crowd crowd_after (λ lines. Appends written written_after (joined lines))
+    AreFirstAnswered hearing held states held_after crowd crowd_after (λ lines. Appends written written_after (joined lines)) × (writes_after ≡ writes)
 
 -- the line of what is held was printed, or a part of it; or memory was wanting, and nothing was
 abbrev pub IsHeldPrinted : Option State → Option (List ℕ) → Option (List ℕ) → ℕ → ℕ → Result (Unit {0}) Halt → Type 0
-IsHeldPrinted held written written_after writes writes_after (Ok _) = Appends written written_after (held_line held)
-IsHeldPrinted held written written_after writes writes_after (Err WriteFault) = AppendsPart written written_after (held_line held) × Rose writes writes_after
-IsHeldPrinted held written written_after writes writes_after (Err Memory) = written_after ≡ written
+IsHeldPrinted held written written_after writes writes_after (Ok _) = Appends written written_after (held_line held) × (writes_after ≡ writes)
+IsHeldPrinted held written written_after writes writes_after (Err WriteFault) = AppendsPart written written_after (held_line held) × (writes_after ≡ one_more writes)
+IsHeldPrinted held written written_after writes writes_after (Err Memory) = (written_after ≡ written) × (writes_after ≡ writes)

@@ -1,21 +1,31 @@
 -- When nothing but want of memory keeps a command from being done.
 use Rattle.std.specs.Prelude.{ℕ, List, Option, Some, ◌⊎◌, ◌≡◌}
 use Rattle.ml_io.specs.Causes.{Rose}
-use Rattle.ml_io.specs.Files.{FileSet, Seen}
+use Rattle.ml_io.specs.Files.{FileSet}
 use Rattle.ml_cone.specs.declared.label.Label.{Label}
 use Rattle.ml_cone.specs.declared.slot.Slot.{Slot}
+use Rattle.ml_follow.specs.declared.state.State.{State}
 use Rattle.ml_ratio.specs.declared.feature.Feature.{Feature}
+use Rattle.ml_style.specs.StyleTable.{IsStyle}
 use Rattle.ml_style.specs.declared.style.Style.{Style}
-use Rattle.maplabel.specs.Forms.{IsForm}
+use Rattle.maplabel.specs.Commands.{Ask, IsForm}
+use Rattle.maplabel.specs.Following.{HasStates}
 use Rattle.maplabel.specs.Inputs.{HasTable, HasSlots}
+use Rattle.maplabel.specs.Making.{sample_style}
 use Rattle.maplabel.specs.MapInputs.{HasStyle, HasMap}
-use Rattle.maplabel.specs.Outcome.{IsTableOf, IsSlotsFile, IsStyleOf, IsMapOf, IsOutcome}
+use Rattle.maplabel.specs.Run.{Call}
+use Rattle.maplabel.specs.declared.command.Command.{Command}
+use Rattle.maplabel.specs.declared.command.Command.TheVariants.{OnTable, Judge, OnMap, Live, Make, Follow}
 use Rattle.maplabel.specs.declared.status.Status.{Status}
-use Rattle.maplabel.specs.declared.status.Status.TheVariants.{Done, NotBest, Memory}
+use Rattle.maplabel.specs.declared.status.Status.TheVariants.{Done, NotBest, NotAdopted, Memory}
 
 -- the named file is a table within the limit
 abbrev pub IsSomeTable : FileSet → List ℕ → Type 0
 IsSomeTable files table = (labels : List Label) × HasTable (Some files) table labels
+
+-- the named file is a table within the limit, and the other one has slots for its labels
+abbrev pub AreSomeSlots : FileSet → List ℕ → List ℕ → Type 0
+AreSomeSlots files table slots = (labels : List Label) × HasTable (Some files) table labels × ((given : List Slot) × HasSlots (Some files) labels slots given)
 
 -- the named file is a style within the limit
 abbrev pub IsSomeStyle : FileSet → List ℕ → Type 0
@@ -25,16 +35,36 @@ IsSomeStyle files style = (classes : Style) × HasStyle (Some files) style class
 abbrev pub IsSomeMap : FileSet → List ℕ → Type 0
 IsSomeMap files map = (features : List Feature) × HasMap (Some files) map features
 
--- the words have one of the forms, and each file that comes due is there, within the limit and what it should be: the table, the slots for its labels, the style, the map
+-- each file that the command names is there, within the limits and what it should be; a generated map is loaded under the sample style, which is one
+abbrev pub IsReady : FileSet → Command → Type 0
+IsReady files (OnTable table task) = IsSomeTable files table.now
+IsReady files (Judge table slots) = AreSomeSlots files table.now slots.now
+IsReady files (OnMap style map task) = IsSomeStyle files style.now × IsSomeMap files map.now
+IsReady files (Live style map task) = IsSomeStyle files style.now × IsSomeMap files map.now
+IsReady files (Make groups seed) = (style : Style) × IsStyle sample_style style
+IsReady files (Follow name) = (states : List State) × HasStates (Some files) name.now states
+
+-- the words have one of the forms, and what they ask for is ready
 pub record AreReady (files : FileSet) (words : List (List ℕ)) : Type 0 where
   pub form : IsForm words
-  pub table_is : (table : List ℕ) → IsTableOf words table → IsSomeTable files table
-  pub slots_are : (name : List ℕ) (labels : List Label) → IsSlotsFile (Some files) words name labels → (given : List Slot) × HasSlots (Some files) labels name given
-  pub style_is : (style : List ℕ) → IsStyleOf words style → IsSomeStyle files style
-  pub map_is : (map : List ℕ) (classes : Style) → IsMapOf (Some files) words map classes → IsSomeMap files map
+  pub ready : (command : Command) → Ask words command → IsReady files command
 
--- where words and files are ready and no fault of a file is counted, what is due is that the command is done, or want of memory
-abbrev pub EndsWell : FileSet → List (List ℕ) → Type 0
-EndsWell files words =
-    (seen : Seen) (status : Status) (text : List ℕ) → seen.told ≡ Some files → ¬ (Rose seen.faults_before seen.faults_after)
-    → IsOutcome seen words status text → (status ≡ Done) ⊎ (status ≡ NotBest) ⊎ (status ≡ Memory)
+-- no count of faults rose: none of files, output, input and door
+pub record IsCalm {S D I O W : Type 0} (r : Call S D I O W) : Type 0 where
+  pub files : ¬ (Rose r.files.faults_before r.files.faults_after)
+  pub out : ¬ (Rose r.out.faults r.out.faults_after)
+  pub input : ¬ (Rose r.input.faults r.input.faults_after)
+  pub door : ¬ (Rose r.door.faults r.door.faults_after)
+
+-- the command is done, or what it answers in its place
+abbrev pub IsAnswered : Command → Status → Type 0
+IsAnswered (OnTable table task) status = status ≡ Done
+IsAnswered (Judge table slots) status = (status ≡ Done) ⊎ (status ≡ NotBest)
+IsAnswered (OnMap style map task) status = status ≡ Done
+IsAnswered (Live style map task) status = status ≡ Done
+IsAnswered (Make groups seed) status = status ≡ Done
+IsAnswered (Follow name) status = (status ≡ Done) ⊎ (status ≡ NotAdopted)
+
+-- what the words ask for was answered, or memory was wanting
+abbrev pub EndsWell : List (List ℕ) → Status → Type 0
+EndsWell words status = (command : Command) × Ask words command × (IsAnswered command status ⊎ (status ≡ Memory))

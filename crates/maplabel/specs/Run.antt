@@ -1,33 +1,24 @@
 -- What a run comes to, whatever the words ask for.
-use Rattle.std.specs.Prelude.{◌≡◌, ◌⊎◌, ℕ, Bool, List, Option, Some}
+use Rattle.std.specs.Prelude.{◌≡◌, ◌⊎◌, List, ℕ}
+use Rattle.ml_io.specs.Calls.{Put, Taken, Passed, LinkEnds}
 use Rattle.ml_io.specs.Files.{Seen, KeptName}
-use Rattle.ml_io.specs.declared.link.Link.{Link}
 use Rattle.ml_watch.specs.Hearing.{Hearing}
 use Rattle.ml_editor.specs.State.{State}
-use Rattle.ml_http.specs.Link.{LinkState}
-use Rattle.ml_http.specs.Step.{LinkAnswer}
-use Rattle.ml_serve.specs.Session.{Visit}
-use Rattle.maplabel.specs.Following.{AskFollow, IsFollow, IsFollowEnd}
-use Rattle.maplabel.specs.Live.{AskLive, IsLive}
-use Rattle.maplabel.specs.Making.{AskMaking, IsMaking, IsMakingEnd}
-use Rattle.maplabel.specs.Outcome.{IsOutcome, IsEnd}
-use Rattle.maplabel.specs.declared.making.Making.{Making}
-use Rattle.maplabel.specs.Serving.{IsFirstState, IsNotLoaded, IsPiped, IsServed}
-use Rattle.maplabel.specs.declared.live.LiveTask.{LiveTask}
-use Rattle.maplabel.specs.declared.live.LiveTask.TheVariants.{Pipe, Serve}
+use Rattle.ml_follow.specs.declared.state.State as follow
+use Rattle.maplabel.specs.Answers.{IsTableAnswer, IsMapAnswer}
+use Rattle.maplabel.specs.Commands.{Ask, IsForm}
+use Rattle.maplabel.specs.Following.{HasStates, IsStatesStop, IsFollowed}
+use Rattle.maplabel.specs.Inputs.{IsTableStop, StopKeeps}
+use Rattle.maplabel.specs.Making.{IsTotalsOf, IsMakingStop}
+use Rattle.maplabel.specs.Outcome.{IsCheckAnswer, IsCheckStop, IsMapAnswerStop, IsPrinted, IsStopPrinted, usage_line}
+use Rattle.maplabel.specs.Serving.{IsFirstState, IsPiped, IsAllServed}
+use Rattle.maplabel.specs.declared.command.Command.{Command}
+use Rattle.maplabel.specs.declared.command.Command.TheVariants.{OnTable, Judge, OnMap, Live, Make, Follow}
+use Rattle.maplabel.specs.declared.command.LiveTask.{LiveTask}
+use Rattle.maplabel.specs.declared.command.LiveTask.TheVariants.{Pipe, Serve}
 use Rattle.maplabel.specs.declared.status.Status.{Status}
-
--- what input, door and watchers tell: of a watcher what it heard; of the input what is left and its faults; of the door the connections to come, those done, its faults, its port and whether it listens; and what it is that one connection is served
-pub record Meanings (S D I O W : Type 0) : Type 1 where
-  pub hearing : W → Hearing
-  pub left : S → Option (List ℕ)
-  pub reads : S → ℕ
-  pub coming : D → Option (List (Link I O))
-  pub done : D → Option (List (Link I O))
-  pub doors : D → ℕ
-  pub port : D → Option ℕ
-  pub listens : D → Bool
-  pub one : LinkState W → Visit I O LinkAnswer → LinkState W → Type 0
+use Rattle.maplabel.specs.declared.status.Status.TheVariants.{Done, Usage}
+use Rattle.maplabel.specs.declared.stop.Stop.{Stop}
 
 -- input, door and watchers
 pub record Lent (S D W : Type 0) : Type 0 where
@@ -38,45 +29,51 @@ pub record Lent (S D W : Type 0) : Type 0 where
 abbrev pub lending : {S D W : Type 0} → S → D → List W → Lent S D W
 lending input door crowd = record { input = input; door = door; crowd = crowd }
 
--- what the output tells as written, and its count of faults, before and after
-pub record Output : Type 0 where
-  pub written : Option (List ℕ)
-  pub written_after : Option (List ℕ)
-  pub writes : ℕ
-  pub writes_after : ℕ
+-- what a run did to the objects that it was lent, as they tell it: files, output, input and door; input, door and watchers themselves, before and after; and what a watcher heard and the two ends of a connection hold
+pub record Call (S D I O W : Type 0) : Type 0 where
+  pub files : Seen
+  pub out : Put
+  pub input : Taken
+  pub door : Passed I O
+  pub old : Lent S D W
+  pub new : Lent S D W
+  pub hearing : W → Hearing
+  pub ends : LinkEnds I O
 
--- what was to be served over the map was served: on `pipe` the headline's clause for the one connection, and the door stays as it was; on `serve` the headline itself, and the input stays
-abbrev pub IsTaskDone : {S D I O W : Type 0} → Meanings S D I O W → LiveTask → State → Lent S D W → Lent S D W → Output → Status → Type 0
-IsTaskDone m Pipe first old new out status =
-    IsPiped m.hearing first old.crowd new.crowd (m.left old.input) (m.left new.input) out.written out.written_after
-    (m.reads old.input) (m.reads new.input) out.writes out.writes_after status
-    × (new.door ≡ old.door)
-IsTaskDone m (Serve port count) first old new out status =
-    IsServed m.one m.hearing first old.crowd new.crowd (m.coming old.door) (m.coming new.door) (m.done old.door) (m.done new.door) count (m.listens new.door)
-    out.written out.written_after (m.doors old.door) (m.doors new.door) out.writes out.writes_after status
-    × (m.port new.door ≡ Some port)
-    × (new.input ≡ old.input)
+-- a text that was due under a status was printed, and no load failed
+abbrev pub IsTold : Seen → Put → (Status → List ℕ → Type 0) → Status → Type 0
+IsTold files out due status = (now : Status) × (text : List ℕ) × due now text × KeptName files × IsPrinted text now out status
 
--- style and map were not both read, and nothing was served; or they were, and what was to be served was served from the first state of the map
-abbrev pub IsLiveEnd : {S D I O W : Type 0} → Meanings S D I O W → Seen → List ℕ → List ℕ → LiveTask → Lent S D W → Lent S D W → Output → Status → Type 0
-IsLiveEnd m seen style map task old new out status =
-    (IsNotLoaded seen style map out.written out.written_after out.writes out.writes_after status × (new ≡ old))
-    ⊎ ((first : State) × IsFirstState seen.told style map first × KeptName seen × IsTaskDone m task first old new out status)
+-- there was no answer, and the line that says why was printed; no load failed but that of a file fault
+abbrev pub IsStopped : Seen → Put → (Stop → Type 0) → Status → Type 0
+IsStopped files out stops status = (s : Stop) × stops s × StopKeeps files s × IsStopPrinted s out status
 
--- the words ask for a generated map, and what is due of it was printed; or they do not, and what is due of files was printed
-abbrev pub IsOther : Seen → List (List ℕ) → Output → Status → Type 0
-IsOther seen words out status =
-    ((making : Making) × AskMaking words making × KeptName seen × IsMakingEnd making out.written out.written_after out.writes out.writes_after status)
-    ⊎ ((¬ (IsMaking words)) × IsEnd (IsOutcome seen words) out.written out.written_after out.writes out.writes_after status)
+-- one text was due, or the line that says why there is none; input, door and watchers stay as they were
+abbrev pub IsTextEnd : {S D I O W : Type 0} → Call S D I O W → (Status → List ℕ → Type 0) → (Stop → Type 0) → Status → Type 0
+IsTextEnd r due stops status = (IsTold r.files r.out due status ⊎ IsStopped r.files r.out stops status) × (r.new ≡ r.old)
 
--- the words ask for states to be followed, and that ended so; or they do not, what is due was printed, and the watchers stay as they were
-abbrev pub IsUnserved : {W : Type 0} → (W → Hearing) → Seen → List (List ℕ) → List W → List W → Output → Status → Type 0
-IsUnserved hearing seen words crowd crowd_after out status =
-    ((name : List ℕ) × AskFollow words name × IsFollowEnd hearing seen name crowd crowd_after out.written out.written_after out.writes out.writes_after status)
-    ⊎ ((¬ (IsFollow words)) × IsOther seen words out status × (crowd_after ≡ crowd))
+-- connections were served over a map from its first state: on `pipe` one, and the door stays as it was; on `serve` those of the door, and the input stays
+abbrev pub IsLive : {S D I O W : Type 0} → Call S D I O W → LiveTask → State → Status → Type 0
+IsLive r Pipe first status = IsPiped r.hearing first r.old.crowd r.new.crowd r.input r.out status × (r.new.door ≡ r.old.door)
+IsLive r (Serve port count) first status =
+    IsAllServed r.hearing r.ends first r.old.crowd r.new.crowd port count r.door r.out status × (r.new.input ≡ r.old.input)
 
--- the words ask for connections to be served, and that ended so; or they do not, and what else they ask for was done, while input and door stay as they were
-abbrev pub IsRun : {S D I O W : Type 0} → Meanings S D I O W → Seen → List (List ℕ) → Lent S D W → Lent S D W → Output → Status → Type 0
-IsRun m seen words old new out status =
-    ((style : List ℕ) × (map : List ℕ) × (task : LiveTask) × AskLive words style map task × IsLiveEnd m seen style map task old new out status)
-    ⊎ ((¬ (IsLive words)) × IsUnserved m.hearing seen words old.crowd new.crowd out status × (new.input ≡ old.input) × (new.door ≡ old.door))
+-- a command ended so
+abbrev pub IsDone : {S D I O W : Type 0} → Call S D I O W → Command → Status → Type 0
+IsDone r (OnTable table task) status = IsTextEnd r (λ now text. IsTableAnswer r.files.told table.now task text × (now ≡ Done)) (IsTableStop r.files table.now) status
+IsDone r (Judge table slots) status = IsTextEnd r (λ now text. IsCheckAnswer r.files.told table.now slots.now now text) (IsCheckStop r.files table.now slots.now) status
+IsDone r (OnMap style map task) status = IsTextEnd r (λ now text. IsMapAnswer r.files.told style.now map.now task text × (now ≡ Done)) (IsMapAnswerStop r.files style.now map.now) status
+IsDone r (Make groups seed) status = IsTextEnd r (λ now text. IsTotalsOf groups seed text × (now ≡ Done)) IsMakingStop status
+IsDone r (Live style map task) status =
+    (IsStopped r.files r.out (IsMapAnswerStop r.files style.now map.now) status × (r.new ≡ r.old))
+    ⊎ ((first : State) × IsFirstState r.files.told style.now map.now first × KeptName r.files × IsLive r task first status)
+IsDone r (Follow name) status =
+    (IsStopped r.files r.out (IsStatesStop r.files name.now) status × (r.new ≡ r.old))
+    ⊎ ((states : List follow.State) × HasStates r.files.told name.now states × KeptName r.files
+    × IsFollowed r.hearing states r.old.crowd r.new.crowd r.out status × (r.new.input ≡ r.old.input) × (r.new.door ≡ r.old.door))
+
+-- the words ask for a command, which ended so; or they have none of the forms, and the line that says so was printed
+abbrev pub IsRun : {S D I O W : Type 0} → Call S D I O W → List (List ℕ) → Status → Type 0
+IsRun r words status =
+    ((command : Command) × Ask words command × IsDone r command status)
+    ⊎ ((¬ (IsForm words)) × KeptName r.files × IsPrinted usage_line Usage r.out status × (r.new ≡ r.old))

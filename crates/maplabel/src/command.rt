@@ -1,13 +1,10 @@
-//! What the words after the program's name ask for.
-ghost use Rattle.std.specs.Prelude.{◌∷◌, codes, map, string_bytes, MatchOption};
-ghost use Rattle.ml_cone.specs.declared.view.View.{View};
-ghost use Rattle.ml_flight.specs.declared.window.Window.{Window};
-ghost use Rattle.ml_view.specs.Words.{WritesView};
-ghost use Rattle.maplabel.specs.Forms.{IsCommandOf, AreViewWords, AreWindowWords};
+//! What the words after the program's name ask for: the one place of the commands' names.
+ghost use Rattle.std.specs.Prelude.{◌≡◌, ◌∷◌, [], codes, map, string_bytes};
+ghost use Rattle.maplabel.specs.Commands.{IsCommandOf};
 
+use crate::words::{read_number, view_words, window_words};
 use ml_cone::View;
 use ml_flight::Window;
-use ml_view::read_view;
 
 /// What is asked of a table's labels.
 #[derive(Clone, Copy)]
@@ -31,6 +28,15 @@ pub enum MapTask {
     Zoom(Window),
 }
 
+/// Which connections are served over a map.
+#[derive(Clone, Copy)]
+pub enum LiveTask {
+    /// One, from the input to the output.
+    Pipe,
+    /// So many at a port, one after another.
+    Serve(u16, u64),
+}
+
 /// A command with its arguments.
 #[derive(Clone, Copy)]
 pub enum Command<'a> {
@@ -40,6 +46,30 @@ pub enum Command<'a> {
     Judge(&'a str, &'a str),
     /// Something of the labels of a map's features under a style: the names of style and map.
     OnMap(&'a str, &'a str, MapTask),
+    /// Connections are served over a map under a style: the names of style and map.
+    Live(&'a str, &'a str, LiveTask),
+    /// What comes of a generated map that is edited: of how many groups, and of which seed.
+    Make(u32, u32),
+    /// The states of the file of this name are followed.
+    Follow(&'a str),
+}
+
+impl Command<'_> {
+    ghost use Rattle.maplabel.specs.Commands.{tells_changes};
+
+    /// Whether the watchers are told what the command changes.
+    pub fn tells_changes(&self) -> bool
+        ensures { result ≡ tells_changes self.now }
+    {
+        match self {
+            Command::OnTable(_, _) => false,
+            Command::Judge(_, _) => false,
+            Command::OnMap(_, _, _) => false,
+            Command::Live(_, _, _) => true,
+            Command::Make(_, _) => false,
+            Command::Follow(_) => true,
+        }
+    }
 }
 
 /// The command that the words ask for; none where they have none of the forms.
@@ -64,6 +94,10 @@ fn command_of<'a>(name: &str, rest: &'a [String]) -> Option<Command<'a>>
         "zoom" => zoom_command(rest),
         "gaps" => gaps_command(rest),
         "gapview" => gap_view_command(rest),
+        "pipe" => pipe_command(rest),
+        "serve" => serve_command(rest),
+        "gen" => make_command(rest),
+        "follow" => follow_command(rest),
         _ => None,
     }
 }
@@ -130,10 +164,11 @@ fn view_command<'a>(rest: &'a [String]) -> Option<Command<'a>>
 {
     match rest {
         [style, map, words @ ..] => match view_words(words) {
-            Some(view) => {
-                let task = MapTask::ShowMap(view);
-                Some(Command::OnMap(style.as_str(), map.as_str(), task))
-            }
+            Some(view) => Some(Command::OnMap(
+                style.as_str(),
+                map.as_str(),
+                MapTask::ShowMap(view),
+            )),
             None => None,
         },
         _ => None,
@@ -146,51 +181,76 @@ fn zoom_command<'a>(rest: &'a [String]) -> Option<Command<'a>>
 {
     match rest {
         [style, map, words @ ..] => match window_words(words) {
-            Some(window) => {
-                let task = MapTask::Zoom(window);
-                Some(Command::OnMap(style.as_str(), map.as_str(), task))
+            Some(window) => Some(Command::OnMap(
+                style.as_str(),
+                map.as_str(),
+                MapTask::Zoom(window),
+            )),
+            None => None,
+        },
+        _ => None,
+    }
+}
+
+// The command that serves a map to one connection.
+fn pipe_command<'a>(rest: &'a [String]) -> Option<Command<'a>>
+    ensures { IsCommandOf (codes "pipe" ∷ map string_bytes rest.now) result }
+{
+    match rest {
+        [style, map] => Some(Command::Live(style.as_str(), map.as_str(), LiveTask::Pipe)),
+        _ => None,
+    }
+}
+
+// The command that serves a map at a port.
+fn serve_command<'a>(rest: &'a [String]) -> Option<Command<'a>>
+    ensures { IsCommandOf (codes "serve" ∷ map string_bytes rest.now) result }
+{
+    match rest {
+        [style, map, port, count] => {
+            serve_at(style.as_str(), map.as_str(), port.as_str(), count.as_str())
+        }
+        _ => None,
+    }
+}
+
+// The command that serves so many connections at a port.
+fn serve_at<'a>(style: &'a str, map: &'a str, port: &str, count: &str) -> Option<Command<'a>>
+    ensures { IsCommandOf (codes "serve" ∷ style.now ∷ map.now ∷ port.now ∷ count.now ∷ []) result }
+{
+    match (read_number(port, 1, 65535), read_number(count, 1, 1000000)) {
+        (Some(port), Some(count)) => {
+            let task = LiveTask::Serve(port as u16, u64::from(count));
+            Some(Command::Live(style, map, task))
+        }
+        _ => None,
+    }
+}
+
+// The command that generates a map.
+fn make_command<'a>(rest: &'a [String]) -> Option<Command<'a>>
+    ensures { IsCommandOf (codes "gen" ∷ map string_bytes rest.now) result }
+{
+    match rest {
+        [groups, seed] => {
+            match (
+                read_number(groups.as_str(), 1, 6000),
+                read_number(seed.as_str(), 0, 4294967295),
+            ) {
+                (Some(groups), Some(seed)) => Some(Command::Make(groups, seed)),
+                _ => None,
             }
-            None => None,
-        },
+        }
         _ => None,
     }
 }
 
-// The view that the words write.
-fn view_words(words: &[String]) -> Option<View>
-    ensures { MatchOption result ((view : View) → ¬ (AreViewWords (map string_bytes words.now) view)) (AreViewWords (map string_bytes words.now)) }
+// The command that follows states.
+fn follow_command<'a>(rest: &'a [String]) -> Option<Command<'a>>
+    ensures { IsCommandOf (codes "follow" ∷ map string_bytes rest.now) result }
 {
-    match words {
-        [cx, cy, w, h, scale] => view_of(
-            cx.as_str(),
-            cy.as_str(),
-            w.as_str(),
-            h.as_str(),
-            scale.as_str(),
-        ),
-        _ => None,
-    }
-}
-
-// The view that five words write.
-fn view_of(cx: &str, cy: &str, w: &str, h: &str, scale: &str) -> Option<View>
-    ensures { MatchOption result ((view : View) → ¬ (WritesView cx.now cy.now w.now h.now scale.now view)) (WritesView cx.now cy.now w.now h.now scale.now) }
-{
-    match read_view(cx, cy, w, h, scale) {
-        Ok(view) => Some(view),
-        Err(_place) => None,
-    }
-}
-
-// The window that the words write. Its bounds are those of a view's window, whatever the scale.
-fn window_words(words: &[String]) -> Option<Window>
-    ensures { MatchOption result ((window : Window) → ¬ (AreWindowWords (map string_bytes words.now) window)) (AreWindowWords (map string_bytes words.now)) }
-{
-    match words {
-        [cx, cy, w, h] => match view_of(cx.as_str(), cy.as_str(), w.as_str(), h.as_str(), "1") {
-            Some(view) => Window::of(view.cx, view.cy, view.w, view.h),
-            None => None,
-        },
+    match rest {
+        [states] => Some(Command::Follow(states.as_str())),
         _ => None,
     }
 }

@@ -1,16 +1,16 @@
 //! States of a file that are offered to a follower, one after another.
-ghost use Rattle.std.specs.Prelude.{◌≡◌, ◌≤◌, [], All, Any, IfErr, IfOk, MatchBool, MatchOption, OnErr, map, string_bytes};
+ghost use Rattle.std.specs.Prelude.{◌≡◌, ◌≤◌, [], All, Any, IfErr, IfOk, MatchBool, OnErr};
 ghost use Rattle.ml_follow.specs.Reading.{IsGood};
+ghost use Rattle.ml_io.specs.Calls.{put};
 ghost use Rattle.ml_io.specs.Files.{seen};
 ghost use Rattle.maplabel.specs.FollowLines.{held_line};
-ghost use Rattle.maplabel.specs.Following.{AskFollow, HasStates, IsFollow, IsFollowEnd, IsFollowed, IsStatesLine, IsStatesStop};
+ghost use Rattle.maplabel.specs.Following.{HasStates, IsFollowed, IsStatesLine, IsStatesStop};
 ghost use Rattle.maplabel.specs.Inputs.{IsInputRefusal, Keeps};
 ghost use Rattle.maplabel.specs.declared.status.Status.TheVariants.{Done, NotAdopted};
 ghost use Rattle.maplabel.specs.Offering.{AreOffered, IsAnswered, IsHeldPrinted, IsTurn, halted};
 
 use crate::follow_lines::{adopted_line, fault_line, held_line, spelled_ids};
 use crate::inputs::{input_refusal, load};
-use crate::printing::print_stop;
 use crate::status::Status;
 use crate::stop::Stop;
 use ml_follow::{Follower, State, StateFault, read_states};
@@ -38,42 +38,12 @@ pub enum Halt {
     WriteFault,
 }
 
-/// The name of the file whose states the words ask to be followed; none where they do not ask for that.
-pub fn read_following(words: &[String]) -> Option<&str>
-    ensures { MatchOption result (¬ (IsFollow (map string_bytes words.now))) (λ name. AskFollow (map string_bytes words.now) name.now) }
-{
-    match words {
-        [name, states] => match name.as_str() {
-            "follow" => Some(states.as_str()),
-            _ => None,
-        },
-        _ => None,
-    }
-}
-
-/// Loads the states of this file, offers them one after another to a follower that holds nothing, and
-/// prints what became of each, and what is held in the end. The watchers are told what each adopted
-/// state changes.
-pub fn run_following<F: Files, K: Sink, W: Watcher>(
-    alloc: Global,
-    name: &str,
-    files: &mut F,
-    out: &mut K,
-    crowd: &mut Crowd<W>,
-) -> Status
-    ensures end { IsFollowEnd W.hearing (seen F.told F.faults F.failed_name files.old files.new) name.now crowd.old crowd.new
-        (K.written out.old) (K.written out.new) (K.faults out.old) (K.faults out.new) result }
-    ensures same { F.told files.new ≡ F.told files.old }
-    ensures later { (F.faults files.old ≤ F.faults files.new) × (K.faults out.old ≤ K.faults out.new) }
-{
-    match load_states(alloc, files, name) {
-        Ok(states) => follow(alloc, states, out, crowd),
-        Err(stop) => print_stop(out, &stop),
-    }
-}
-
-// The states of the file of this name.
-fn load_states<F: Files>(alloc: Global, files: &mut F, name: &str) -> Result<Seq<State>, Stop>
+/// The states of the file of this name.
+///
+/// # Errors
+/// `FileFault` and `TooLong` where its file is not loaded; `InputRefused` where it holds no states;
+/// `Memory`.
+pub fn load_states<F: Files>(alloc: Global, files: &mut F, name: &str) -> Result<Seq<State>, Stop>
     ensures ok { IfOk result (λ states. HasStates (F.told files.old) name.now states) }
     ensures good { IfOk result (λ states. All IsGood states) }
     ensures stop { IfErr result (IsStatesStop (seen F.told F.faults F.failed_name files.old files.new) name.now) }
@@ -100,17 +70,16 @@ fn states_refusal(alloc: Global, fault: StateFault) -> Stop
     }
 }
 
-// Offers the states to a follower that holds nothing, and prints what became of each, and what is held
-// in the end.
-fn follow<K: Sink, W: Watcher>(
+/// Offers the states one after another to a follower that holds nothing, and prints what became of
+/// each, and what is held in the end. The watchers are told what each adopted state changes.
+pub fn follow<K: Sink, W: Watcher>(
     alloc: Global,
     states: Seq<State>,
     out: &mut K,
     crowd: &mut Crowd<W>,
 ) -> Status
     requires good { All IsGood states }
-    ensures followed { IsFollowed W.hearing states crowd.old crowd.new
-        (K.written out.old) (K.written out.new) (K.faults out.old) (K.faults out.new) result }
+    ensures followed { IsFollowed W.hearing states crowd.old crowd.new (put K.written K.faults out.old out.new) result }
     ensures later { K.faults out.old ≤ K.faults out.new }
 {
     let mut follower = Follower::new(alloc);

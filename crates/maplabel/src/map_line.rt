@@ -8,6 +8,7 @@ use ml_answer::view_json;
 use ml_cone::View;
 use ml_editor::{Editor, LoadRefused};
 use ml_ratio::{Feature, Seq};
+use ml_repair::laws::one_label_a_number;
 use ml_style::Style;
 use std::alloc::{AllocError, Global};
 use std::mem::forget;
@@ -27,6 +28,7 @@ pub fn map_line(
     requires few { length features ≤ 32768 }
     ensures { IfOk result (IsMapView style features view.now) }
 {
+    one_label_a_number();
     let editor = loaded(alloc, style, features)?;
     let mut line = view_json(alloc, &editor, view)?;
     line.push(b'\n')?;

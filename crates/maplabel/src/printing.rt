@@ -1,7 +1,8 @@
 //! What a run prints.
 ghost use Rattle.std.specs.Prelude.{◌≤◌};
-ghost use Rattle.maplabel.specs.Outcome.{IsPrinted};
-ghost use Rattle.maplabel.specs.Serving.{IsStopPrinted};
+ghost use Rattle.ml_io.specs.Calls.{put};
+ghost use Rattle.maplabel.specs.Outcome.{IsPrinted, IsStopPrinted, usage_line};
+ghost use Rattle.maplabel.specs.declared.status.Status.TheVariants.{Usage};
 
 use crate::status::Status;
 use crate::stop::Stop;
@@ -12,7 +13,7 @@ const USAGE: &str = "usage: maplabel show, slots, check, view, pipe, serve or ge
 
 /// Prints a text, and gives the status; `WriteFault` where not all was printed.
 pub fn print<K: Sink>(out: &mut K, text: &[u8], status: Status) -> Status
-    ensures printed { IsPrinted text.now status (K.written out.old) (K.written out.new) (K.faults out.old) (K.faults out.new) result }
+    ensures printed { IsPrinted text.now status (put K.written K.faults out.old out.new) result }
     ensures later { K.faults out.old ≤ K.faults out.new }
 {
     match put_all(out, text) {
@@ -23,15 +24,23 @@ pub fn print<K: Sink>(out: &mut K, text: &[u8], status: Status) -> Status
 
 /// Prints the line of a stop, and gives its status; `WriteFault` where not all was printed.
 pub fn print_stop<K: Sink>(out: &mut K, stop: &Stop) -> Status
-    ensures printed { IsStopPrinted stop.now (K.written out.old) (K.written out.new) (K.faults out.old) (K.faults out.new) result }
+    ensures printed { IsStopPrinted stop.now (put K.written K.faults out.old out.new) result }
     ensures later { K.faults out.old ≤ K.faults out.new }
 {
     match stop {
-        Stop::Usage => print(out, USAGE.as_bytes(), Status::Usage),
         Stop::StyleRefused(line) => print(out, line.as_slice(), Status::StyleRefused),
         Stop::InputRefused(line) => print(out, line.as_slice(), Status::InputRefused),
         Stop::FileFault => print(out, b"file fault\n", Status::FileFault),
         Stop::TooLong => print(out, b"file too long\n", Status::TooLong),
         Stop::Memory => print(out, b"", Status::Memory),
     }
+}
+
+/// Prints the line for words that have none of the forms, and gives its status; `WriteFault` where not
+/// all was printed.
+pub fn print_usage<K: Sink>(out: &mut K) -> Status
+    ensures printed { IsPrinted usage_line Usage (put K.written K.faults out.old out.new) result }
+    ensures later { K.faults out.old ≤ K.faults out.new }
+{
+    print(out, USAGE.as_bytes(), Status::Usage)
 }

@@ -1,21 +1,20 @@
 //! The top call.
 ghost use Rattle.std.specs.Prelude.{◌≡◌, ◌≤◌, None, false, map, string_bytes};
 ghost use Rattle.ml_io.specs.Files.{seen};
-ghost use Rattle.ml_serve.specs.Visit.{IsVisit};
-ghost use Rattle.maplabel.specs.Serving.{no_tiles};
-ghost use Rattle.maplabel.specs.Run.{IsTaskDone, IsLiveEnd, IsOther, IsUnserved, IsRun, lending};
+ghost use Rattle.ml_io.specs.Calls.{put, taken, passed, link_ends};
+ghost use Rattle.maplabel.specs.Run.{IsRun, lending};
 
-use crate::batch::run_batch;
-use crate::following::{read_following, run_following};
-use crate::live::{Live, LiveTask, read_live};
+use crate::check::check;
+use crate::command::{Command, LiveTask, read_command};
+use crate::following::{follow, load_states};
 use crate::loading::load_editor;
-use crate::making::{read_making, run_making};
-use crate::printing::print_stop;
+use crate::making::totals_of;
+use crate::map::on_map;
+use crate::printing::{print, print_stop, print_usage};
 use crate::serving::{pipe, serve_at};
 use crate::status::Status;
-use ml_editor::Editor;
+use crate::table::on_table;
 use ml_io::{Door, Files, Sink, Source};
-use ml_tile::Tiles;
 use ml_watch::{Crowd, Watcher};
 use std::alloc::Global;
 
@@ -39,142 +38,51 @@ pub fn run<F: Files, S: Source, K: Sink, D: Door, W: Watcher>(
     requires out { D.is_out door.old ≡ false }
     ensures end { IsRun
         (record {
+          files = seen F.told F.faults F.failed_name files.old files.new;
+          out = put K.written K.faults out.old out.new;
+          input = taken S.left S.faults input.old input.new;
+          door = passed D.coming D.served D.faults D.at_port D.listens door.old door.new;
+          old = lending input.old door.old crowd.old;
+          new = lending input.new door.new crowd.new;
           hearing = W.hearing;
-          left = S.left;
-          reads = S.faults;
-          coming = D.coming;
-          done = D.served;
-          doors = D.faults;
-          port = D.at_port;
-          listens = D.listens;
-          one = IsVisit W.hearing D.In.left D.In.faults D.Out.written D.Out.faults;
+          ends = link_ends D.In.left D.In.faults D.Out.written D.Out.faults;
         })
-        (seen F.told F.faults F.failed_name files.old files.new) (map string_bytes words.now)
-        (lending input.old door.old crowd.old) (lending input.new door.new crowd.new)
-        (record { written = K.written out.old; written_after = K.written out.new; writes = K.faults out.old; writes_after = K.faults out.new }) result }
+        (map string_bytes words.now) result }
     ensures same { F.told files.new ≡ F.told files.old }
     ensures later { (F.faults files.old ≤ F.faults files.new) × (K.faults out.old ≤ K.faults out.new)
         × (S.faults input.old ≤ S.faults input.new) × (D.faults door.old ≤ D.faults door.new) }
     ensures out { D.is_out door.new ≡ false }
 {
-    match read_live(words) {
-        Some(live) => run_live(alloc, &live, files, input, out, door, crowd),
-        None => run_unserved(alloc, words, files, out, crowd),
-    }
-}
-
-// Does what the words ask for, where they do not ask for connections to be served.
-fn run_unserved<F: Files, K: Sink, W: Watcher>(
-    alloc: Global,
-    words: &[String],
-    files: &mut F,
-    out: &mut K,
-    crowd: &mut Crowd<W>,
-) -> Status
-    ensures end { IsUnserved W.hearing (seen F.told F.faults F.failed_name files.old files.new) (map string_bytes words.now) crowd.old crowd.new
-        (record { written = K.written out.old; written_after = K.written out.new; writes = K.faults out.old; writes_after = K.faults out.new }) result }
-    ensures same { F.told files.new ≡ F.told files.old }
-    ensures later { (F.faults files.old ≤ F.faults files.new) × (K.faults out.old ≤ K.faults out.new) }
-{
-    match read_following(words) {
-        Some(name) => run_following(alloc, name, files, out, crowd),
-        None => run_other(alloc, words, files, out),
-    }
-}
-
-// Does what the words ask for, where they ask neither for connections to be served nor for states to be
-// followed.
-fn run_other<F: Files, K: Sink>(
-    alloc: Global,
-    words: &[String],
-    files: &mut F,
-    out: &mut K,
-) -> Status
-    ensures end { IsOther (seen F.told F.faults F.failed_name files.old files.new) (map string_bytes words.now)
-        (record { written = K.written out.old; written_after = K.written out.new; writes = K.faults out.old; writes_after = K.faults out.new }) result }
-    ensures same { F.told files.new ≡ F.told files.old }
-    ensures later { (F.faults files.old ≤ F.faults files.new) × (K.faults out.old ≤ K.faults out.new) }
-{
-    match read_making(words) {
-        Some(making) => run_making(alloc, &making, out),
-        None => run_batch(alloc, words, files, out),
-    }
-}
-
-// Loads a map, and serves what is to be served over it.
-fn run_live<F: Files, S: Source, K: Sink, D: Door, W: Watcher>(
-    alloc: Global,
-    live: &Live<'_>,
-    files: &mut F,
-    input: &mut S,
-    out: &mut K,
-    door: &mut D,
-    crowd: &mut Crowd<W>,
-) -> Status
-    requires fresh { D.at_port door.old ≡ None }
-    requires out { D.is_out door.old ≡ false }
-    ensures end { IsLiveEnd
-        (record {
-          hearing = W.hearing;
-          left = S.left;
-          reads = S.faults;
-          coming = D.coming;
-          done = D.served;
-          doors = D.faults;
-          port = D.at_port;
-          listens = D.listens;
-          one = IsVisit W.hearing D.In.left D.In.faults D.Out.written D.Out.faults;
-        })
-        (seen F.told F.faults F.failed_name files.old files.new) live.now.style.now live.now.map.now live.now.task
-        (lending input.old door.old crowd.old) (lending input.new door.new crowd.new)
-        (record { written = K.written out.old; written_after = K.written out.new; writes = K.faults out.old; writes_after = K.faults out.new }) result }
-    ensures same { F.told files.new ≡ F.told files.old }
-    ensures later { (F.faults files.old ≤ F.faults files.new) × (K.faults out.old ≤ K.faults out.new)
-        × (S.faults input.old ≤ S.faults input.new) × (D.faults door.old ≤ D.faults door.new) }
-    ensures out { D.is_out door.new ≡ false }
-{
-    match load_editor(alloc, files, live.style, live.map) {
-        Ok((editor, tiles)) => do_task(alloc, live.task, editor, tiles, input, out, door, crowd),
-        Err(stop) => print_stop(out, &stop),
-    }
-}
-
-// Serves what is to be served over a map.
-fn do_task<S: Source, K: Sink, D: Door, W: Watcher>(
-    alloc: Global,
-    task: LiveTask,
-    editor: Editor,
-    tiles: Tiles,
-    input: &mut S,
-    out: &mut K,
-    door: &mut D,
-    crowd: &mut Crowd<W>,
-) -> Status
-    requires fresh { D.at_port door.old ≡ None }
-    requires out { D.is_out door.old ≡ false }
-    requires none { tiles ≡ no_tiles }
-    ensures done { IsTaskDone
-        (record {
-          hearing = W.hearing;
-          left = S.left;
-          reads = S.faults;
-          coming = D.coming;
-          done = D.served;
-          doors = D.faults;
-          port = D.at_port;
-          listens = D.listens;
-          one = IsVisit W.hearing D.In.left D.In.faults D.Out.written D.Out.faults;
-        })
-        task editor.state
-        (lending input.old door.old crowd.old) (lending input.new door.new crowd.new)
-        (record { written = K.written out.old; written_after = K.written out.new; writes = K.faults out.old; writes_after = K.faults out.new }) result }
-    ensures later { (K.faults out.old ≤ K.faults out.new) × (S.faults input.old ≤ S.faults input.new) × (D.faults door.old ≤ D.faults door.new) }
-    ensures out { D.is_out door.new ≡ false }
-{
-    match task {
-        LiveTask::Pipe => pipe(alloc, editor, tiles, input, out, crowd),
-        LiveTask::Serve(port, count) => serve_at(
-            alloc, editor, tiles, out, door, crowd, port, count,
-        ),
+    match read_command(words) {
+        Some(Command::OnTable(table, task)) => match on_table(alloc, files, table, task) {
+            Ok(text) => print(out, text.as_slice(), Status::Done),
+            Err(stop) => print_stop(out, &stop),
+        },
+        Some(Command::Judge(table, slots)) => match check(alloc, files, table, slots) {
+            Ok((status, text)) => print(out, text.as_slice(), status),
+            Err(stop) => print_stop(out, &stop),
+        },
+        Some(Command::OnMap(style, map, task)) => match on_map(alloc, files, style, map, task) {
+            Ok(text) => print(out, text.as_slice(), Status::Done),
+            Err(stop) => print_stop(out, &stop),
+        },
+        Some(Command::Live(style, map, task)) => match load_editor(alloc, files, style, map) {
+            Ok((editor, tiles)) => match task {
+                LiveTask::Pipe => pipe(alloc, editor, tiles, input, out, crowd),
+                LiveTask::Serve(port, count) => serve_at(
+                    alloc, editor, tiles, out, door, crowd, port, count,
+                ),
+            },
+            Err(stop) => print_stop(out, &stop),
+        },
+        Some(Command::Make(groups, seed)) => match totals_of(alloc, groups, seed) {
+            Ok(text) => print(out, text.as_slice(), Status::Done),
+            Err(stop) => print_stop(out, &stop),
+        },
+        Some(Command::Follow(name)) => match load_states(alloc, files, name) {
+            Ok(states) => follow(alloc, states, out, crowd),
+            Err(stop) => print_stop(out, &stop),
+        },
+        None => print_usage(out),
     }
 }

@@ -2,7 +2,7 @@
 //! for CR LF.
 use crate::status::Status;
 use crate::tests::{Outside, Subject, each_holds, outside_of, run_alone, run_at, run_told, told};
-use ml_io::{Link, MemDoor, MemLink, MemSink, MemSource};
+use ml_io::{CalmDoor, CalmLink, CalmSink, CalmSource, Link, MemDoor, MemLink, MemSink, MemSource};
 use std::alloc::Global;
 use std::process::Abort;
 
@@ -119,29 +119,56 @@ fn one_connection_is_piped(rt: HostRuntime) {
     assert!(rt; outside.out.bytes() == wire(&rt, rt.alloc(), REPLIES).as_bytes());
 }
 
-/// How piping the edits ends, where listed calls of the input and of the output fail.
-fn pipe_status(rt: &impl Abort, alloc: Global, reads: Vec<u64>, writes: Vec<u64>) -> Status {
-    let mut outside = piping(rt, alloc, reads, writes);
+/// How piping the edits ends where this call of the input, or of the output, fails.
+fn pipe_status(rt: &impl Abort, alloc: Global, object: &str, call: u64) -> Status {
+    let fails = vec![in alloc; call].expect(rt, "memory");
+    let mut outside = match object {
+        "input" => piping(rt, alloc, fails, Vec::new(alloc)),
+        _ => piping(rt, alloc, Vec::new(alloc), fails),
+    };
     run_alone(rt, alloc, &mut outside, "pipe s e")
+}
+
+/// The object and its call that fails, from 0, and the exit code. The edits come in more than twelve
+/// pieces, and each of the four replies is put at once.
+const FAILED_CALLS: &str = "\
+input 0 => 6
+input 1 => 6
+input 2 => 6
+input 3 => 6
+input 4 => 6
+input 5 => 6
+input 6 => 6
+input 7 => 6
+input 8 => 6
+input 9 => 6
+input 10 => 6
+input 11 => 6
+input 12 => 6
+output 0 => 7
+output 1 => 7
+output 2 => 7
+output 3 => 7
+output 4 => 0";
+
+/// Calls that fail while one connection is piped.
+struct OfCalls;
+
+impl Subject for OfCalls {
+    fn holds(rt: &impl Abort, alloc: Global, input: &str, want: &str) -> bool {
+        let (object, call) = input.split_once(" ").expect(rt, "a call");
+        let call = call.parse::<u64>().ok().expect(rt, "a number");
+        let status = pipe_status(rt, alloc, object, call);
+        format!(in alloc; "{}", status.code())
+            .expect(rt, "memory")
+            .as_str()
+            == want
+    }
 }
 
 #[test]
 fn a_connection_may_fail(rt: HostRuntime) {
-    let alloc = rt.alloc();
-    let read = pipe_status(
-        &rt,
-        alloc,
-        vec![in alloc; 0].expect(&rt, "memory"),
-        Vec::new(alloc),
-    );
-    assert!(rt; read == Status::ReadFault);
-    let write = pipe_status(
-        &rt,
-        alloc,
-        Vec::new(alloc),
-        vec![in alloc; 0].expect(&rt, "memory"),
-    );
-    assert!(rt; write == Status::WriteFault);
+    each_holds::<OfCalls>(&rt, rt.alloc(), FAILED_CALLS)
 }
 
 /// Two connections that bring the edits.
@@ -202,9 +229,109 @@ fn connections_of_a_door_are_served(rt: HostRuntime) {
     );
 }
 
+/// The call of the door that fails, from 0; what is printed behind the exit code; and how many of the two
+/// connections were served. A third connection is not asked for.
+const FAILED_DOORS: &str = "\
+0 => 8 ready¶door fault¶ 0
+1 => 8 ready¶door fault¶ 1
+2 => 0 ready¶served 2¶ 2
+3 => 0 ready¶served 2¶ 2
+4 => 0 ready¶served 2¶ 2";
+
+/// The replies to so many of the two connections.
+fn replies_to(rt: &impl Abort, alloc: Global, served: &str) -> String {
+    let mut replies = String::new(alloc);
+    if served != "0" {
+        replies.push_str(REPLIES).expect(rt, "memory");
+    }
+    if served == "2" {
+        replies.push_str(LATER).expect(rt, "memory");
+    }
+    replies
+}
+
+/// Calls of the door that fail.
+struct OfDoors;
+
+impl Subject for OfDoors {
+    fn holds(rt: &impl Abort, alloc: Global, input: &str, want: &str) -> bool {
+        let call = input.parse::<u64>().ok().expect(rt, "a number");
+        let fails = vec![in alloc; call].expect(rt, "memory");
+        let (printed, served) = want.rsplit_once(" ").expect(rt, "how many");
+        let replies = replies_to(rt, alloc, served);
+        is_served(rt, alloc, fails, printed, replies.as_str())
+    }
+}
+
 #[test]
 fn a_door_that_fails_is_told(rt: HostRuntime) {
+    each_holds::<OfDoors>(&rt, rt.alloc(), FAILED_DOORS)
+}
+
+/// A view.
+const SEE: &str = "GET /view?cx=0&cy=0&w=1024&h=768&s=1 HTTP/1.1~Host: a~~";
+
+/// The reply to it once the feature is there.
+const SEEN: &str =
+    r#"HTTP/1.1 200 OK~Content-Type: application/json~Content-Length: 103~~{"labels":[{"at":[0,0],"boxes":[[-10,-10,10,10]],"id":"A","text":"ab","until":"1000/1"}],"scale":"1/1"}"#;
+
+/// A connection that brings a text, and takes nothing at the listed calls.
+fn link_of(rt: &impl Abort, alloc: Global, text: &str, writes: Vec<u64>) -> MemLink {
+    let text = wire(rt, alloc, text);
+    let bytes = Vec::from_slice(alloc, text.as_bytes()).expect(rt, "memory");
+    Link {
+        source: MemSource::new(bytes, 7, Vec::new(alloc)),
+        sink: MemSink::new(alloc, 4096, writes).expect(rt, "memory"),
+    }
+}
+
+/// The first reply of the first connection cannot be written: it ends there, with its edit carried out,
+/// and the next one sees it.
+#[test]
+fn a_connection_that_takes_nothing_ends_alone(rt: HostRuntime) {
     let alloc = rt.alloc();
-    let fails = vec![in alloc; 1].expect(&rt, "memory");
-    assert!(rt; is_served(&rt, alloc, fails, "8 ready¶door fault¶", REPLIES));
+    let mut links = Vec::new(alloc);
+    let first = vec![in alloc; 0].expect(&rt, "memory");
+    links
+        .push(link_of(&rt, alloc, EDITS, first))
+        .expect(&rt, "memory");
+    links
+        .push(link_of(&rt, alloc, SEE, Vec::new(alloc)))
+        .expect(&rt, "memory");
+    let mut outside = outside_of(&rt, alloc, &FILES);
+    let mut door = MemDoor::new(alloc, links, Vec::new(alloc)).expect(&rt, "memory");
+    let status = run_at(&rt, alloc, &mut outside, &mut door, "serve s e 80 2");
+    let mut all = told(&rt, alloc, status, &outside.out);
+    push_replies(&rt, &mut all, door.links_done());
+    let mut want = String::from_str(alloc, "0 ready¶served 2¶").expect(&rt, "memory");
+    want.push_str(wire(&rt, alloc, SEEN).as_str())
+        .expect(&rt, "memory");
+    assert!(rt; all == want, "{all}");
+}
+
+/// The edits over a connection that never fails.
+fn calm_link(rt: &impl Abort, alloc: Global) -> CalmLink {
+    let text = wire(rt, alloc, EDITS);
+    let bytes = Vec::from_slice(alloc, text.as_bytes()).expect(rt, "memory");
+    Link {
+        source: CalmSource::new(bytes),
+        sink: CalmSink::new(),
+    }
+}
+
+#[test]
+fn a_calm_door_is_served(rt: HostRuntime) {
+    let alloc = rt.alloc();
+    let mut links = Vec::new(alloc);
+    links.push(calm_link(&rt, alloc)).expect(&rt, "memory");
+    let mut outside = outside_of(&rt, alloc, &FILES);
+    let mut door = CalmDoor::new(alloc, links).expect(&rt, "memory");
+    let status = run_at(&rt, alloc, &mut outside, &mut door, "serve s e 80 1");
+    let printed = told(&rt, alloc, status, &outside.out);
+    assert!(rt; printed.as_str() == "0 ready¶served 1¶", "{printed}");
+    let length = wire(&rt, alloc, REPLIES).len() as u64;
+    for link in door.links_done() {
+        assert!(rt; link.sink.count() == length);
+    }
+    assert!(rt; door.links_done().len() == 1);
 }

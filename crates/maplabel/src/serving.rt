@@ -1,7 +1,7 @@
 //! Connections that are served over a map.
-ghost use Rattle.std.specs.Prelude.{◌≡◌, ◌<◌, ◌≤◌, None, Some, false};
-ghost use Rattle.ml_serve.specs.Visit.{IsVisit};
-ghost use Rattle.maplabel.specs.Serving.{IsPiped, IsServed, no_tiles, status_of_link, status_of_serving};
+ghost use Rattle.std.specs.Prelude.{◌≡◌, ◌<◌, ◌≤◌, None, false};
+ghost use Rattle.ml_io.specs.Calls.{link_ends, passed, put, taken};
+ghost use Rattle.maplabel.specs.Serving.{IsPiped, IsAllServed, no_tiles, status_of_link, status_of_serving};
 
 use crate::status::Status;
 use ml_editor::Editor;
@@ -26,8 +26,8 @@ pub fn pipe<S: Source, K: Sink, W: Watcher>(
     crowd: &mut Crowd<W>,
 ) -> Status
     requires none { tiles ≡ no_tiles }
-    ensures served { IsPiped W.hearing editor.state crowd.old crowd.new (S.left input.old) (S.left input.new) (K.written out.old) (K.written out.new)
-        (S.faults input.old) (S.faults input.new) (K.faults out.old) (K.faults out.new) result }
+    ensures served { IsPiped W.hearing editor.state crowd.old crowd.new
+        (taken S.left S.faults input.old input.new) (put K.written K.faults out.old out.new) result }
     ensures later { (K.faults out.old ≤ K.faults out.new) × (S.faults input.old ≤ S.faults input.new) }
 {
     pipe_counted::<Brand, S, K, W>(alloc, editor, tiles, input, out, crowd, Blank::new(1))
@@ -47,8 +47,8 @@ fn pipe_counted<L: Ledger, S: Source, K: Sink, W: Watcher>(
     requires parts { blank.parts ≡ L.parts }
     requires some { 0 < blank.parts }
     requires none { tiles ≡ no_tiles }
-    ensures served { IsPiped W.hearing editor.state crowd.old crowd.new (S.left input.old) (S.left input.new) (K.written out.old) (K.written out.new)
-        (S.faults input.old) (S.faults input.new) (K.faults out.old) (K.faults out.new) result }
+    ensures served { IsPiped W.hearing editor.state crowd.old crowd.new
+        (taken S.left S.faults input.old input.new) (put K.written K.faults out.old out.new) result }
     ensures later { (K.faults out.old ≤ K.faults out.new) × (S.faults input.old ≤ S.faults input.new) }
 {
     let mut editor = editor;
@@ -82,11 +82,9 @@ pub fn serve_at<K: Sink, D: Door, W: Watcher>(
     requires fresh { D.at_port door.old ≡ None }
     requires out { D.is_out door.old ≡ false }
     requires none { tiles ≡ no_tiles }
-    ensures served { IsServed (IsVisit W.hearing D.In.left D.In.faults D.Out.written D.Out.faults) W.hearing editor.state crowd.old crowd.new
-        (D.coming door.old) (D.coming door.new) (D.served door.old) (D.served door.new) count (D.listens door.new) (K.written out.old) (K.written out.new)
-        (D.faults door.old) (D.faults door.new) (K.faults out.old) (K.faults out.new) result }
+    ensures served { IsAllServed W.hearing (link_ends D.In.left D.In.faults D.Out.written D.Out.faults) editor.state crowd.old crowd.new port count
+        (passed D.coming D.served D.faults D.at_port D.listens door.old door.new) (put K.written K.faults out.old out.new) result }
     ensures out { D.is_out door.new ≡ false }
-    ensures port { D.at_port door.new ≡ Some port }
     ensures later { (K.faults out.old ≤ K.faults out.new) × (D.faults door.old ≤ D.faults door.new) }
 {
     serve_counted::<Brand, K, D, W>(
@@ -120,11 +118,9 @@ fn serve_counted<L: Ledger, K: Sink, D: Door, W: Watcher>(
     requires parts { blank.parts ≡ L.parts }
     requires some { 0 < blank.parts }
     requires none { tiles ≡ no_tiles }
-    ensures served { IsServed (IsVisit W.hearing D.In.left D.In.faults D.Out.written D.Out.faults) W.hearing editor.state crowd.old crowd.new
-        (D.coming door.old) (D.coming door.new) (D.served door.old) (D.served door.new) count (D.listens door.new) (K.written out.old) (K.written out.new)
-        (D.faults door.old) (D.faults door.new) (K.faults out.old) (K.faults out.new) result }
+    ensures served { IsAllServed W.hearing (link_ends D.In.left D.In.faults D.Out.written D.Out.faults) editor.state crowd.old crowd.new port count
+        (passed D.coming D.served D.faults D.at_port D.listens door.old door.new) (put K.written K.faults out.old out.new) result }
     ensures out { D.is_out door.new ≡ false }
-    ensures port { D.at_port door.new ≡ Some port }
     ensures later { (K.faults out.old ≤ K.faults out.new) × (D.faults door.old ≤ D.faults door.new) }
 {
     let mut editor = editor;

@@ -8,8 +8,6 @@ use std::alloc::{AllocError, AllocFailed};
 /// What ends a command early.
 #[derive(Drop)]
 pub enum Stop {
-    /// The words are none of the forms.
-    Usage,
     /// A style is refused; the line that says why.
     StyleRefused(Seq<u8>),
     /// A table, slots or a map are refused; the line that says why.

@@ -12,7 +12,7 @@ use Rattle.ml_ratio.specs.World.{IsInWorld}
 use Rattle.ml_anchor.specs.Ring.{edges, south, north}
 use Rattle.ml_anchor.specs.Scan.{rises, x_at, crossing, ring_crossings, crossings}
 use Rattle.ml_anchor.specs.Anchor.{outer}
-use Rattle.ml_ratio.proofs.Floors.{height_in_world}
+use Rattle.ml_ratio.proofs.lemmas.Rounding.{height_in_world}
 use Rattle.ml_anchor.proofs.RingLemmas.{least_reached, greatest_reached}
 use Rattle.ml_anchor.proofs.ScanLemmas.{rises_bounds}
 

@@ -14,7 +14,7 @@ use Rattle.ml_anchor.specs.Ring.{south, north}
 use Rattle.ml_anchor.specs.Scan.{crossings}
 use Rattle.ml_anchor.specs.Pairs.{at, rank, IsInsidePair, IsWidestPair, IsMiddle}
 use Rattle.ml_anchor.specs.Anchor.{outer, part_area, IsPolygonAnchor, IsAreaAnchor}
-use Rattle.ml_ratio.proofs.Floors.{floor_least, floor_most}
+use Rattle.ml_ratio.proofs.lemmas.Rounding.{floor_least, floor_most}
 use Rattle.ml_anchor.proofs.CountLemmas.{crossings_even, crossings_two}
 use Rattle.ml_anchor.proofs.RankLemmas.{lands, pair_at}
 use Rattle.ml_anchor.proofs.RingLemmas.{bounds_are}

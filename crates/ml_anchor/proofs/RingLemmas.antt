@@ -11,7 +11,7 @@ use Rattle.std.specs.List.{Contains}
 use Rattle.ml_ratio.specs.World.{IsInWorld}
 use Rattle.ml_ratio.specs.declared.geometry.Pos.{Pos}
 use mir.Syntax.{w128}
-use Rattle.ml_ratio.proofs.Floors.{size_le}
+use Rattle.ml_ratio.proofs.lemmas.Rounding.{size_le}
 use Rattle.ml_anchor.specs.Ring.{least, greatest, west, east, south, north, AreBoundsOf, AreInOrder}
 
 least_push : (xs : List ℤ) (y : ℤ) → 0 < length xs → least (xs ++ y ∷ []) ≡ int_min (least xs) y

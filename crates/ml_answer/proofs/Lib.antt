@@ -1,4 +1,4 @@
-pub mod MapViews
-pub mod NoFloats
-pub mod Sizes
-pub mod Views
+mod MapViews
+mod NoFloats
+mod Sizes
+mod Views

@@ -5,7 +5,7 @@ use Rattle.ml_cone.specs.Slots.{AreSlots, ends}
 use Rattle.ml_cone.specs.Sound.{IsSound, IsCovered}
 use Rattle.ml_cone.specs.declared.label.Label.{Label}
 use Rattle.ml_cone.specs.declared.slot.Slot.{Slot}
-use Rattle.ml_ratio.proofs.Lists.{pick}
+use Rattle.ml_ratio.proofs.lemmas.Lists.{pick}
 use Rattle.ml_cert.specs.Judged.{IsUncovered, IsVerdict}
 use Rattle.ml_cert.specs.declared.verdict.Verdict.{Verdict}
 use Rattle.ml_cert.specs.declared.verdict.Verdict.TheVariants.{Best, BadEnd, Clash, Uncovered, BadBlocker}

@@ -5,18 +5,20 @@ use Rattle.std.proofs.lemmas.Bool.{cases_lt}
 use Rattle.std.proofs.lemmas.List.{get_or_default}
 use Rattle.ml_ratio.specs.Fraction.{Fraction, value_of, IsLess, IsAtMost, IsSame}
 use Rattle.ml_ratio.specs.declared.ratio.Ratio.{Ratio}
-use Rattle.ml_ratio.proofs.Fractions.{at_most_less}
+use Rattle.ml_ratio.proofs.lemmas.Fractions.{at_most_less}
 use Rattle.ml_cone.specs.Choice.{Choice, IsEnd, Allows, IsLimit, Blocks}
 use Rattle.ml_cone.specs.Slots.{ends, no_slot}
 use Rattle.ml_cone.specs.Sound.{HasGoodEnd, AllowsAt}
 use Rattle.ml_cone.specs.declared.label.Label.{Label}
 use Rattle.ml_cone.specs.declared.slot.Slot.{Slot}
+use Rattle.ml_conflict.specs.Begin.{SetsNoneUpTo}
 use Rattle.ml_cert.specs.Judged.{IsDue, IsClash}
 
 -- what is known of ends, limits and blockers
 pub record Known : Type 0 where
   pub smaller : (low high : Label) (u v e f : Fraction) → IsAtMost v u → IsAtMost e f → Allows low high u f → Allows low high v e
   pub same : (low high : Label) (u v f g : Fraction) → IsSame u v → IsSame f g → IsLimit low high u f → IsLimit low high v g
+  pub allowed : (low high : Label) (u bound : Fraction) → IsAtMost bound (value_of low.max) → SetsNoneUpTo low high u bound → Allows low high u bound
   pub limits : (labels : List Label) (choice : Choice) (j i : ℕ) (d : Label) → IsEnd (get_or labels i d) (choice i) → Allows (get_or labels i d) (get_or labels j d) (choice j) (choice i) → Blocks labels choice j i → IsLimit (get_or labels i d) (get_or labels j d) (choice j) (choice i)
   pub blocks : (labels : List Label) (choice : Choice) (j i : ℕ) → j < i → ((d : Label) → IsLess (choice i) (value_of (get_or labels i d).max)) → ((d : Label) → IsLimit (get_or labels i d) (get_or labels j d) (choice j) (choice i)) → Blocks labels choice j i
 
@@ -83,18 +85,9 @@ module _ (known : Known) {labels : List Label} {c : Choice} {i j : ℕ} {a b : L
         first None h = λ k l. elim (cases_lt k j) [ inl less ↦ h k less | inr more ↦ let same : k ≡ j = omega arith in rw same clear ]
         first (Some m) h = h
 
-    -- the label at j allows the maximum
-    pub due_free : Allows a b v (value_of a.max) → IsDue labels c i (j + 1) due
-    due_free h =
-        let allowed : Allows a b v u = known.smaller a b v v u (value_of a.max) (omega arith) pair.good.1 h in
-        let range : IsLess (value_of a.min) (value_of a.max) = a.range in
-        due_clear allowed (clear_at allowed (λ limit below. let le : IsAtMost (value_of a.max) u = limit.greatest (value_of a.max) (omega arith, omega arith) h in omega arith))
-
-    -- its limit is above the end
-    pub due_above : {f : Fraction} → IsLimit a b v f → IsLess u f → IsDue labels c i (j + 1) due
-    due_above {f} limit less =
-        let allowed : Allows a b v u = known.smaller a b v v u f (omega arith) (omega arith) limit.allowed in
-        due_clear allowed (clear_at allowed (λ other below. let le : IsAtMost f u = other.greatest f limit.is_end limit.allowed in omega arith))
+    -- the label at j sets no limit up to the end
+    pub due_none : SetsNoneUpTo a b v u → IsDue labels c i (j + 1) due
+    due_none none = due_clear (known.allowed a b v u pair.good.1 none) (clear_at (known.allowed a b v u pair.good.1 none) (λ limit below. let above : IsLess u u = none u limit below in omega arith))
 
     -- its limit is the end, and no label before it blocks
     pub due_more : {f : Fraction} → IsLimit a b v f → IsLess f (value_of a.max) → IsSame f u → is_some due ≡ false → IsDue labels c i (j + 1) (Some j)

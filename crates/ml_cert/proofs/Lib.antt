@@ -1,6 +1,9 @@
-pub mod Dues
-pub mod Judging
-pub mod Certified
-pub mod LineLemmas
-pub mod PlaceLemmas
-pub mod ReadSoFar
+mod Dues
+mod Judging
+mod Certified
+mod LineLemmas
+mod PlaceLemmas
+mod ReadSoFar
+mod OneVerdict
+mod OneSlots
+mod Anchoring

@@ -1,3 +1,4 @@
 pub mod Judged
 pub mod SlotLine
 pub mod SlotsText
+pub mod Anchors

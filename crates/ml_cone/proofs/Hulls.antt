@@ -1,25 +1,19 @@
 -- Floors, the reach of a label, and the cells of its hull.
-use Rattle.std.proofs.Common.{◌≡◌, ap, ℕ, ◌+◌, ◌*◌, ◌^◌, ◌<◌, ◌≤◌, arith, List, [], ◌∷◌, ℤ, pos, negsuc, ◌+ℤ◌, ◌*ℤ◌, ◌<ℤ◌, ◌≤ℤ◌}
-use Rattle.std.specs.Prelude.{All}
+use Rattle.std.proofs.Common.{◌≡◌, ◌⊎◌, inl, inr, ⊎_elim, refl, sym, ◌∙◌, ap, ℕ, suc, ◌+◌, ◌*◌, ◌^◌, ◌<◌, ◌≤◌, arith, List, [], ◌∷◌, ℤ, pos, negsuc, ◌+ℤ◌, ◌*ℤ◌, ◌<ℤ◌, ◌≤ℤ◌}
+use Rattle.std.specs.Prelude.{All, Any, int_lt}
 use Rattle.std.specs.List.{fold}
 use Rattle.std.specs.Int.{int_div_euclid, int_min, int_max}
+use Rattle.std.proofs.lemmas.Bool.{cases_cond}
 use Rattle.std.proofs.lemmas.Int.{ints, clamps, by_lt_z}
 use Rattle.std.proofs.lemmas.List.Elements.{All-nil, All-cons, All-head, All-tail, All-weaker}
 use Rattle.std.proofs.lemmas.Nat.{mul-le, pow_pos, pow-add}
-use borrow.Author.Differences.{up, down, le_out, lt_out, sum_is_lem}
+use Rattle.ml_ratio.proofs.lemmas.Rounding.{scaled_le, sum_scaled, stretch_le, quotient_low, quotient_high}
 use Rattle.ml_cone.specs.Plane.{IsBox, lowered, raised}
 use Rattle.ml_cone.specs.Overlap.{widened}
 use Rattle.ml_cone.specs.Cells.{cell_side, cell_at}
-use Rattle.ml_cone.specs.Hull.{join, no_reach, reach_of, hull_of, AreFew, Holds, IsStretch, IsExtent}
+use Rattle.ml_cone.specs.Hull.{join, no_reach, reach_of, hull_of, AreFew, Holds, IsStretch, IsExtent, IsLeastReach}
 use Rattle.ml_cone.specs.declared.label.BoxPx.{BoxPx}
 use Rattle.ml_cone.specs.declared.label.Label.{Label}
-
--- ---- floors
-
--- the quotient q that rounds down has q * k ≤ a < q * k + k
-pub floor_parts : (a : ℤ) (k : ℕ) → 0 < k → (up (int_div_euclid a (pos k)) * k + down a ≤ down (int_div_euclid a (pos k)) * k + up a) × (down (int_div_euclid a (pos k)) * k + up a < up (int_div_euclid a (pos k)) * k + down a + k)
-floor_parts (pos a) k h = omega arith
-floor_parts (negsuc a) k h = omega arith
 
 -- ---- the reach
 
@@ -95,6 +89,34 @@ pub reach_holds : (a : Label) → All (λ p. Holds (reach_of a) (widened a p)) a
 unfolding reach_of
 reach_holds a = fold_holds_all (widened a) no_reach a.boxes
 
+-- a side that a join takes from one of its two is, in the end, the first one's or that of some box
+fold_side : (side : BoxPx → ℤ) → ((a p : BoxPx) → (side (join a p) ≡ side a) ⊎ (side (join a p) ≡ side p)) → (w : BoxPx → BoxPx) (a : BoxPx) (boxes : List BoxPx) →
+    (side (fold (λ all p. join all (w p)) a boxes) ≡ side a) ⊎ Any (λ p. side (w p) ≡ side (fold (λ all q. join all (w q)) a boxes)) boxes
+fold_side side of_either w a [] = inl refl
+fold_side side of_either w a (p ∷ rest) =
+    ⊎_elim
+    (λ same. ⊎_elim (λ old. inl (same ∙ old)) (λ new. inr (0, p, omega arith, refl, sym (same ∙ new))) (of_either a (w p)))
+    (λ there. inr (suc there.0, there.1, omega (arith, there.2), there.3, there.4))
+    (fold_side side of_either w (join a (w p)) rest)
+
+least_is_one : (x y : ℤ) → (int_min x y ≡ x) ⊎ (int_min x y ≡ y)
+least_is_one x y = ⊎_elim inr inl (cases_cond (int_lt y x) y x (int_min x y) refl)
+
+greatest_is_one : (x y : ℤ) → (int_max x y ≡ x) ⊎ (int_max x y ≡ y)
+greatest_is_one x y = cases_cond (int_lt y x) x y (int_max x y) refl
+
+-- the reach is the least box about the anchor and all widened boxes
+pub reach_is_least : (a : Label) → IsLeastReach a (reach_of a)
+unfolding reach_of
+reach_is_least a = record {
+  anchor = fold_holds_first (widened a) no_reach a.boxes;
+  boxes = fold_holds_all (widened a) no_reach a.boxes;
+  l_is = fold_side (λ p. p.l) (λ c p. least_is_one c.l p.l) (widened a) no_reach a.boxes;
+  b_is = fold_side (λ p. p.b) (λ c p. least_is_one c.b p.b) (widened a) no_reach a.boxes;
+  r_is = fold_side (λ p. p.r) (λ c p. greatest_is_one c.r p.r) (widened a) no_reach a.boxes;
+  t_is = fold_side (λ p. p.t) (λ c p. greatest_is_one c.t p.t) (widened a) no_reach a.boxes;
+}
+
 less_outwards : (u : ℤ) (g : ℕ) → lowered u g ≤ℤ u
 less_outwards u g = omega (arith, ints)
 
@@ -118,36 +140,6 @@ side_pos k = omega (arith, pow_pos k)
 pixel_is : (k : ℕ) → 2 ^ (k + 1) ≡ 2 * 2 ^ k
 pixel_is k = let e = pow-add 2 k 1 in omega arith
 
--- ---- order of columns
-
-pub mul_mono : (a b : ℤ) (n : ℕ) → a ≤ℤ b → (a *ℤ pos n) ≤ℤ (b *ℤ pos n)
-mul_mono a b n h =
-    let o = le_out a b h in
-    let m = mul-le (up a + down b) n (up b + down a) n o (omega arith) in
-    omega (arith, ints)
-
-pub distrib : (a b : ℤ) (n : ℕ) → ((a +ℤ b) *ℤ pos n) ≡ ((a *ℤ pos n) +ℤ (b *ℤ pos n))
-distrib a b n =
-    let e : (up (a +ℤ b) + down a + down b) * n ≡ (down (a +ℤ b) + up a + up b) * n = ap (λ (t : ℕ). t * n) (sum_is_lem a b) in
-    omega (arith, ints)
-
--- columns p and q, where p begins at or below a place that q ends above
-pub column_le : (p q t v : ℤ) (side : ℕ) → (p *ℤ pos side) ≤ℤ t → t ≤ℤ v → v <ℤ ((q +ℤ pos 1) *ℤ pos side) → p ≤ℤ q
-column_le p q t v side h i j =
-    by_lt_z q p
-    (λ less.
-    let o = lt_out q p less in
-    let m = mul-le (up q + down p + 1) side (up p + down q) side (omega arith) (omega arith) in
-    let e = distrib q (pos 1) side in
-    absurd (omega (arith, ints)))
-    (λ le. le)
-
-pub floor_low : (a : ℤ) (k : ℕ) → 0 < k → (int_div_euclid a (pos k) *ℤ pos k) ≤ℤ a
-floor_low a k h = let p = floor_parts a k h in omega (arith, ints)
-
-pub floor_high : (a : ℤ) (k : ℕ) → 0 < k → a <ℤ ((int_div_euclid a (pos k) +ℤ pos 1) *ℤ pos k)
-floor_high a k h = let p = floor_parts a k h in let e = distrib (int_div_euclid a (pos k)) (pos 1) k in omega (arith, ints)
-
 -- the reach of a label takes one to four columns
 few_floors : (x l r : ℤ) (side pixel : ℕ) → 0 < side → pixel * 1152 ≤ 3 * side → IsStretch l r →
     AreFew (int_div_euclid (x +ℤ (l *ℤ pos pixel)) (pos side)) (int_div_euclid (x +ℤ (r *ℤ pos pixel)) (pos side))
@@ -155,20 +147,20 @@ few_floors x l r side pixel h e k =
     let k0 = k.from in let k1 = k.left in let k2 = k.right in let k3 = k.until in
     let over : l ≤ℤ r = omega (arith, ints) in
     let near : r ≤ℤ (l +ℤ pos 1152) = omega (arith, ints) in
-    let rise = mul_mono l r pixel over in
-    let more = mul_mono r (l +ℤ pos 1152) pixel near in
-    let low = floor_low (x +ℤ (l *ℤ pos pixel)) side h in
-    let high = floor_high (x +ℤ (l *ℤ pos pixel)) side h in
-    let from = floor_low (x +ℤ (r *ℤ pos pixel)) side h in
-    let until = floor_high (x +ℤ (r *ℤ pos pixel)) side h in
+    let rise = scaled_le l r pixel over in
+    let more = scaled_le r (l +ℤ pos 1152) pixel near in
+    let low = quotient_low (x +ℤ (l *ℤ pos pixel)) side h in
+    let high = quotient_high (x +ℤ (l *ℤ pos pixel)) side h in
+    let from = quotient_low (x +ℤ (r *ℤ pos pixel)) side h in
+    let until = quotient_high (x +ℤ (r *ℤ pos pixel)) side h in
     let a = int_div_euclid (x +ℤ (l *ℤ pos pixel)) (pos side) in
     let b = int_div_euclid (x +ℤ (r *ℤ pos pixel)) (pos side) in
-    let e1 = distrib l (pos 1152) pixel in
-    let e2 = distrib a (pos 1) side in
-    let e3 = distrib (a +ℤ pos 3) (pos 1) side in
-    let e4 = distrib a (pos 3) side in (
-      column_le a b (x +ℤ (l *ℤ pos pixel)) (x +ℤ (r *ℤ pos pixel)) side low (omega (arith, ints)) until,
-      column_le b (a +ℤ pos 3) (x +ℤ (r *ℤ pos pixel)) (x +ℤ (r *ℤ pos pixel)) side from (omega (arith, ints)) (omega (arith, ints)),
+    let e1 = sum_scaled l (pos 1152) pixel in
+    let e2 = sum_scaled a (pos 1) side in
+    let e3 = sum_scaled (a +ℤ pos 3) (pos 1) side in
+    let e4 = sum_scaled a (pos 3) side in (
+      stretch_le a b (x +ℤ (l *ℤ pos pixel)) (x +ℤ (r *ℤ pos pixel)) side low (omega (arith, ints)) until,
+      stretch_le b (a +ℤ pos 3) (x +ℤ (r *ℤ pos pixel)) (x +ℤ (r *ℤ pos pixel)) side from (omega (arith, ints)) (omega (arith, ints)),
     )
 
 pub few_columns : (x l r : ℤ) (k : ℕ) → IsStretch l r → AreFew (cell_at x l k) (cell_at x r k)

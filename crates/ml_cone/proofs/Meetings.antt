@@ -8,8 +8,8 @@ use Rattle.std.proofs.lemmas.Nat.{mul-le, mul-lt}
 use borrow.Author.Differences.{product_is}
 use Rattle.ml_ratio.specs.Fraction.{Fraction, value_of, IsLess, IsAtMost}
 use Rattle.ml_ratio.specs.Band.{IsInBand, MeetsBand}
-use Rattle.ml_ratio.proofs.Bands.{has_band}
-use Rattle.ml_ratio.proofs.Fractions.{at_most_trans, at_most_less, less_at_most, less_trans, middle, middle_above, middle_below}
+use Rattle.ml_ratio.proofs.lemmas.Bands.{has_band}
+use Rattle.ml_ratio.proofs.lemmas.Fractions.{less_is_at_most, at_most_trans, at_most_less, less_at_most, less_trans, middle, middle_above, middle_below}
 use Rattle.ml_cone.specs.Plane.{IsBelow, SidesMeet, SideInWindow, edge}
 use Rattle.ml_cone.specs.Shown.{BoxInView, IsInView}
 use Rattle.ml_cone.specs.declared.view.View.{View}
@@ -24,7 +24,8 @@ use Rattle.std.proofs.Common.{inl, inr}
 use Rattle.std.proofs.lemmas.Bool.{cases_lt}
 use Rattle.ml_cone.specs.declared.label.BoxPx.{BoxPx}
 use Rattle.ml_cone.specs.declared.label.Label.{Label}
-use Rattle.ml_cone.proofs.Hulls.{few_columns, reach_extent, reach_holds, reach_holds_plain, side_pos, mul_mono, distrib, column_le, floor_low, floor_high}
+use Rattle.ml_ratio.proofs.lemmas.Rounding.{scaled_le, sum_scaled, stretch_le, quotient_low, quotient_high}
+use Rattle.ml_cone.proofs.Hulls.{few_columns, reach_extent, reach_holds, reach_holds_plain, side_pos}
 
 -- ---- the hull holds what the label covers
 
@@ -46,33 +47,33 @@ right_grows (negsuc u) n m h k = absurd (omega (arith, ints))
 low_side : (x l from c : ℤ) (side pixel d n : ℕ) → (c *ℤ pos side) ≤ℤ (x +ℤ (from *ℤ pos pixel)) → from ≤ℤ pos 0 → from ≤ℤ l → n ≤ pixel * d →
     (c *ℤ pos (side * d)) ≤ℤ ((x *ℤ pos d) +ℤ (l *ℤ pos n))
 low_side x l from c side pixel d n h left le k =
-    let m = mul_mono (c *ℤ pos side) (x +ℤ (from *ℤ pos pixel)) d h in
+    let m = scaled_le (c *ℤ pos side) (x +ℤ (from *ℤ pos pixel)) d h in
     let e1 = mul_twice c side d in
-    let e2 = distrib x (from *ℤ pos pixel) d in
+    let e2 = sum_scaled x (from *ℤ pos pixel) d in
     let e3 = mul_twice from pixel d in
     let g = left_grows from n (pixel * d) left k in
-    let o = mul_mono from l n le in
+    let o = scaled_le from l n le in
     omega (arith, ints)
 
 high_side : (x r until c : ℤ) (side pixel d n : ℕ) → (x +ℤ (until *ℤ pos pixel)) <ℤ ((c +ℤ pos 1) *ℤ pos side) → pos 0 ≤ℤ until → r ≤ℤ until → n ≤ pixel * d → 0 < d →
     ((x *ℤ pos d) +ℤ (r *ℤ pos n)) <ℤ ((c +ℤ pos 1) *ℤ pos (side * d))
 high_side x r until c side pixel d n h right le k positive =
     let one : ((x +ℤ (until *ℤ pos pixel)) +ℤ pos 1) ≤ℤ ((c +ℤ pos 1) *ℤ pos side) = omega (arith, ints) in
-    let m = mul_mono ((x +ℤ (until *ℤ pos pixel)) +ℤ pos 1) ((c +ℤ pos 1) *ℤ pos side) d one in
-    let e0 = distrib (x +ℤ (until *ℤ pos pixel)) (pos 1) d in
+    let m = scaled_le ((x +ℤ (until *ℤ pos pixel)) +ℤ pos 1) ((c +ℤ pos 1) *ℤ pos side) d one in
+    let e0 = sum_scaled (x +ℤ (until *ℤ pos pixel)) (pos 1) d in
     let e1 = mul_twice (c +ℤ pos 1) side d in
-    let e2 = distrib x (until *ℤ pos pixel) d in
+    let e2 = sum_scaled x (until *ℤ pos pixel) d in
     let e3 = mul_twice until pixel d in
     let g = right_grows until n (pixel * d) right k in
-    let o = mul_mono r until n le in
+    let o = scaled_le r until n le in
     omega (arith, ints)
 
 -- the columns of a stretch hold every side within it, at every scale below the upper end of the band
 pub side_in_columns : (x l r from until : ℤ) (k : ℕ) (s : Fraction) → IsStretch from until → from ≤ℤ l → r ≤ℤ until → s.num < 2 ^ (k + 1) * s.den →
     SideInColumns x l r k (cell_at x from k) (cell_at x until k) s
 side_in_columns x l r from until k s h le ge below = (
-  low_side x l from (cell_at x from k) (cell_side k) (2 ^ (k + 1)) s.den s.num (floor_low _ _ (side_pos k)) h.left le (omega arith),
-  high_side x r until (cell_at x until k) (cell_side k) (2 ^ (k + 1)) s.den s.num (floor_high _ _ (side_pos k)) h.right ge (omega arith) s.positive,
+  low_side x l from (cell_at x from k) (cell_side k) (2 ^ (k + 1)) s.den s.num (quotient_low _ _ (side_pos k)) h.left le (omega arith),
+  high_side x r until (cell_at x until k) (cell_side k) (2 ^ (k + 1)) s.den s.num (quotient_high _ _ (side_pos k)) h.right ge (omega arith) s.positive,
 )
 
 -- the hull holds what a box covers that the reach holds, at every scale below the upper end of the band
@@ -104,12 +105,9 @@ columns_of_sides : (x l r y m t : ℤ) (k : ℕ) (c d e f : ℤ) (s : Fraction) 
 unfolding IsBelow
 columns_of_sides x l r y m t k c d e f s h i meet =
     let h0 = h.0 in let h1 = h.1 in let i0 = i.0 in let i1 = i.1 in let m0 = meet.0 in let m1 = meet.1 in (
-      column_le c f (edge x l s) (edge y t s) (cell_side k * s.den) h0 (omega (arith, ints)) i1,
-      column_le e d (edge y m s) (edge x r s) (cell_side k * s.den) i0 (omega (arith, ints)) h1,
+      stretch_le c f (edge x l s) (edge y t s) (cell_side k * s.den) h0 (omega (arith, ints)) i1,
+      stretch_le e d (edge y m s) (edge x r s) (cell_side k * s.den) i0 (omega (arith, ints)) h1,
     )
-
-pub less_is_at_most : (a b : Fraction) → IsLess a b → IsAtMost a b
-less_is_at_most a b h = omega arith
 
 whole : ℕ → Fraction
 whole n = record { num = n; den = 1; positive = lit< tt }
@@ -264,14 +262,14 @@ seen_column c d low high from until side positive some wide begins ends below ab
     (λ here. (c, omega (arith, ints), some, omega (arith, ints), here))
     (λ later.
     let x = int_div_euclid from (pos (2 * side)) in
-    let f = floor_low from (2 * side) (omega arith) in
-    let g = floor_high from (2 * side) (omega arith) in
+    let f = quotient_low from (2 * side) (omega arith) in
+    let g = quotient_high from (2 * side) (omega arith) in
     let e1 = twice x side in
     let e2 = twice (x +ℤ pos 1) side in
     let e3 = twice (c +ℤ pos 1) side in
     let e4 = twice (d +ℤ pos 1) side in
-    let after : (c +ℤ pos 1) ≤ℤ x = column_le (c +ℤ pos 1) x from from (2 * side) (omega (arith, ints)) (omega (arith, ints)) g in
-    let before : x ≤ℤ d = column_le x d from (pos 2 *ℤ high) (2 * side) f (omega (arith, ints)) (omega (arith, ints)) in
+    let after : (c +ℤ pos 1) ≤ℤ x = stretch_le (c +ℤ pos 1) x from from (2 * side) (omega (arith, ints)) (omega (arith, ints)) g in
+    let before : x ≤ℤ d = stretch_le x d from (pos 2 *ℤ high) (2 * side) f (omega (arith, ints)) (omega (arith, ints)) in
     (x, omega (arith, ints), before, omega (arith, ints), omega (arith, ints)))
 
 seen_side : (x l r c : ℤ) (w k : ℕ) (from until : ℤ) (s : Fraction) → 0 < w → 0 < s.num → from ≤ℤ until → SideInColumns x l r k from until s → SideInWindow x l r c w s →

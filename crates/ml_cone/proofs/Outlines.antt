@@ -6,7 +6,7 @@ use Rattle.std.proofs.lemmas.Nat.{mul-le, pow-add}
 use Rattle.std.proofs.Math.Nat.{pow-le-pow_right}
 use Rattle.ml_ratio.specs.Fraction.{Fraction, value_of, IsAtMost}
 use Rattle.ml_ratio.specs.Band.{MeetsBand}
-use Rattle.ml_ratio.proofs.Fractions.{at_most_trans}
+use Rattle.ml_ratio.proofs.lemmas.Fractions.{at_most_trans}
 use Rattle.ml_cone.specs.Plane.{IsBelow, SidesMeet, edge}
 use Rattle.ml_cone.specs.Cells.{cell_side, column_of, cell_at}
 use Rattle.ml_cone.specs.Hull.{Holds, IsStretch, IsExtent, area_of, join, reach_of, hull_of}
@@ -16,26 +16,20 @@ use Rattle.ml_cone.specs.declared.cells.Cells.{Cells}
 use Rattle.ml_cone.specs.declared.label.BoxPx.{BoxPx}
 use Rattle.ml_cone.specs.declared.label.Label.{Label}
 use Rattle.ml_cone.specs.declared.outline.Outline.{Outline}
-use Rattle.ml_cone.proofs.Hulls.{Holds-trans, stretch_join, reach_extent, reach_holds, side_pos, mul_mono, distrib, column_le, floor_low, floor_high}
+use Rattle.ml_ratio.proofs.lemmas.Rounding.{scaled_le, unscaled_lt, sum_scaled, stretch_le, quotient_low, quotient_high}
+use Rattle.ml_cone.proofs.Hulls.{Holds-trans, stretch_join, reach_extent, reach_holds, side_pos}
 use Rattle.ml_cone.proofs.Meetings.{mul_twice, left_grows, right_grows, at_place, cells_of_overlap, meets_here}
 
 -- a place that is not below another lies in no column before its
 floor_mono : (t v : ℤ) (side : ℕ) → 0 < side → t ≤ℤ v → int_div_euclid t (pos side) ≤ℤ int_div_euclid v (pos side)
-floor_mono t v side h le = column_le (int_div_euclid t (pos side)) (int_div_euclid v (pos side)) t v side (floor_low t side h) le (floor_high v side h)
-
--- what is less after all was multiplied is less
-less_back : (a b : ℤ) (d : ℕ) → (a *ℤ pos d) <ℤ (b *ℤ pos d) → a <ℤ b
-less_back a b d h =
-    by_lt_z a b
-    (λ less. less)
-    (λ ge. let m = mul_mono b a d ge in absurd (omega (arith, ints)))
+floor_mono t v side h le = stretch_le (int_div_euclid t (pos side)) (int_div_euclid v (pos side)) t v side (quotient_low t side h) le (quotient_high v side h)
 
 -- (l - r) * n is l * n - r * n
-difference_times : (l r : ℤ) (n : ℕ) → (l *ℤ pos n) ≡ (((l -ℤ r) *ℤ pos n) +ℤ (r *ℤ pos n))
+pub difference_times : (l r : ℤ) (n : ℕ) → (l *ℤ pos n) ≡ (((l -ℤ r) *ℤ pos n) +ℤ (r *ℤ pos n))
 difference_times l r n =
     let k : ((l -ℤ r) +ℤ r) ≡ l = omega (arith, ints) in
     let e : (((l -ℤ r) +ℤ r) *ℤ pos n) ≡ (l *ℤ pos n) = ap (λ (z : ℤ). z *ℤ pos n) k in
-    let d = distrib (l -ℤ r) r n in
+    let d = sum_scaled (l -ℤ r) r n in
     omega (arith, ints)
 
 -- a side that begins at `from` or later begins below the end, at `to` or before, of one about y: so y is not far below x
@@ -43,12 +37,12 @@ near_below : (x y l r from to : ℤ) (p : ℕ) (s : Fraction) → s.num ≤ p * 
 near_below x y l r from to p s below first last left less =
     let u : ℤ = from -ℤ to in
     let le : u ≤ℤ (l -ℤ r) = omega (arith, ints) in
-    let m = mul_mono u (l -ℤ r) s.num le in
+    let m = scaled_le u (l -ℤ r) s.num le in
     let e = difference_times l r s.num in
     let g = left_grows u s.num (p * s.den) left below in
     let t = mul_twice u p s.den in
-    let d = distrib x (u *ℤ pos p) s.den in
-    let h : (x +ℤ (u *ℤ pos p)) <ℤ y = less_back (x +ℤ (u *ℤ pos p)) y s.den (omega (arith, ints)) in
+    let d = sum_scaled x (u *ℤ pos p) s.den in
+    let h : (x +ℤ (u *ℤ pos p)) <ℤ y = unscaled_lt (x +ℤ (u *ℤ pos p)) y s.den (omega (arith, ints)) in
     omega (arith, ints)
 
 -- and a side that ends at `to` or before ends above the beginning, at `from` or later, of one about y: so y is not far above x
@@ -56,20 +50,20 @@ near_above : (x y l r from to : ℤ) (p : ℕ) (s : Fraction) → s.num ≤ p * 
 near_above x y l r from to p s below first last right less =
     let v : ℤ = to -ℤ from in
     let le : (r -ℤ l) ≤ℤ v = omega (arith, ints) in
-    let m = mul_mono (r -ℤ l) v s.num le in
+    let m = scaled_le (r -ℤ l) v s.num le in
     let e = difference_times r l s.num in
     let g = right_grows v s.num (p * s.den) right below in
     let t = mul_twice v p s.den in
-    let d = distrib x (v *ℤ pos p) s.den in
-    let h : y <ℤ (x +ℤ (v *ℤ pos p)) = less_back y (x +ℤ (v *ℤ pos p)) s.den (omega (arith, ints)) in
+    let d = sum_scaled x (v *ℤ pos p) s.den in
+    let h : y <ℤ (x +ℤ (v *ℤ pos p)) = unscaled_lt y (x +ℤ (v *ℤ pos p)) s.den (omega (arith, ints)) in
     omega (arith, ints)
 
 -- the anchor's column is among those of a stretch
 anchor_column : (x l r : ℤ) (k : ℕ) → IsStretch l r → (cell_at x l k ≤ℤ int_div_euclid x (pos (cell_side k))) × (int_div_euclid x (pos (cell_side k)) ≤ℤ cell_at x r k)
 anchor_column x l r k h =
     let p : ℕ = 2 ^ (k + 1) in
-    let down = mul_mono l (pos 0) p h.left in
-    let up = mul_mono (pos 0) r p h.right in (
+    let down = scaled_le l (pos 0) p h.left in
+    let up = scaled_le (pos 0) r p h.right in (
       floor_mono (x +ℤ (l *ℤ pos p)) x (cell_side k) (side_pos k) (omega (arith, ints)),
       floor_mono x (x +ℤ (r *ℤ pos p)) (cell_side k) (side_pos k) (omega (arith, ints)),
     )
@@ -82,17 +76,17 @@ few_about x u v k j le few =
     let s = side_pos j in
     let a : ℤ = column_of x u k j in
     let b : ℤ = column_of x v k j in
-    let rise = mul_mono u v p le in
+    let rise = scaled_le u v p le in
     let gap = difference_times v u p in
-    let low = floor_low (x +ℤ (u *ℤ pos p)) side s in
-    let high = floor_high (x +ℤ (u *ℤ pos p)) side s in
-    let from = floor_low (x +ℤ (v *ℤ pos p)) side s in
-    let until = floor_high (x +ℤ (v *ℤ pos p)) side s in
-    let e2 = distrib a (pos 1) side in
-    let e3 = distrib (a +ℤ pos 3) (pos 1) side in
-    let e4 = distrib a (pos 3) side in (
-      column_le a b (x +ℤ (u *ℤ pos p)) (x +ℤ (v *ℤ pos p)) side low (omega (arith, ints)) until,
-      column_le b (a +ℤ pos 3) (x +ℤ (v *ℤ pos p)) (x +ℤ (v *ℤ pos p)) side from (omega (arith, ints)) (omega (arith, ints)),
+    let low = quotient_low (x +ℤ (u *ℤ pos p)) side s in
+    let high = quotient_high (x +ℤ (u *ℤ pos p)) side s in
+    let from = quotient_low (x +ℤ (v *ℤ pos p)) side s in
+    let until = quotient_high (x +ℤ (v *ℤ pos p)) side s in
+    let e2 = sum_scaled a (pos 1) side in
+    let e3 = sum_scaled (a +ℤ pos 3) (pos 1) side in
+    let e4 = sum_scaled a (pos 3) side in (
+      stretch_le a b (x +ℤ (u *ℤ pos p)) (x +ℤ (v *ℤ pos p)) side low (omega (arith, ints)) until,
+      stretch_le b (a +ℤ pos 3) (x +ℤ (v *ℤ pos p)) (x +ℤ (v *ℤ pos p)) side from (omega (arith, ints)) (omega (arith, ints)),
     )
 
 -- the column of a label's anchor is among those of the area, where sides of both labels meet
@@ -203,4 +197,4 @@ finer_few (pos u) n k j le narrow =
     let f : u * (2 ^ j * 2 ^ (n + 1)) ≡ u * 2 ^ (n + 1) * 2 ^ j = omega arith in
     let g : u * 2 ^ (j + (n + 1)) ≡ u * (2 ^ j * 2 ^ (n + 1)) = ap (λ (t : ℕ). u * t) e in
     omega (arith, ints)
-finer_few (negsuc u) n k j le narrow = let m = mul_mono (negsuc u) (pos 0) (2 ^ (k + 1)) (omega (arith, ints)) in omega (arith, ints)
+finer_few (negsuc u) n k j le narrow = let m = scaled_le (negsuc u) (pos 0) (2 ^ (k + 1)) (omega (arith, ints)) in omega (arith, ints)

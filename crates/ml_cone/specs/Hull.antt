@@ -1,4 +1,4 @@
-use Rattle.std.specs.Prelude.{ℕ, ℤ, pos, negsuc, ◌≤ℤ◌, ◌+ℤ◌, ◌-ℤ◌, All}
+use Rattle.std.specs.Prelude.{ℕ, ℤ, pos, negsuc, ◌≡◌, ◌⊎◌, ◌≤ℤ◌, ◌+ℤ◌, ◌-ℤ◌, All, Any}
 use Rattle.std.specs.List.{fold}
 use Rattle.std.specs.Int.{int_min, int_max}
 use Rattle.ml_ratio.specs.Fraction.{Fraction}
@@ -64,3 +64,16 @@ pub record IsStretch (l r : ℤ) : Type 0 where
 pub record IsExtent (a : BoxPx) : Type 0 where
   pub wide : IsStretch a.l a.r
   pub high : IsStretch a.b a.t
+
+-- the number is 0, or this side of some box of the label, widened by its margin
+abbrev pub IsZeroOrSide : (BoxPx → ℤ) → Label → ℤ → Type 0
+IsZeroOrSide side a n = (n ≡ pos 0) ⊎ Any (λ p. side (widened a p) ≡ n) a.boxes
+
+-- the box holds the label's anchor and all its boxes, widened by its margin, and each of its sides is that of one of them: no less box holds them
+pub record IsLeastReach (a : Label) (reach : BoxPx) : Type 0 where
+  pub anchor : Holds reach no_reach
+  pub boxes : All (λ p. Holds reach (widened a p)) a.boxes
+  pub l_is : IsZeroOrSide (λ p. p.l) a reach.l
+  pub b_is : IsZeroOrSide (λ p. p.b) a reach.b
+  pub r_is : IsZeroOrSide (λ p. p.r) a reach.r
+  pub t_is : IsZeroOrSide (λ p. p.t) a reach.t

@@ -4,10 +4,12 @@ ghost use Rattle.std.specs.Prelude.{ℕ};
 ghost use Rattle.ml_ratio.specs.Fraction.{Fraction, IsLess, IsAtMost, value_of};
 ghost use Rattle.ml_ratio.specs.Band.{IsInBand};
 ghost use Rattle.ml_cone.specs.Choice.{ActiveUntil, IsEnd, CoversFrom};
-ghost use Rattle.ml_cone.specs.Hull.{hull_of, HoldLabel, AreFew};
+ghost use Rattle.ml_cone.specs.Hull.{hull_of, reach_of, HoldLabel, AreFew, IsLeastReach};
 ghost use Rattle.ml_cone.specs.Cell.{SharedCell, BoundCell, SeenCell};
 ghost use Rattle.ml_cone.specs.Rivals.{AreRivals};
 ghost use Rattle.ml_cone.specs.Outline.{RivalBand, BoundBand};
+ghost use Rattle.ml_cone.specs.Overlap.{Overlap};
+ghost use Rattle.ml_cone.specs.Near.{ExtentsOverlap};
 ghost use Rattle.ml_cone.specs.Shown.{IsInView};
 ghost use Rattle.ml_cone.specs.declared.label.Label.{Label};
 ghost use Rattle.ml_cone.specs.declared.view.View.{View};
@@ -17,6 +19,12 @@ pub fn l3()
     ensures { (label : Label) (until low middle high : Fraction) →
         ActiveUntil label until low → ActiveUntil label until high → IsAtMost low middle → IsAtMost middle high →
         ActiveUntil label until middle }
+{}
+
+/// The reach of a label is the least box that holds its anchor and all its boxes, each widened by its
+/// margin: each side of the reach is 0, where the anchor is, or that of one of these boxes.
+pub fn reach_is_least()
+    ensures { (label : Label) → IsLeastReach label (reach_of label) }
 {}
 
 /// The hull's cells in a band hold all that the label covers, with its boxes widened by its margin, at
@@ -60,4 +68,11 @@ pub fn bound_overlaps()
 pub fn seen_in_cell()
     ensures { (label : Label) (view : View) (k : ℕ) →
         IsInBand (value_of view.scale) k → IsInView label view → SeenCell label view k }
+{}
+
+/// Where two labels overlap at a scale their extents do, and extents that overlap at a scale overlap at
+/// each greater one.
+pub fn extents()
+    ensures hold { (a b : Label) (s : Fraction) → Overlap a b s → ExtentsOverlap a b s }
+    ensures grow { (a b : Label) (s t : Fraction) → IsAtMost s t → ExtentsOverlap a b s → ExtentsOverlap a b t }
 {}

@@ -6,6 +6,7 @@
 //!
 //! - [`label`]: boxes and labels; [`order`]: the priority order; [`same`]: whether labels are the same;
 //! - [`slot`]: active ranges and what ends them; [`view`]: a window of the world at a scale;
+//! - [`site`]: which labels lie too far apart to overlap;
 //! - [`overlap`], [`window`]: the tests of single labels at a scale, over `edge` and `margin`: where
 //!   edges lie, and boxes widened by a margin ([`widened`]);
 //! - [`cells`], [`reach`]: squares of the world in bands of scales, and those that a label covers
@@ -24,6 +25,7 @@ pub mod outline;
 pub mod overlap;
 pub mod reach;
 pub mod same;
+pub mod site;
 pub mod slot;
 pub mod view;
 pub mod window;
@@ -36,6 +38,7 @@ pub use outline::Outline;
 pub use overlap::overlaps;
 pub use reach::hull;
 pub use same::{are_alike, same_labels, same_spans};
+pub use site::{Site, are_apart, are_clear};
 pub use slot::{Slot, Span, active};
 pub use view::View;
 pub use window::meets;

@@ -2,7 +2,7 @@
 use Rattle.std.proofs.Common.{◌↔◌, arith}
 use Rattle.ml_ratio.specs.Fraction.{Fraction, IsLess, IsAtMost}
 use Rattle.ml_conflict.specs.Begin.{Begins, Clear, Covers}
-use Rattle.ml_ratio.proofs.Fractions.{less_at_most, at_most_less}
+use Rattle.ml_ratio.proofs.lemmas.Fractions.{less_at_most, at_most_less}
 
 module _ (K : Fraction → Type 0) (start u best lo : Fraction) (under : Fraction → Type 0) (says : (s : Fraction) → K s ↔ (IsLess lo s × under s)) where
   -- the interval begins at the greater of `start` and its lower end

@@ -3,7 +3,7 @@ use Rattle.std.proofs.Common.{◌≡◌, ℕ, ◌+◌, ◌<◌, List, length, ge
 use Rattle.std.proofs.lemmas.Bool.{cases_lt}
 use Rattle.ml_ratio.specs.Fraction.{Fraction, value_of, IsLess, IsAtMost, IsSame}
 use Rattle.ml_ratio.specs.declared.ratio.Ratio.{Ratio}
-use Rattle.ml_ratio.proofs.Fractions.{at_most_trans, at_most_less, less_at_most, same_trans}
+use Rattle.ml_ratio.proofs.lemmas.Fractions.{at_most_trans, at_most_less, less_at_most, same_trans}
 use Rattle.ml_cone.specs.Choice.{IsEnd, Allows}
 use Rattle.ml_cone.specs.Slots.{Rival, RivalAllows, IsSetter, IsSlotAmong, rival_at}
 use Rattle.ml_cone.specs.declared.label.Label.{Label}

@@ -4,7 +4,7 @@ use Rattle.std.proofs.lemmas.Bool.{cases_eq, cases_lt}
 use Rattle.ml_ratio.specs.Fraction.{Fraction, IsLess, IsAtMost, IsSame}
 use Rattle.ml_cone.specs.Choice.{Allows, Choice, IsLongest}
 use Rattle.ml_cone.specs.declared.label.Label.{Label}
-use Rattle.ml_ratio.proofs.Fractions.{order}
+use Rattle.ml_ratio.proofs.lemmas.Fractions.{order}
 
 -- a smaller end, and a smaller end of the other, are allowed too
 pub Allows-smaller : (low high : Label) (u v e f : Fraction) → IsAtMost v u → IsAtMost e f → Allows low high u f → Allows low high v e

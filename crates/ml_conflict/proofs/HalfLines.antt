@@ -2,7 +2,7 @@
 use Rattle.std.proofs.Common.{◌≡◌, ℕ, zero, suc, ◌*◌, ◌↔◌, arith, ℤ, pos, negsuc, ◌*ℤ◌, ◌<ℤ◌, ◌≤ℤ◌, unsigned_abs}
 use Rattle.std.proofs.lemmas.Int.{ints}
 use Rattle.ml_ratio.specs.Fraction.{Fraction, IsLess, IsScale}
-use Rattle.ml_ratio.proofs.Fractions.{less_at_most, at_most_less}
+use Rattle.ml_ratio.proofs.lemmas.Fractions.{less_at_most, at_most_less}
 
 -- u < v * s, where r has the value of u/v
 pub half_up : (u v : ℤ) (k m : ℕ) (r : Fraction) → k ≡ unsigned_abs u → m ≡ unsigned_abs v → pos 0 ≤ℤ u → pos 0 <ℤ v → r.num * m ≡ k * r.den → (s : Fraction) → ((u *ℤ pos s.den) <ℤ (v *ℤ pos s.num)) ↔ IsLess r s

@@ -1,12 +1,15 @@
-pub mod HalfLines
-pub mod Openness
-pub mod Beginnings
-pub mod Unions
-pub mod Greedy
-pub mod Limits
-pub mod Own
-pub mod Carried
-pub mod OwnSlots
-pub mod SoundSlots
-pub mod RivalLemmas
-pub mod Evaluating
+mod HalfLines
+mod Openness
+mod Beginnings
+mod Unions
+mod Greedy
+mod Limits
+mod Own
+mod Carried
+mod OwnSlots
+mod SoundSlots
+mod RivalLemmas
+mod Evaluating
+mod OneChoice
+mod FewRivals
+mod Distances

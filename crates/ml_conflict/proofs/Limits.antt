@@ -3,10 +3,11 @@ use Rattle.std.proofs.Common.{◌*◌, ◌↔◌, arith, inl, inr, Some}
 use Rattle.std.proofs.lemmas.Bool.{cases_lt}
 use Rattle.ml_ratio.specs.Fraction.{Fraction, value_of, IsLess, IsAtMost, IsSame}
 use Rattle.ml_cone.specs.Overlap.{Overlap}
+use Rattle.ml_cone.specs.Near.{AreClear}
 use Rattle.ml_cone.specs.Choice.{IsEnd, Allows, IsLimit, CoversFrom}
 use Rattle.ml_conflict.specs.Begin.{Begins, Clear, Covers, IsBlock, SetsNoneUpTo}
 use Rattle.ml_cone.specs.declared.label.Label.{Label}
-use Rattle.ml_ratio.proofs.Fractions.{less_at_most, at_most_less, at_most_trans, middle, middle_above, middle_below, greater_of, scale_above}
+use Rattle.ml_ratio.proofs.lemmas.Fractions.{less_at_most, at_most_less, at_most_trans, middle, middle_above, middle_below, greater_of, scale_above}
 use Rattle.ml_conflict.proofs.Greedy.{Allows-smaller}
 use Rattle.ml_conflict.proofs.Openness.{under_both, HasBeginning, overlap_begins}
 
@@ -32,6 +33,13 @@ limit_of_covers low high u f is_end allowed covers =
             | inr more ↦ more
           ];
     }
+
+-- where the two overlap at no scale from where both ranges have begun on, below the bound and the other's end, the bound is allowed
+pub clear_allows : (low high : Label) (u start bound last : Fraction) → ((s : Fraction) → IsAtMost start s ↔ (IsAtMost (value_of low.min) s × IsAtMost (value_of high.min) s)) → ((s : Fraction) → IsLess s last ↔ (IsLess s bound × IsLess s u)) → Clear (λ s. Overlap low high s) start last last → Allows low high u bound
+unfolding Allows Clear
+clear_allows low high u start bound last from below clear s scale a b =
+    let under : IsLess s last = (below s).1 (a.1, b.1) in
+    clear s scale ((from s).1 (a.0, b.0)) under under
 
 -- where both ranges begin at or above the bound, the bound is allowed
 pub apart_allows : (low high : Label) (u start bound : Fraction) → ((s : Fraction) → IsAtMost start s ↔ (IsAtMost (value_of low.min) s × IsAtMost (value_of high.min) s)) → IsAtMost bound start → Allows low high u bound
@@ -147,6 +155,30 @@ none_of_allowed low high u bound allowed f limit below =
 pub none_of_above : (low high : Label) (u bound g : Fraction) → IsLimit low high u g → IsLess bound g → SetsNoneUpTo low high u bound
 none_of_above low high u bound g limit above f other below =
     less_at_most bound g f above (other.greatest g limit.is_end limit.allowed)
+
+-- labels that overlap at no scale up to some one above the bound: no limit is up to the bound
+pub none_of_clear : (low high : Label) (u bound : Fraction) → AreClear low high bound.num bound.den → SetsNoneUpTo low high u bound
+unfolding Allows
+none_of_clear low high u bound clear f limit below =
+    let t = clear.0 in
+    let above : IsLess bound t = clear.1 in
+    elim (cases_lt (bound.num * f.den) (f.num * bound.den)) [
+      | inl less ↦ less
+      | inr upto ↦
+          let up : IsLess f t = at_most_less f bound t upto above in
+          let from : IsAtMost (value_of low.min) f = limit.is_end.0 in
+          elim (cases_lt (t.num * low.max.den) (low.max.num * t.den)) [
+            | inl inside ↦
+                let e : IsEnd low t = (let k : IsLess (value_of low.min) t = at_most_less (value_of low.min) f t from up in omega arith, omega arith) in
+                let most : IsAtMost t f = limit.greatest t e (λ s scale a b over. clear.2 s (omega (arith, a.1)) over) in
+                absurd (omega arith)
+            | inr past ↦
+                let range : IsLess (value_of low.min) (value_of low.max) = low.range in
+                let most : IsAtMost (value_of low.max) f = limit.greatest (value_of low.max) (omega arith, omega arith)
+                (λ s scale a b over. clear.2 s (let k : IsLess s t = less_at_most s (value_of low.max) t a.1 past in omega arith) over) in
+                absurd (omega arith)
+          ]
+    ]
 
 -- a bound up to which no limit is set is allowed
 pub allowed_up_to : (low high : Label) (u bound : Fraction) → IsAtMost bound (value_of low.max) → SetsNoneUpTo low high u bound → Allows low high u bound

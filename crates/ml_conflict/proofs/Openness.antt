@@ -1,5 +1,5 @@
 -- Sets of scales that are open intervals, and where they and their unions begin.
-use Rattle.std.proofs.Common.{◌≡◌, ℕ, zero, suc, ◌+◌, ◌*◌, ◌↔◌, List, [], ◌∷◌, arith, ◌⊎◌, inl, inr, refl, ap, lit<, Option, Some, None, ℤ, pos, negsuc, ◌*ℤ◌, ◌<ℤ◌, ◌-ℤ◌}
+use Rattle.std.proofs.Common.{◌≡◌, ℕ, zero, suc, ◌+◌, ◌*◌, ◌↔◌, List, [], ◌∷◌, arith, ◌⊎◌, inl, inr, ap, lit<, Option, Some, None, ℤ, pos, negsuc, ◌*ℤ◌, ◌<ℤ◌, ◌-ℤ◌}
 use Rattle.std.proofs.lemmas.Bool.{cases_lt}
 use Rattle.std.proofs.lemmas.Int.{ints}
 use borrow.Author.Differences.{up, down}
@@ -10,7 +10,8 @@ use Rattle.ml_cone.specs.Plane.{IsBelow, SidesMeet, edge}
 use Rattle.ml_cone.specs.Overlap.{widened, RectanglesMeet, BoxesOverlap, BoxOverlaps, Overlap}
 use Rattle.ml_cone.specs.declared.label.Label.{Label}
 use Rattle.ml_cone.specs.declared.label.BoxPx.{BoxPx}
-use Rattle.ml_ratio.proofs.Fractions.{less_at_most, at_most_less, less_trans, at_most_trans, scale_above, greater_of}
+use Rattle.ml_ratio.proofs.lemmas.Fractions.{less_at_most, at_most_less, less_trans, at_most_trans, scale_above, greater_of}
+use Rattle.ml_ratio.proofs.lemmas.Anys.{any_here, any_there, any_cases}
 
 -- s is below the end; no end is beyond all
 abbrev pub IsUnder : Option Fraction → Fraction → Type 0
@@ -141,17 +142,6 @@ begins_union K M N start u bound f g split left right one two =
                 )
           ];
     }
-
--- some element of a list
-pub any_here : {X : Type 0} (P : X → Type 0) (x : X) (xs : List X) → P x → Any P (x ∷ xs)
-any_here P x xs p = (0, x, omega arith, refl, p)
-
-pub any_there : {X : Type 0} (P : X → Type 0) (x : X) (xs : List X) → Any P xs → Any P (x ∷ xs)
-any_there P x xs (k, y, lt, e, p) = (suc k, y, omega arith, e, p)
-
-pub any_cases : {X : Type 0} (P : X → Type 0) (x : X) (xs : List X) → Any P (x ∷ xs) → P x ⊎ Any P xs
-any_cases P x xs (zero, y, lt, e, p) = inl (rw e p)
-any_cases P x xs (suc k, y, lt, e, p) = inr (k, y, omega arith, e, p)
 
 -- a union begins where the first of its parts begins
 pub any_begins : {X : Type 0} (P : X → Fraction → Type 0) (xs : List X) → ((x : X) → HasBeginning (P x)) → HasBeginning (λ s. Any (λ x. P x s) xs)

@@ -6,8 +6,8 @@ use Rattle.std.proofs.lemmas.List.{get_or_default}
 use Rattle.ml_ratio.specs.Fraction.{Fraction, value_of, IsLess, IsAtMost, IsSame}
 use Rattle.ml_cone.specs.Choice.{IsEnd, Allows, IsLimit, Choice, IsChoice, IsConflictFree, FirstDifference, IsLongest, IsLeastEnd, IsOwnEnd, Blocks}
 use Rattle.ml_cone.specs.declared.label.Label.{Label}
-use Rattle.ml_ratio.proofs.Fractions.{same_at_most, at_most_trans}
-use Rattle.ml_ratio.proofs.Lists.{pick}
+use Rattle.ml_ratio.proofs.lemmas.Fractions.{same_at_most, at_most_trans}
+use Rattle.ml_ratio.proofs.lemmas.Lists.{pick}
 use Rattle.ml_conflict.proofs.Greedy.{Allows-smaller}
 use Rattle.ml_conflict.proofs.Limits.{covers_of_limit, limit_of_covers}
 

@@ -8,7 +8,7 @@ use Rattle.ml_cone.specs.declared.label.Label.{Label}
 use Rattle.ml_cone.specs.declared.slot.Slot.{Slot}
 use Rattle.ml_cone.specs.Slots.{ends, no_slot, row, IsFirstAt, HaveOwnSlots, AreSlots, IsBlockerBy}
 use Rattle.ml_conflict.proofs.Own.{own_longest, longest_own, blocks_limit, limit_blocks}
-use Rattle.ml_ratio.proofs.Lists.{pick}
+use Rattle.ml_ratio.proofs.lemmas.Lists.{pick}
 
 module _ (number : ℕ → ℕ) (labels : List Label) (slots : List Slot) where
   module _ (all : HaveOwnSlots number labels slots) where

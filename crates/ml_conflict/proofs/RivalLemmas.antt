@@ -7,7 +7,7 @@ use Rattle.ml_ratio.specs.Fraction.{Fraction, value_of, IsLess, IsAtMost}
 use Rattle.ml_cone.specs.Choice.{Allows, IsLimit, CoversFrom}
 use Rattle.ml_cone.specs.Rivals.{AreRivals}
 use Rattle.ml_cone.specs.declared.label.Label.{Label}
-use Rattle.ml_ratio.proofs.Fractions.{at_most_less, middle, middle_above, middle_below, scale_above}
+use Rattle.ml_ratio.proofs.lemmas.Fractions.{at_most_less, middle, middle_above, middle_below, scale_above}
 use Rattle.ml_conflict.proofs.Openness.{under_both}
 use Rattle.ml_conflict.proofs.Greedy.{Allows-smaller}
 use Rattle.ml_conflict.proofs.Limits.{covers_of_limit, has_limit}

@@ -1,32 +1,11 @@
 -- The steps of a loop over the parts of a union of sets of scales.
-use Rattle.std.proofs.Common.{◌≡◌, ℕ, ◌+◌, ◌<◌, ◌≤◌, List, length, get_or, take, arith, ◌⊎◌, inl, inr, subst, sym, ap, ◌∙◌}
-use Rattle.std.proofs.lemmas.List.{take_all, get_or_default, get_or-take, length-take}
-use Rattle.std.proofs.lemmas.Bool.{cases_lt}
+use Rattle.std.proofs.Common.{◌≡◌, ℕ, ◌+◌, ◌<◌, ◌≤◌, List, length, get_or, take, arith, subst}
+use Rattle.std.proofs.lemmas.List.{take_all, length-take}
 use Rattle.std.specs.Prelude.{Any}
 use Rattle.ml_ratio.specs.Fraction.{Fraction, IsAtMost}
 use Rattle.ml_conflict.specs.Begin.{Begins}
+use Rattle.ml_ratio.proofs.lemmas.Anys.{any_more_cases, any_more_left, any_more_here}
 use Rattle.ml_conflict.proofs.Openness.{begins_union, none_bound}
-
--- one element more
-pub any_more_cases : {X : Type 0} (P : X → Type 0) (xs : List X) (i : ℕ) (d : X) → i < length xs → Any P (take (i + 1) xs) → Any P (take i xs) ⊎ P (get_or xs i d)
-any_more_cases P xs i d in' (k, x, lt, e, p) =
-    let n : k < i + 1 = omega (arith, length-take (i + 1) xs) in
-    let e' : get_or xs k x ≡ x = sym (get_or-take (i + 1) xs k x n) ∙ e in
-    elim (cases_lt k i) [
-      | inl less ↦ inl (k, x, omega (arith, length-take i xs), get_or-take i xs k x less ∙ e', p)
-      | inr more ↦
-          let same : k ≡ i = omega arith in
-          inr (subst P (sym e' ∙ ap (λ (n : ℕ). get_or xs n x) same ∙ get_or_default xs i x d in') p)
-    ]
-
-pub any_more_left : {X : Type 0} (P : X → Type 0) (xs : List X) (i : ℕ) → i < length xs → Any P (take i xs) → Any P (take (i + 1) xs)
-any_more_left P xs i in' (k, x, lt, e, p) =
-    let n : k < i = omega (arith, length-take i xs) in
-    (k, x, omega (arith, length-take (i + 1) xs), get_or-take (i + 1) xs k x (omega arith) ∙ sym (get_or-take i xs k x n) ∙ e, p)
-
-pub any_more_right : {X : Type 0} (P : X → Type 0) (xs : List X) (i : ℕ) (d : X) → i < length xs → P (get_or xs i d) → Any P (take (i + 1) xs)
-any_more_right P xs i d in' p =
-    (i, get_or xs i d, omega (arith, length-take (i + 1) xs), get_or-take (i + 1) xs i (get_or xs i d) (omega arith) ∙ get_or_default xs i (get_or xs i d) d in', p)
 
 module _ {X : Type 0} (P : X → Fraction → Type 0) (xs : List X) (start u bound : Fraction) where
   -- a loop over the parts of a union: at its start, one part more, at its end
@@ -38,7 +17,7 @@ module _ {X : Type 0} (P : X → Fraction → Type 0) (xs : List X) (start u bou
       let in' : i < length xs = rw (← same) lt in
       let two' : Begins (P (get_or xs i d)) start u f g = rw (← same) two in
       begins_union (λ s. Any (λ x. P x s) (take i xs)) (P (get_or xs i d)) (λ s. Any (λ x. P x s) (take (i + 1) xs)) start u bound f g
-      (λ s any. any_more_cases (λ x. P x s) xs i d in' any) (λ s k. any_more_left (λ x. P x s) xs i in' k) (λ s k. any_more_right (λ x. P x s) xs i d in' k) one two'
+      (λ s any. any_more_cases (λ x. P x s) xs i d in' any) (λ s k. any_more_left (λ x. P x s) xs i d in' k) (λ s k. any_more_here (λ x. P x s) xs i d in' k) one two'
 
   pub loop_all : (i : ℕ) (f : Fraction) → length xs ≤ i → Begins (λ s. Any (λ x. P x s) (take i xs)) start u bound f → Begins (λ s. Any (λ x. P x s) xs) start u bound f
   loop_all i f h b = subst (λ (ys : List X). Begins (λ s. Any (λ x. P x s) ys) start u bound f) (take_all i xs h) b

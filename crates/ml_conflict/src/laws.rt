@@ -1,15 +1,19 @@
 //! Laws of the longest choice. Each function takes nothing and does nothing: its contract is the
 //! law, for all values. A crate above uses a law by calling it.
-ghost use Rattle.std.specs.Prelude.{ℕ, ◌≡◌, ◌<◌, ◌↔◌, ◌⊎◌, Bool, IsTrue, List, length, slice_index_or};
+ghost use Rattle.std.specs.Prelude.{ℕ, ◌≡◌, ◌*◌, ◌<◌, ◌↔◌, ◌⊎◌, Bool, IsTrue, List, Option, length, map, slice_index_or};
 ghost use Rattle.ml_ratio.specs.Fraction.{Fraction, value_of, IsLess, IsAtMost, IsSame};
+ghost use Rattle.ml_ratio.specs.declared.ratio.Ratio.{Ratio};
 ghost use Rattle.ml_cone.specs.Choice.{Choice, IsEnd, Allows, IsLimit, IsLongest, IsLeastEnd, IsOwnEnd, Blocks};
+ghost use Rattle.ml_cone.specs.Near.{AreClear};
 ghost use Rattle.ml_cone.specs.Rivals.{AreRivals};
-ghost use Rattle.ml_cone.specs.Slots.{Rival, IsOwnSlot, HaveOwnSlots, AreSlots};
+ghost use Rattle.ml_cone.specs.Slots.{Rival, IsOwnSlot, IsSlotAmong, HaveOwnSlots, IsBlockerBy, AreSlots};
 ghost use Rattle.ml_cone.specs.Sound.{IsSound};
 ghost use Rattle.ml_cone.specs.declared.label.Label.{Label};
 ghost use Rattle.ml_cone.specs.declared.slot.Slot.{Slot};
 ghost use Rattle.ml_conflict.specs.Begin.{SetsNoneUpTo};
 ghost use Rattle.ml_conflict.specs.Carried.{holds, AreCarried, AreJoined};
+ghost use Rattle.ml_conflict.specs.Enough.{AreEnough};
+ghost use Rattle.ml_conflict.specs.Reach.{Reaches, IsFar};
 
 /// A choice in which each label's end is the least of its maximum and the limits that the labels
 /// before it set is the longest choice.
@@ -21,6 +25,16 @@ pub fn greedy()
 pub fn l0()
     ensures { (labels : List Label) (one other : Choice) → IsLongest labels one → IsLongest labels other →
         (i : ℕ) → i < length labels → IsSame (one i) (other i) }
+{}
+
+/// Labels have one list of slots that is the longest choice with its blockers; and under choices with the
+/// same ends a label has one blocker.
+pub fn one_choice()
+    ensures slots { (number : ℕ → ℕ) (labels : List Label) (slots others : List Slot) →
+        AreSlots number labels slots → AreSlots number labels others → slots ≡ others }
+    ensures blocker { (number : ℕ → ℕ) (labels : List Label) (one other : Choice) →
+        ((k : ℕ) → k < length labels → IsSame (one k) (other k)) → (i : ℕ) → i < length labels → (x y : Option ℕ) →
+        IsBlockerBy number labels one i x → IsBlockerBy number labels other i y → x ≡ y }
 {}
 
 /// A choice is the longest exactly where each label's end is the greatest that the labels before it
@@ -69,6 +83,24 @@ pub fn same_limits()
 /// A bound in a label's range is allowed by another that sets it no limit up to there.
 pub fn allowed_up_to()
     ensures { (low high : Label) (u bound : Fraction) → IsAtMost bound (value_of low.max) → SetsNoneUpTo low high u bound → Allows low high u bound }
+{}
+
+/// Labels that overlap at no scale up to some one above a bound set each other no limit up to the bound.
+pub fn clear_labels()
+    ensures { (low high : Label) (u bound : Fraction) → AreClear low high bound.num bound.den → SetsNoneUpTo low high u bound }
+{}
+
+/// Labels set each other no limit up to a bound where their anchors are too far apart on one axis for what
+/// they reach toward each other.
+pub fn far_labels()
+    ensures { (a b : Label) (r : ℕ) → Reaches a r → Reaches b r → (u : Fraction) (bound : Ratio) →
+        IsFar a.x b.x (2 * r) bound ⊎ IsFar a.y b.y (2 * r) bound → SetsNoneUpTo a b u (value_of bound) }
+{}
+
+/// A label has the same slot among some rivals as among all, where these are enough.
+pub fn enough()
+    ensures { (low : Label) (rivals : ℕ → Rival) (n : ℕ) (bound : Fraction) (places : List ℕ) (slot : Slot) →
+        AreEnough low rivals n bound places → IsSlotAmong low (map rivals places) slot → IsOwnSlot rivals (λ j. j < n) low slot }
 {}
 
 /// Two labels are rivals, or the one sets the other no limit even where it is active up to its

@@ -1,10 +1,11 @@
-pub mod Entries
-pub mod Same
-pub mod After
-pub mod States
-pub mod Unchanged
-pub mod Readiness
-pub mod OneFault
-pub mod Refusals
-pub mod Changing
-pub mod Works
+mod Entries
+mod Same
+mod After
+mod States
+mod Unchanged
+mod Readiness
+mod OneEdit
+mod Refusals
+mod Changing
+mod Works
+mod Accepted

@@ -3,8 +3,6 @@ use Rattle.std.proofs.Common.{◌≡◌, ◌≢◌, ℕ, List, Option, Some, Non
 use Rattle.std.specs.Prelude.{IsOkUnless}
 use Rattle.ml_ratio.specs.Refusal.{RefusesExactly}
 use Rattle.ml_ratio.specs.declared.feature.Feature.{Feature}
-use Rattle.ml_json.specs.Grammar.{Reads}
-use Rattle.ml_json.specs.Tree.{Tree}
 use Rattle.ml_geojson.specs.Map.{IsFeature, IsFeatureFault, IsSameFeature}
 use Rattle.ml_geojson.specs.declared.fault.GeoFault.{GeoFault}
 use Rattle.ml_geojson.specs.declared.fault.GeoFault.TheVariants as geo
@@ -17,7 +15,6 @@ use Rattle.ml_editor.specs.State.{State, HasFeature}
 use Rattle.ml_editor.specs.Faults.{HasMoved, IsPresent, IsBodyOf, IsAddition, IsAddFault, IsReplacement, IsReplaceFault, IsRemoval, IsRemoveFault, IsRestyle, IsStyleFault}
 use Rattle.ml_editor.specs.declared.fault.EditFault.{EditFault}
 use Rattle.ml_editor.specs.declared.fault.EditFault.TheVariants.{RevMoved, Geo, Style as BadStyle, Duplicate, Unknown, Full, RevEnd, Memory}
-use Rattle.ml_editor.proofs.OneFault.{one_geo, one_style_fault}
 
 -- ---- what every refusal shares
 
@@ -67,7 +64,7 @@ one_rev s (Some rev) a b h k = h.1 ∙ sym k.1
 
 -- ---- additions and replacements
 
-module _ (s : State) (rev : Option ℕ) (body : List ℕ) (one_tree : (bytes : List ℕ) (one other : Tree) → Reads bytes one → Reads bytes other → one ≡ other) (one_feature : (bytes : List ℕ) (one other : Feature) → IsFeature bytes one → IsFeature bytes other → IsSameFeature one other) (feature_or_fault : (bytes : List ℕ) (one : Feature) (fault : GeoFault) → IsFeature bytes one → IsFeatureFault bytes fault → fault ≡ geo.Memory) where
+module _ (s : State) (rev : Option ℕ) (body : List ℕ) (one_geo : (bytes : List ℕ) (one other : GeoFault) → one ≢ geo.Memory → other ≢ geo.Memory → IsFeatureFault bytes one → IsFeatureFault bytes other → one ≡ other) (one_feature : (bytes : List ℕ) (one other : Feature) → IsFeature bytes one → IsFeature bytes other → IsSameFeature one other) (feature_or_fault : (bytes : List ℕ) (one : Feature) (fault : GeoFault) → IsFeature bytes one → IsFeatureFault bytes fault → fault ≡ geo.Memory) where
   -- a body is of one id
   one_id : (a b : List ℕ) → IsBodyOf s rev body a → IsBodyOf s rev body b → a ≡ b
   one_id a b h k = sym h.1.2 ∙ (one_feature body h.1.0 k.1.0 h.1.1 k.1.1).id ∙ k.1.2
@@ -80,7 +77,7 @@ module _ (s : State) (rev : Option ℕ) (body : List ℕ) (one_tree : (bytes : L
   taken_or_new : (a b : List ℕ) → IsBodyOf s rev body a → HasFeature s.features a → IsBodyOf s rev body b → ¬ (HasFeature s.features b) → ⊥
   taken_or_new a b h there k none = let P : List ℕ → Type 0 = λ id. HasFeature s.features id in none (subst P (one_id a b h k) there)
 
-  one_add_fault : (e fault : EditFault) → e ≢ Memory → fault ≢ Memory → IsAddFault s rev body e → IsAddFault s rev body fault → e ≡ fault
+  pub one_add_fault : (e fault : EditFault) → e ≢ Memory → fault ≢ Memory → IsAddFault s rev body e → IsAddFault s rev body fault → e ≡ fault
   one_add_fault Memory fault m n h k = absurd (m refl)
   one_add_fault (BadStyle f) fault m n h k = absurd h
   one_add_fault (Unknown i) fault m n h k = absurd h
@@ -96,7 +93,7 @@ module _ (s : State) (rev : Option ℕ) (body : List ℕ) (one_tree : (bytes : L
   one_add_fault (Geo f) (BadStyle g) m n h k = absurd k
   one_add_fault (Geo f) (Unknown j) m n h k = absurd k
   one_add_fault (Geo f) (RevMoved b) m n h k = absurd (moved_or_present s rev b k h.0)
-  one_add_fault (Geo f) (Geo g) m n h k = ap Geo (one_geo body one_tree f g h.1 k.1 h.2 k.2)
+  one_add_fault (Geo f) (Geo g) m n h k = ap Geo (one_geo body f g h.1 k.1 h.2 k.2)
   one_add_fault (Geo f) (Duplicate j) m n h k = absurd (not_both j f h.1 h.2 k.0)
   one_add_fault (Geo f) Full m n h k = absurd (not_both k.0.0 f h.1 h.2 k.0.1)
   one_add_fault (Geo f) RevEnd m n h k = absurd (not_both k.0.0 f h.1 h.2 k.0.1)
@@ -125,7 +122,7 @@ module _ (s : State) (rev : Option ℕ) (body : List ℕ) (one_tree : (bytes : L
   one_add_fault RevEnd Full m n h k = absurd (h.1 k.1)
   one_add_fault RevEnd RevEnd m n h k = refl
 
-  add_fault : (fault : EditFault) → fault ≢ Memory → IsAddFault s rev body fault → IsAddition s rev body → ⊥
+  pub add_fault : (fault : EditFault) → fault ≢ Memory → IsAddFault s rev body fault → IsAddition s rev body → ⊥
   add_fault (RevMoved now) some h good = moved_or_present s rev now h good.is_new.1.0
   add_fault (Geo fault) some h good = not_both good.is_new.0 fault h.1 h.2 good.is_new.1
   add_fault (BadStyle fault) some h good = h
@@ -141,7 +138,7 @@ module _ (s : State) (rev : Option ℕ) (body : List ℕ) (one_tree : (bytes : L
   pub add_accepted : {A : Type 0} (result : Result A EditFault) → IfErr result (IsAddFault s rev body) → IsAddition s rev body → IsOkUnless result Memory
   add_accepted result = unless_memory (IsAddition s rev body) (IsAddFault s rev body) one_add_fault add_fault result
 
-  one_replace_fault : (e fault : EditFault) → e ≢ Memory → fault ≢ Memory → IsReplaceFault s rev body e → IsReplaceFault s rev body fault → e ≡ fault
+  pub one_replace_fault : (e fault : EditFault) → e ≢ Memory → fault ≢ Memory → IsReplaceFault s rev body e → IsReplaceFault s rev body fault → e ≡ fault
   one_replace_fault Memory fault m n h k = absurd (m refl)
   one_replace_fault (BadStyle f) fault m n h k = absurd h
   one_replace_fault (Duplicate i) fault m n h k = absurd h
@@ -159,7 +156,7 @@ module _ (s : State) (rev : Option ℕ) (body : List ℕ) (one_tree : (bytes : L
   one_replace_fault (Geo f) (Duplicate j) m n h k = absurd k
   one_replace_fault (Geo f) Full m n h k = absurd k
   one_replace_fault (Geo f) (RevMoved b) m n h k = absurd (moved_or_present s rev b k h.0)
-  one_replace_fault (Geo f) (Geo g) m n h k = ap Geo (one_geo body one_tree f g h.1 k.1 h.2 k.2)
+  one_replace_fault (Geo f) (Geo g) m n h k = ap Geo (one_geo body f g h.1 k.1 h.2 k.2)
   one_replace_fault (Geo f) (Unknown j) m n h k = absurd (not_both j f h.1 h.2 k.0)
   one_replace_fault (Geo f) RevEnd m n h k = absurd (not_both k.0.0 f h.1 h.2 k.0.1.0)
   one_replace_fault (Unknown i) Memory m n h k = absurd (n refl)
@@ -179,7 +176,7 @@ module _ (s : State) (rev : Option ℕ) (body : List ℕ) (one_tree : (bytes : L
   one_replace_fault RevEnd (Unknown j) m n h k = absurd (taken_or_new h.0.0 j h.0.1.0 h.0.1.1 k.0 k.1)
   one_replace_fault RevEnd RevEnd m n h k = refl
 
-  replace_fault : (fault : EditFault) → fault ≢ Memory → IsReplaceFault s rev body fault → IsReplacement s rev body → ⊥
+  pub replace_fault : (fault : EditFault) → fault ≢ Memory → IsReplaceFault s rev body fault → IsReplacement s rev body → ⊥
   replace_fault (RevMoved now) some h good = moved_or_present s rev now h good.is_known.1.0.0
   replace_fault (Geo fault) some h good = not_both good.is_known.0 fault h.1 h.2 good.is_known.1.0
   replace_fault (BadStyle fault) some h good = h
@@ -198,7 +195,7 @@ module _ (s : State) (rev : Option ℕ) (body : List ℕ) (one_tree : (bytes : L
 -- ---- removals
 
 module _ (s : State) (rev : Option ℕ) (id : List ℕ) where
-  one_remove_fault : (e fault : EditFault) → e ≢ Memory → fault ≢ Memory → IsRemoveFault s rev id e → IsRemoveFault s rev id fault → e ≡ fault
+  pub one_remove_fault : (e fault : EditFault) → e ≢ Memory → fault ≢ Memory → IsRemoveFault s rev id e → IsRemoveFault s rev id fault → e ≡ fault
   one_remove_fault Memory fault m n h k = absurd (m refl)
   one_remove_fault (Geo f) fault m n h k = absurd h
   one_remove_fault (BadStyle f) fault m n h k = absurd h
@@ -229,7 +226,7 @@ module _ (s : State) (rev : Option ℕ) (id : List ℕ) where
   one_remove_fault RevEnd (Unknown j) m n h k = absurd (k.2 h.1)
   one_remove_fault RevEnd RevEnd m n h k = refl
 
-  remove_fault : (fault : EditFault) → fault ≢ Memory → IsRemoveFault s rev id fault → IsRemoval s rev id → ⊥
+  pub remove_fault : (fault : EditFault) → fault ≢ Memory → IsRemoveFault s rev id fault → IsRemoval s rev id → ⊥
   remove_fault (RevMoved now) some h good = moved_or_present s rev now h good.present
   remove_fault (Geo fault) some h good = h
   remove_fault (BadStyle fault) some h good = h
@@ -247,8 +244,8 @@ module _ (s : State) (rev : Option ℕ) (id : List ℕ) where
 
 -- ---- new styles
 
-module _ (s : State) (rev : Option ℕ) (body : List ℕ) (style_or_fault : (bytes : List ℕ) (style : Style) (fault : StyleFault) → IsStyle bytes style → IsRefusal bytes fault → fault ≡ styles.Memory) where
-  one_style_refusal : (e fault : EditFault) → e ≢ Memory → fault ≢ Memory → IsStyleFault s rev body e → IsStyleFault s rev body fault → e ≡ fault
+module _ (s : State) (rev : Option ℕ) (body : List ℕ) (one_style_fault : (bytes : List ℕ) (one other : StyleFault) → one ≢ styles.Memory → other ≢ styles.Memory → IsRefusal bytes one → IsRefusal bytes other → one ≡ other) (style_or_fault : (bytes : List ℕ) (style : Style) (fault : StyleFault) → IsStyle bytes style → IsRefusal bytes fault → fault ≡ styles.Memory) where
+  pub one_style_refusal : (e fault : EditFault) → e ≢ Memory → fault ≢ Memory → IsStyleFault s rev body e → IsStyleFault s rev body fault → e ≡ fault
   one_style_refusal Memory fault m n h k = absurd (m refl)
   one_style_refusal (Geo f) fault m n h k = absurd h
   one_style_refusal (Duplicate i) fault m n h k = absurd h
@@ -279,7 +276,7 @@ module _ (s : State) (rev : Option ℕ) (body : List ℕ) (style_or_fault : (byt
   one_style_refusal RevEnd (BadStyle g) m n h k = absurd (k.1 (style_or_fault body h.1.0 g h.1.1 k.2))
   one_style_refusal RevEnd RevEnd m n h k = refl
 
-  style_fault : (fault : EditFault) → fault ≢ Memory → IsStyleFault s rev body fault → IsRestyle s rev body → ⊥
+  pub style_fault : (fault : EditFault) → fault ≢ Memory → IsStyleFault s rev body fault → IsRestyle s rev body → ⊥
   style_fault (RevMoved now) some h good = moved_or_present s rev now h good.present
   style_fault (Geo fault) some h good = h
   style_fault (BadStyle fault) some h good = h.1 (style_or_fault body good.is_style.0 fault good.is_style.1 h.2)

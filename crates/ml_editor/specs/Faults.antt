@@ -145,3 +145,8 @@ IsReplacing body edit = ⊥
 abbrev pub IsRestyling : List ℕ → Edit → Type 0
 IsRestyling body (Restyle style) = IsStyle body style
 IsRestyling body edit = ⊥
+
+-- but for want of memory, one fault refuses at most, and none what is accepted
+pub record ExcludeOneAnother (refuses : EditFault → Type 0) (accepts : Type 0) : Type 0 where
+  pub one : (one other : EditFault) → one ≢ Memory → other ≢ Memory → refuses one → refuses other → one ≡ other
+  pub none : (fault : EditFault) → fault ≢ Memory → accepts → ¬ (refuses fault)

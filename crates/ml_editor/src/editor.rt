@@ -152,6 +152,7 @@ impl Editor {
         requires { IsLive self.now.engine.rows number }
         ensures slot { (r : Row) → Contains self.now.engine.rows r → r.number ≡ number → result ≡ r.slot }
         ensures blocker { IfSome result.blocker (IsLive self.now.engine.rows) }
+        ensures holds { IsEditing self.now }
     {
         self.engine.slot_at(number)
     }
@@ -181,8 +182,9 @@ impl Editor {
 
     /// The number of the label with this id; none exactly where no label has it.
     pub fn number_of(&self, id: &Text) -> Option<u32>
-        ensures { MatchOption result (¬ (HasId (labels_in self.now.engine.rows) id.now))
+        ensures number { MatchOption result (¬ (HasId (labels_in self.now.engine.rows) id.now))
             (IsNumberOf self.now.engine.rows id.now) }
+        ensures holds { IsEditing self.now }
     {
         self.engine.number_of(id)
     }

@@ -8,7 +8,8 @@
 //! - `commit`: how it is carried out, over `carry`, its parts;
 //! - [`ready`]: an edit that is ready to be carried out ([`Ready`]); [`draft`]: what is drawn up for it
 //!   ([`Draft`]); [`work`]: what it makes of the labels ([`Work`]);
-//! - [`fault`]: why a map is not loaded, and why an edit is refused ([`LoadRefused`], [`EditFault`]).
+//! - [`fault`]: why a map is not loaded, and why an edit is refused ([`LoadRefused`], [`EditFault`]);
+//! - [`laws`]: what refuses an edit, and what a body makes.
 #![tactic(auto)]
 
 mod carry;
@@ -20,6 +21,7 @@ pub mod edit;
 pub mod editor;
 pub mod fault;
 pub mod features;
+pub mod laws;
 mod making;
 mod prepare;
 pub mod ready;

@@ -10,10 +10,9 @@ ghost use Rattle.ml_editor.specs.Editing.{IsReady, IsSameMap, HasRoomFor};
 use crate::editor::Editor;
 use crate::fault::EditFault;
 use crate::ready::Ready;
-use ml_geojson::laws::{feature_or_fault, one_feature};
-use ml_json::laws::one_tree;
+use ml_geojson::laws::{feature_or_fault, one_fault as one_geo_fault, one_feature};
 use ml_ratio::{Steps, Text};
-use ml_style::laws::style_or_fault;
+use ml_style::laws::{one_fault as one_style_fault, style_or_fault};
 use std::alloc::Global;
 use std::sync::ledger::Ledger;
 
@@ -46,7 +45,7 @@ impl Editor {
         ensures rev_end { RefusesExactly result EditFault.RevEnd EditFault.Memory (IsAddFault self.old.state rev body.now EditFault.RevEnd) }
         ensures same { IsSameMap self.old self.new }
     {
-        one_tree();
+        one_geo_fault();
         one_feature();
         feature_or_fault();
         self.make_add(alloc, rev, body, steps)
@@ -79,7 +78,7 @@ impl Editor {
         ensures rev_end { RefusesExactly result EditFault.RevEnd EditFault.Memory (IsReplaceFault self.old.state rev body.now EditFault.RevEnd) }
         ensures same { IsSameMap self.old self.new }
     {
-        one_tree();
+        one_geo_fault();
         one_feature();
         feature_or_fault();
         self.make_replace(alloc, rev, body, steps)
@@ -137,6 +136,7 @@ impl Editor {
         ensures rev_end { RefusesExactly result EditFault.RevEnd EditFault.Memory (IsStyleFault self.old.state rev body.now EditFault.RevEnd) }
         ensures same { IsSameMap self.old self.new }
     {
+        one_style_fault();
         style_or_fault();
         self.make_style(alloc, rev, body)
     }

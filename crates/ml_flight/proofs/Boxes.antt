@@ -5,7 +5,7 @@ use Rattle.std.proofs.lemmas.List.Quantifiers.{Any-push}
 use Rattle.ml_ratio.specs.Fraction.{Fraction}
 use Rattle.ml_flight.specs.Stay.{HoldsScale, HaveScale}
 use Rattle.ml_flight.specs.declared.stay.Stay.{Stay}
-use Rattle.ml_flight.proofs.Anys.{any_none, any_push_left, any_push_cases, any_more_cases, any_more_left, any_more_here}
+use Rattle.ml_ratio.proofs.lemmas.Anys.{any_none, any_left, any_push_cases, any_more_cases, any_more_left, any_more_here}
 
 module _ {X : Type 0} (P : X → Fraction → Type 0) (whole : Stay) (xs : List X) where
   -- the pieces hold what the whole stay holds and one of the first i elements has
@@ -25,7 +25,7 @@ module _ {X : Type 0} (P : X → Fraction → Type 0) (whole : Stay) (xs : List 
           | inr new ↦ let w = here.0 new in (w.0, any_more_here (λ p. P p s) xs i d lt' w.1)
         ],
         λ h. elim (any_more_cases (λ p. P p s) xs i d lt' h.1) [
-          | inl before ↦ any_push_left (λ a. HoldsScale a s) pieces piece ((so_far s).1 (h.0, before))
+          | inl before ↦ any_left (λ a. HoldsScale a s) pieces (piece ∷ []) ((so_far s).1 (h.0, before))
           | inr now ↦ Any-push (λ a. HoldsScale a s) pieces piece (here.1 (h.0, now))
         ],
       )

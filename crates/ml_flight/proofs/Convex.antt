@@ -6,7 +6,7 @@ use Rattle.std.proofs.lemmas.Int.{ints}
 use Rattle.std.proofs.lemmas.List.{get_or_default}
 use Rattle.std.proofs.Math.Nat.{mul-pos}
 use Rattle.ml_ratio.specs.Fraction.{Fraction, value_of, IsLess, IsAtMost, IsScale}
-use Rattle.ml_ratio.proofs.Fractions.{less_at_most, at_most_less, at_most_trans, middle, middle_above, middle_below}
+use Rattle.ml_ratio.proofs.lemmas.Fractions.{less_at_most, at_most_less, at_most_trans, middle, middle_above, middle_below}
 use Rattle.ml_cone.specs.Plane.{SideInWindow}
 use Rattle.ml_cone.specs.declared.label.BoxPx.{BoxPx}
 use Rattle.ml_cone.specs.declared.label.Label.{Label}
@@ -16,7 +16,7 @@ use Rattle.ml_flight.specs.Stay.{HoldsScale}
 use Rattle.ml_flight.specs.Stays.{IsMaximal, AreMaximal}
 use Rattle.ml_flight.specs.declared.stay.Stay.{Stay}
 use Rattle.ml_flight.specs.declared.window.Window.{Window}
-use Rattle.ml_flight.proofs.Anys.{any_at}
+use Rattle.ml_ratio.proofs.lemmas.Anys.{any_at}
 use Rattle.ml_flight.proofs.HalfLines.{IsBeyond, side_by_halves}
 use Rattle.ml_flight.proofs.StayFacts.{from_least, from_above}
 

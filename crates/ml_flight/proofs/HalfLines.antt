@@ -3,7 +3,7 @@ use Rattle.std.proofs.Common.{◌≡◌, ℕ, suc, ◌+◌, ◌*◌, ◌↔◌, 
 use Rattle.std.proofs.lemmas.Int.{ints}
 use borrow.Author.Differences.{up, down}
 use Rattle.ml_ratio.specs.Fraction.{Fraction, IsLess}
-use Rattle.ml_ratio.proofs.Fractions.{less_at_most, at_most_less}
+use Rattle.ml_ratio.proofs.lemmas.Fractions.{less_at_most, at_most_less}
 use Rattle.ml_cone.specs.Plane.{SideInWindow}
 
 -- u < v * s

@@ -9,7 +9,7 @@ use Rattle.ml_ratio.specs.Fraction.{Fraction, value_of, IsLess}
 use Rattle.ml_flight.specs.Stay.{HasBegun, HoldsScale, HaveScale, IsApart, AreApart, BeginsBy}
 use Rattle.ml_flight.specs.declared.stay.Stay.{Stay}
 use Rattle.ml_flight.proofs.StayFacts.{from_up, not_both, before_else}
-use Rattle.ml_flight.proofs.Anys.{any_of, any_none, any_push_left, any_push_cases, any_more_cases, any_whole}
+use Rattle.ml_ratio.proofs.lemmas.Anys.{any_of, any_none, any_left, any_push_cases, any_more_cases, any_whole}
 
 -- two stays that meet make one: s lies below the later end
 pub joined_holds : (a b : Stay) (s : Fraction) → BeginsBy a b → HasBegun b (value_of a.to) → HasBegun a s → (IsLess s (value_of a.to) ⊎ IsLess s (value_of b.to)) → HoldsScale a s ⊎ HoldsScale b s
@@ -73,7 +73,7 @@ join_next pieces i done current d so_far lt sorted apart = record {
   sound = λ s h. any_of (λ a. HoldsScale a s) pieces i d lt h;
   whole = λ s any. elim (any_more_cases (λ a. HoldsScale a s) pieces i d lt any) [
     | inl before ↦ elim (so_far.whole s before) [
-      | inl old ↦ inl (any_push_left (λ a. HoldsScale a s) done current old)
+      | inl old ↦ inl (any_left (λ a. HoldsScale a s) done (current ∷ []) old)
       | inr here ↦ inl (Any-push (λ a. HoldsScale a s) done current here)
     ]
     | inr new ↦ inr new
@@ -95,7 +95,7 @@ pub join_scales : (pieces : List Stay) (i : ℕ) (done : List Stay) (current : S
 join_scales pieces i done current so_far all s = (
   λ any. elim (any_push_cases (λ a. HoldsScale a s) done current any) [ inl old ↦ so_far.done_sound s old | inr here ↦ so_far.sound s here ],
   λ any. elim (so_far.whole s (any_whole (λ a. HoldsScale a s) pieces i all any)) [
-    | inl old ↦ any_push_left (λ a. HoldsScale a s) done current old
+    | inl old ↦ any_left (λ a. HoldsScale a s) done (current ∷ []) old
     | inr here ↦ Any-push (λ a. HoldsScale a s) done current here
   ],
 )

@@ -1,18 +1,18 @@
-pub mod StayFacts
-pub mod HalfLines
-pub mod Anys
-pub mod Joining
-pub mod Maximal
-pub mod Places
-pub mod Sorting
-pub mod Boxes
-pub mod Results
-pub mod Viewing
-pub mod Counting
-pub mod Sweeping
-pub mod HasCounts
-pub mod Opens
-pub mod Marking
-pub mod Peaks
-pub mod Convex
-pub mod Viewed
+mod StayFacts
+mod HalfLines
+mod Joining
+mod Maximal
+mod Places
+mod Sorting
+mod Boxes
+mod Results
+mod Viewing
+mod Counting
+mod Sweeping
+mod HasCounts
+mod Opens
+mod Marking
+mod Peaks
+mod Convex
+mod Viewed
+mod OneTimeline

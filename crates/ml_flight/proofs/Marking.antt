@@ -5,12 +5,12 @@ use Rattle.std.proofs.lemmas.Bool.{cases_lt}
 use Rattle.std.proofs.lemmas.List.Elements.{All-cons, All-nil, All-weaker, Contains-append_cases}
 use Rattle.std.proofs.Math.Nat.{mul-lt-mul_of_pos_right}
 use Rattle.ml_ratio.specs.Fraction.{Fraction, value_of, IsLess, IsAtMost}
-use Rattle.ml_ratio.proofs.Fractions.{less_at_most, at_most_less, less_trans, at_most_trans, middle, middle_above, middle_below}
+use Rattle.ml_ratio.proofs.lemmas.Fractions.{less_at_most, at_most_less, less_trans, at_most_trans, middle, middle_above, middle_below}
 use Rattle.ml_flight.specs.Stay.{HoldsScale, HaveScale}
 use Rattle.ml_flight.specs.Peak.{IsEndOf, IsMark, IsJustAfter}
 use Rattle.ml_flight.specs.declared.stay.Stay.{Stay}
 use Rattle.ml_flight.proofs.StayFacts.{from_least, from_above}
-use Rattle.ml_flight.proofs.Anys.{any_at, any_of, any_here, any_there}
+use Rattle.ml_ratio.proofs.lemmas.Anys.{any_at, any_of, any_here, any_there}
 use Rattle.ml_flight.proofs.Opens.{IsOpen}
 
 -- an element of joined lists is one of some list; an element of a mapped list is the value of some element

@@ -2,12 +2,12 @@
 use Rattle.std.proofs.Common.{ℕ, ◌<◌, ◌↔◌, List, length, get_or, arith, refl, sym, subst, Bool, true, false, IsTrue, inl, inr}
 use Rattle.std.proofs.lemmas.Bool.{cases_order}
 use Rattle.ml_ratio.specs.Fraction.{Fraction, value_of, IsLess, IsAtMost}
-use Rattle.ml_ratio.proofs.Fractions.{less_at_most, at_most_trans}
+use Rattle.ml_ratio.proofs.lemmas.Fractions.{less_at_most, at_most_trans, less_is_at_most}
 use Rattle.ml_flight.specs.Stay.{HoldsScale, HaveScale, AreApart}
 use Rattle.ml_flight.specs.Stays.{IsBetween, AreMaximal}
 use Rattle.ml_flight.specs.declared.stay.Stay.{Stay}
 use Rattle.ml_flight.proofs.StayFacts.{IsFrom, from_least, before_most, not_both, either_way}
-use Rattle.ml_flight.proofs.Anys.{any_at, any_of}
+use Rattle.ml_ratio.proofs.lemmas.Anys.{any_at, any_of}
 
 -- the lower end is held only where it is counted in
 begun_at_from : (b : Bool) (f : Fraction) → IsFrom b f f → IsTrue b
@@ -17,9 +17,6 @@ begun_at_from false f h = absurd (omega arith)
 from_in_begun : (b : Bool) (f : Fraction) → IsTrue b → IsFrom b f f
 from_in_begun true f h = omega arith
 from_in_begun false f h = absurd (cc)
-
-less_is_at_most : (a b : Fraction) → IsLess a b → IsAtMost a b
-less_is_at_most a b h = omega arith
 
 module _ (stays : List Stay) (apart : AreApart stays) where
   -- an end that another stay follows is not held

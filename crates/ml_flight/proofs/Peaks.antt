@@ -9,7 +9,7 @@ use Rattle.std.proofs.lemmas.List.Sums.{count_by-le-length, sum_by-le-sum_by}
 use Rattle.std.proofs.lemmas.List.Sorted.{sum_by-IsPermutation, Contains-permutation, IsPermutation-sym}
 use Rattle.ml_ratio.specs.Fraction.{Fraction, value_of, IsLess, IsAtMost, IsScale}
 use Rattle.ml_ratio.specs.declared.ratio.Ratio.{Ratio}
-use Rattle.ml_ratio.proofs.Fractions.{at_most_less, at_most_trans}
+use Rattle.ml_ratio.proofs.lemmas.Fractions.{at_most_less, at_most_trans}
 use Rattle.ml_flight.specs.Stay.{HaveScale, AreApart, begin_of}
 use Rattle.ml_flight.specs.Peak.{HasCount, IsJustAfter, IsPlace, IsCount, ComesBefore, IsPeak}
 use Rattle.ml_flight.specs.Sweep.{begins_of, ends_of, is_ended, ended, open_at, IsStart, IsFirstReached, IsHighest}

@@ -9,7 +9,7 @@ use Rattle.std.proofs.lemmas.Cmp.{on_total, then_total}
 use Rattle.std.specs.declared.cmp.Ordering.TheVariants.{Less, Equal}
 use Rattle.ml_ratio.specs.Fraction.{Fraction, value_of, IsLess, IsAtMost}
 use Rattle.ml_ratio.specs.RatioOrder.{ratio_total}
-use Rattle.ml_ratio.proofs.Fractions.{less_at_most, at_most_less, at_most_trans}
+use Rattle.ml_ratio.proofs.lemmas.Fractions.{less_at_most, at_most_less, at_most_trans}
 use Rattle.ml_flight.specs.declared.place.Place.{Place}
 
 -- places are compared by their marks, and at one mark by whether they lie after it

@@ -3,7 +3,7 @@ use Rattle.std.proofs.Common.{arith, ◌*◌, Bool, true, false, ◌⊎◌, inl,
 use Rattle.std.proofs.lemmas.Bool.{cases_lt}
 use Rattle.std.specs.Prelude.{MatchBool}
 use Rattle.ml_ratio.specs.Fraction.{Fraction, IsLess, IsAtMost}
-use Rattle.ml_ratio.proofs.Fractions.{less_at_most, at_most_trans}
+use Rattle.ml_ratio.proofs.lemmas.Fractions.{less_at_most, at_most_trans}
 
 -- s lies beyond the lower end f, or is f where that is counted in
 abbrev pub IsFrom : Bool → Fraction → Fraction → Type 0

@@ -6,7 +6,7 @@ use Rattle.std.proofs.lemmas.Bool.{cases_lt}
 use Rattle.std.proofs.lemmas.Bool.Decides.{nat_tests}
 use Rattle.ml_ratio.specs.Fraction.{Fraction, value_of, IsAtMost}
 use Rattle.ml_ratio.specs.declared.ratio.Ratio.{Ratio}
-use Rattle.ml_ratio.proofs.Fractions.{at_most_trans}
+use Rattle.ml_ratio.proofs.lemmas.Fractions.{at_most_trans}
 use Rattle.ml_flight.specs.Sweep.{is_ended, open_at, IsStart, IsHighest}
 use Rattle.ml_flight.specs.declared.place.Peak.{Peak}
 use Rattle.ml_flight.specs.declared.place.Place.{Place}

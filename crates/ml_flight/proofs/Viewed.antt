@@ -4,7 +4,7 @@ use Rattle.std.specs.Prelude.{Contains}
 use Rattle.std.proofs.lemmas.Bool.{cases_lt}
 use Rattle.std.proofs.lemmas.List.{get_or_default}
 use Rattle.ml_ratio.specs.Fraction.{Fraction, value_of}
-use Rattle.ml_ratio.proofs.Lists.{pick}
+use Rattle.ml_ratio.proofs.lemmas.Lists.{pick}
 use Rattle.ml_cone.specs.Shown.{IsShown, AreShown}
 use Rattle.ml_cone.specs.Slots.{ends, no_slot}
 use Rattle.ml_cone.specs.declared.label.Label.{Label}
@@ -16,7 +16,7 @@ use Rattle.ml_flight.specs.Timelines.{span_of, AreTimelines}
 use Rattle.ml_flight.specs.Window.{IsViewThrough}
 use Rattle.ml_flight.specs.declared.stay.Stay.{Stay}
 use Rattle.ml_flight.specs.declared.window.Window.{Window}
-use Rattle.ml_flight.proofs.Anys.{any_none, any_here, any_there, any_cases}
+use Rattle.ml_ratio.proofs.lemmas.Anys.{any_none, any_here, any_there, any_cases}
 use Rattle.ml_flight.proofs.Counting.{true_or_false}
 use Rattle.ml_flight.proofs.Opens.{is_open, is_open_holds, is_open_test}
 use Rattle.ml_flight.proofs.Viewing.{shown_by_view}

@@ -5,7 +5,7 @@
 //!   box meets the window;
 //! - [`highest`]: the greatest number of labels shown at one scale ([`peak`]), over [`place`]: places
 //!   along the scales;
-//! - [`laws`]: what stays and peaks say of views.
+//! - [`laws`]: what stays and peaks say of views, and that there is one timeline and one peak.
 #![tactic(auto)]
 
 pub mod highest;

@@ -10,6 +10,7 @@ use Rattle.std.proofs.lemmas.Bool.{cases_lt}
 use Rattle.std.proofs.lemmas.List.{get_or_push, take_more, get_or-take}
 use Rattle.std.proofs.lemmas.List.Elements.{Contains-append_left, Contains-push, Contains-push_cases, Contains-get_or}
 use Rattle.std.proofs.lemmas.List.Quantifiers.{all_pairs_push}
+use Rattle.ml_ratio.proofs.lemmas.Lists.{pick}
 use Rattle.ml_cone.specs.Label.{IsLabelList}
 use Rattle.ml_cone.specs.Places.{IsNoId}
 use Rattle.ml_cone.specs.Slots.{no_slot}
@@ -22,18 +23,13 @@ use Rattle.ml_follow.specs.declared.changes.Listed.{Listed}
 
 -- ---- the label with an id
 
--- some label of a list that has one
-some_label : (labels : List Label) (k : ℕ) → k < length labels → Label
-some_label [] k lt = absurd (omega (arith, lt))
-some_label (a ∷ labels) k lt = a
-
 module _ (labels : List Label) (slots : List Slot) (ordered : IsLabelList labels) where
   its_id : (id : List ℕ) (a : Ranged) → (x : IsStanding labels slots id a) → (d : Label) → (get_or labels x.place d).order.id ≡ id
   its_id id a x d = ap (λ (u : Unplaced). u.id) (x.its_label d) ∙ x.its_id
 
   not_before : (id : List ℕ) (a b : Ranged) → (x : IsStanding labels slots id a) → (y : IsStanding labels slots id b) → x.place < y.place → ⊥
   not_before id a b x y below =
-      let d = some_label labels y.place y.is_place in
+      let d = pick labels y.place y.is_place in
       (ordered x.place y.place d below y.is_place).1 (its_id id a x d ∙ sym (its_id id b y d))
 
   same_place : (id : List ℕ) (a b : Ranged) → (x : IsStanding labels slots id a) → (y : IsStanding labels slots id b) → x.place ≡ y.place
@@ -50,7 +46,7 @@ module _ (labels : List Label) (slots : List Slot) (ordered : IsLabelList labels
 
   same_standing : (id : List ℕ) (a b : Ranged) → IsStanding labels slots id a → IsStanding labels slots id b → a ≡ b
   same_standing id a b x y =
-      let d = some_label labels x.place x.is_place in
+      let d = pick labels x.place x.is_place in
       let place = same_place id a b x y in
       let label : a.label ≡ b.label = sym (x.its_label d) ∙ ap (λ k. unplaced (get_or labels k d)) place ∙ y.its_label d in
       let span : a.span ≡ b.span = x.its_span ∙ (λ i. record { min = (label i).min; until = (get_or slots (place i) no_slot).until }) ∙ sym y.its_span in

@@ -1,12 +1,14 @@
-pub mod Texts
-pub mod Changing
-pub mod Ids
-pub mod Rows
-pub mod ReadSoFar
-pub mod Files
-pub mod Bytes
-pub mod Numerals
-pub mod ReadsBack
-pub mod SameChoice
-pub mod OneReading
-pub mod Lower
+mod Texts
+mod Changing
+mod Ids
+mod Rows
+mod ReadSoFar
+mod Files
+mod Bytes
+mod Numerals
+mod ReadsBack
+mod SameChoice
+mod OneReading
+mod Lower
+mod OneFault
+mod OneRefusal

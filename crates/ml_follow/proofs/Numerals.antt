@@ -15,7 +15,7 @@ use Rattle.ml_ratio.specs.Number.{are_up_to, number_up_to, is_numeral, numeral, 
 use Rattle.ml_ratio.specs.Ratio.{ReadsRatio, ratio_text}
 use Rattle.ml_ratio.specs.RatioText.{is_slash, both_numbers, ratio_parts}
 use Rattle.ml_ratio.specs.declared.ratio.Ratio.{Ratio}
-use Rattle.ml_ratio.proofs.Numbers.{numeral_some, up_to_some, whole_minus, whole_plain, parts_split}
+use Rattle.ml_ratio.proofs.lemmas.Numerals.{numeral_some, up_to_some, whole_minus, whole_plain, parts_split}
 use Rattle.ml_follow.proofs.Bytes.{Within, none_below, decimal_within, IsSmall}
 
 digits_model : IsNumeralModel (λ ds. all_ascii_digits ds ≡ true) (digits_value 10)

@@ -14,7 +14,8 @@ use Rattle.ml_ratio.specs.World.{IsInWorld}
 use Rattle.ml_ratio.specs.Number.{number_up_to}
 use Rattle.ml_ratio.specs.RatioExact.{ratio_exact}
 use Rattle.ml_ratio.specs.declared.ratio.Ratio.{Ratio}
-use Rattle.ml_ratio.proofs.Reading.{ratio_same}
+use Rattle.ml_ratio.proofs.lemmas.Numerals.{ratio_same}
+use Rattle.ml_ratio.proofs.lemmas.Lists.{pick}
 use Rattle.ml_cone.specs.Places.{IsNoId}
 use Rattle.ml_cone.specs.Plane.{IsBox, IsMargin}
 use Rattle.ml_cone.specs.Slots.{no_slot}
@@ -136,7 +137,7 @@ module _ (spelling : OneSpelling) (lists : OneList) where
       same_slots (a ∷ labels) slots rest e f all =
           same_lists slots rest f (λ k d lt. get_or_default slots k d no_slot lt ∙ all k a (omega arith) ∙ sym (get_or_default rest k d no_slot (omega arith)))
 
-  state_same : (front rest other more : List (List ℕ)) (a b : State) → front ++ rest ≡ other ++ more → WriteState front a → WriteState other b → (a ≡ b) × (rest ≡ more)
+  pub state_same : (front rest other more : List (List ℕ)) (a b : State) → front ++ rest ≡ other ++ more → WriteState front a → WriteState other b → (a ≡ b) × (rest ≡ more)
   state_same front rest other more a b same v w =
       let e : v.head ∷ (v.rows ++ rest) ≡ w.head ∷ (w.rows ++ more) = ap (λ (ls : List (List ℕ)). ls ++ rest) (sym v.lines_are) ∙ same ∙ ap (λ (ls : List (List ℕ)). ls ++ more) w.lines_are in
       let first : v.head ≡ w.head = cc e in
@@ -170,10 +171,6 @@ module _ (spelling : OneSpelling) (lists : OneList) where
 
   -- ---- a file that is refused has no reading
 
-  some_label : (labels : List Label) (k : ℕ) → k < length labels → Label
-  some_label [] k lt = absurd (omega (arith, lt))
-  some_label (a ∷ labels) k lt = a
-
   -- the line behind the beginning of a state is that of its next label
   module _ (rows more rest tail : List (List ℕ)) (line : List ℕ) (count : ℕ) (a : State) (o : Unfinished) (same : rows ++ line ∷ tail ≡ more ++ rest) (counts : o.count ≡ length a.labels) (begun : WriteRows rows o.count o.state.labels o.state.slots) (fewer : length o.state.labels < o.count) (whole : WriteRows more (length a.labels) a.labels a.slots) where
     long : length rows < length more
@@ -194,7 +191,7 @@ module _ (spelling : OneSpelling) (lists : OneList) where
     at_next = let l = long in let n = whole.one_label in omega arith
 
     the_label : Label
-    the_label = some_label a.labels (length rows) at_next
+    the_label = pick a.labels (length rows) at_next
 
     next_row : ReadsRow line (length o.state.labels) o.count (get_or a.labels (length rows) the_label) (get_or a.slots (length rows) no_slot)
     next_row =

@@ -9,8 +9,8 @@ use Rattle.ml_ratio.specs.Lines.{parts}
 use Rattle.ml_ratio.specs.Number.{whole_number}
 use Rattle.ml_ratio.specs.Ratio.{ReadsRatio}
 use Rattle.ml_ratio.specs.declared.ratio.Ratio.{Ratio}
-use Rattle.ml_ratio.proofs.Fractions.{less_at_most, at_most_less, at_most_trans}
-use Rattle.ml_ratio.proofs.Reading.{ratio_same}
+use Rattle.ml_ratio.proofs.lemmas.Fractions.{less_at_most, at_most_less, at_most_trans}
+use Rattle.ml_ratio.proofs.lemmas.Numerals.{ratio_same}
 use Rattle.ml_cone.specs.Label.{AreLabelParts, IsLabelOf}
 use Rattle.ml_cone.specs.Places.{IsPlaceOf}
 use Rattle.ml_cone.specs.Plane.{IsMargin}

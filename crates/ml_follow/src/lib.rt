@@ -7,7 +7,8 @@
 //! - `state_text`: the text of a state ([`StateText`]), over `line`: its lines;
 //! - `follower`: who holds a state ([`Follower`]), over `changes`: what changes from one state to the
 //!   next, and `compare`: whether labels are alike;
-//! - [`laws`]: what is written reads back, and is adopted.
+//! - [`laws`]: what is written reads back, and is adopted; a file has one reading or one fault, and a state
+//!   that is refused is so for one reason.
 #![tactic(auto)]
 
 mod changes;

@@ -9,7 +9,7 @@ use Rattle.std.proofs.lemmas.List.{get_or_default, get_or_push}
 use Rattle.std.proofs.lemmas.List.Sorted.{ranks_by, sorted_far}
 use Rattle.ml_ratio.specs.Fraction.{Fraction, value_of, IsLess, IsAtMost}
 use Rattle.ml_ratio.specs.RatioOrder.{ratio_cmp, ratio_total}
-use Rattle.ml_ratio.proofs.Fractions.{less_at_most, less_trans, at_most_trans, middle, middle_above, middle_below}
+use Rattle.ml_ratio.proofs.lemmas.Fractions.{less_at_most, less_trans, at_most_trans, middle, middle_above, middle_below}
 use Rattle.ml_cone.specs.Choice.{ActiveUntil}
 use Rattle.ml_cone.specs.Overlap.{Overlap}
 use Rattle.ml_cone.specs.declared.label.Label.{Label}
@@ -20,7 +20,7 @@ use Rattle.ml_gaps.specs.Longest.{IsClearGap, IsLongestOf}
 use Rattle.ml_gaps.specs.Piece.{HoldsScale, HaveScale, AddsPieces}
 use Rattle.ml_gaps.specs.declared.gap.Gap.{Gap}
 use Rattle.ml_gaps.specs.declared.piece.Piece.{Piece}
-use Rattle.ml_gaps.proofs.Anys.{any_of, any_none, any_left, any_right, any_either}
+use Rattle.ml_ratio.proofs.lemmas.Anys.{any_of, any_none, any_left, any_right, any_either}
 use Rattle.ml_gaps.proofs.Swept.{from_above}
 
 -- ---- pieces in the order in which they begin

@@ -2,7 +2,7 @@
 use Rattle.std.proofs.Common.{◌≡◌, ℕ, ◌+◌, ◌-◌, ◌*◌, ◌<◌, ◌≤◌, arith, ap}
 use Rattle.std.proofs.Math.Nat.{mul-le-mul_right}
 use Rattle.ml_ratio.specs.Fraction.{Fraction, IsLess, IsAtMost}
-use Rattle.ml_ratio.proofs.Fractions.{at_most_trans}
+use Rattle.ml_ratio.proofs.lemmas.Fractions.{at_most_trans}
 use Rattle.ml_gaps.specs.Gap.{length_of}
 
 -- a range that is empty has no length

@@ -1,9 +1,11 @@
-pub mod Anys
-pub mod Adding
-pub mod Rows
-pub mod Lengths
-pub mod Results
-pub mod Swept
-pub mod Choosing
-pub mod Finding
-pub mod Clearing
+mod Lengths
+mod Results
+mod Swept
+mod Choosing
+mod Finding
+mod Clearing
+mod OneAnswer
+mod Pairing
+mod Blocking
+mod OneCutting
+mod Nears

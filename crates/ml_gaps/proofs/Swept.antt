@@ -6,7 +6,7 @@ use Rattle.std.proofs.lemmas.List.{get_or_default}
 use Rattle.std.proofs.Math.Nat.{mul-pos}
 use Rattle.ml_ratio.specs.Fraction.{Fraction, value_of, IsLess, IsAtMost, IsSame}
 use Rattle.ml_ratio.specs.declared.ratio.Ratio.{Ratio}
-use Rattle.ml_ratio.proofs.Fractions.{less_at_most, at_most_less, at_most_trans, middle, middle_above, middle_below, greater_of}
+use Rattle.ml_ratio.proofs.lemmas.Fractions.{less_at_most, at_most_less, at_most_trans, middle, middle_above, middle_below, greater_of}
 use Rattle.ml_cone.specs.Range.{ActiveBetween}
 use Rattle.ml_cone.specs.declared.label.Label.{Label}
 use Rattle.ml_gaps.specs.Gap.{length_of, gap_length}
@@ -14,7 +14,7 @@ use Rattle.ml_gaps.specs.Longest.{IsClearGap, IsLongestOf}
 use Rattle.ml_gaps.specs.Piece.{HoldsScale, HaveScale}
 use Rattle.ml_gaps.specs.declared.gap.Gap.{Gap}
 use Rattle.ml_gaps.specs.declared.piece.Piece.{Piece}
-use Rattle.ml_gaps.proofs.Anys.{any_at, any_of}
+use Rattle.ml_ratio.proofs.lemmas.Anys.{any_at, any_of}
 use Rattle.ml_gaps.proofs.Lengths.{empty_length, some_length, length_within, none_shorter}
 
 -- what a piece holds lies at its lower end or above it

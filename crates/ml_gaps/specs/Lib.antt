@@ -2,5 +2,6 @@ pub mod Piece
 pub mod Gap
 pub mod Blocked
 pub mod Gaps
-pub mod Row
 pub mod Longest
+pub mod Pairs
+pub mod Near

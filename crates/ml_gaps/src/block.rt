@@ -5,28 +5,29 @@ ghost use Rattle.ml_cone.specs.Range.{ActiveBetween};
 ghost use Rattle.ml_cone.specs.Overlap.{BoxesOverlap};
 ghost use Rattle.ml_cone.specs.declared.label.BoxPx.{BoxPx};
 ghost use Rattle.ml_gaps.specs.Piece.{HoldsIfSome, AddsPieces};
-ghost use Rattle.ml_gaps.specs.Blocked.{IsBlocked, IsBlockedBefore, IsPairPiece};
-ghost use Rattle.ml_gaps.specs.Row.{IsInRow, IsInRange, IsInRangeBefore, IsRowPiece, IsRangePiece};
+ghost use Rattle.ml_gaps.specs.Blocked.{IsBlocked, IsPairPiece};
+ghost use Rattle.ml_gaps.specs.Pairs.{AddsPiecesOf, AddsFirstOf, pairs_of, IsPairInRange, IsPairBlocked};
 
 use crate::gap::Gap;
 use crate::piece::{Piece, larger, smaller};
-use ml_cone::Label;
+use ml_cone::{Label, are_apart};
 use ml_conflict::interval;
 use ml_ratio::{Ratio, Seq};
 use std::alloc::AllocError;
 
 /// Appends pieces whose union is the scales of the selectable range of `low`, its maximum left out, at
-/// which `high` is active under its gap and the two overlap: at most one for each pair of boxes, the
-/// scales at which those two overlap there.
+/// which `high` is active under its gap and the two overlap.
+///
+/// They go by pairs of boxes, row by row: of each pair that overlaps there one piece, the scales at
+/// which it does, and of the others none.
 ///
 /// # Errors
 /// Want of memory; the pieces of a first part of the pairs of boxes were appended.
 pub fn blocked(low: &Label, high: &Label, gap: &Gap, out: &mut Seq<Piece>) -> Result<(), AllocError>
     ensures ok { OnOk result (AddsPieces (IsBlocked low.now high.now gap.now) (IsPairPiece low.now high.now gap.now)
         (length low.now.boxes * length high.now.boxes) out.old out.new) }
-    ensures err { OnErr result ((i j : ℕ) ×
-        AddsPieces (IsBlockedBefore low.now high.now gap.now i j) (IsPairPiece low.now high.now gap.now)
-        (length low.now.boxes * length high.now.boxes) out.old out.new) }
+    ensures pairs { OnOk result (AddsPiecesOf (IsPairBlocked low.now high.now gap.now) (pairs_of low.now high.now) out.old out.new) }
+    ensures err { OnErr result (AddsFirstOf (IsPairBlocked low.now high.now gap.now) (pairs_of low.now high.now) out.old out.new) }
 {
     let from = larger(low.min(), gap.from);
     let until = smaller(low.max(), gap.until);
@@ -41,15 +42,13 @@ fn block_range(
     until: Ratio,
     out: &mut Seq<Piece>,
 ) -> Result<(), AllocError>
-    ensures ok { OnOk result (AddsPieces (IsInRange low.now high.now (value_of from) (value_of until))
-        (IsRangePiece low.now high.now (value_of from) (value_of until))
-        (length low.now.boxes * length high.now.boxes) out.old out.new) }
-    ensures err { OnErr result ((i j : ℕ) ×
-        AddsPieces (IsInRangeBefore low.now high.now (value_of from) (value_of until) i j)
-        (IsRangePiece low.now high.now (value_of from) (value_of until))
-        (length low.now.boxes * length high.now.boxes) out.old out.new) }
+    ensures ok { OnOk result (AddsPiecesOf (IsPairInRange low.now high.now (value_of from) (value_of until)) (pairs_of low.now high.now) out.old out.new) }
+    ensures err { OnErr result (AddsFirstOf (IsPairInRange low.now high.now (value_of from) (value_of until)) (pairs_of low.now high.now) out.old out.new) }
 {
     if !from.is_less(&until) {
+        return Ok(());
+    }
+    if are_apart(low, high, until.num(), until.den()) {
         return Ok(());
     }
     for i in 0..low.boxes().len() {
@@ -69,13 +68,9 @@ fn block_row(
 ) -> Result<(), AllocError>
     requires { i < length low.now.boxes }
     ensures ok { OnOk result ((d : BoxPx) →
-        AddsPieces (IsInRow low.now (slice_index_or low.now.boxes i d) high.now (value_of from) (value_of until) (length high.now.boxes))
-        (IsRowPiece low.now (slice_index_or low.now.boxes i d) high.now (value_of from) (value_of until))
-        (length high.now.boxes) out.old out.new) }
-    ensures err { OnErr result ((j : ℕ) × ((d : BoxPx) →
-        AddsPieces (IsInRow low.now (slice_index_or low.now.boxes i d) high.now (value_of from) (value_of until) j)
-        (IsRowPiece low.now (slice_index_or low.now.boxes i d) high.now (value_of from) (value_of until))
-        (length high.now.boxes) out.old out.new)) }
+        AddsPiecesOf (λ q. IsPairInRange low.now high.now (value_of from) (value_of until) (slice_index_or low.now.boxes i d, q)) high.now.boxes out.old out.new) }
+    ensures err { OnErr result ((d : BoxPx) →
+        AddsFirstOf (λ q. IsPairInRange low.now high.now (value_of from) (value_of until) (slice_index_or low.now.boxes i d, q)) high.now.boxes out.old out.new) }
 {
     for j in 0..high.boxes().len() {
         if let Some(piece) = block_pair(low, i, high, j, from, until) {

@@ -1,14 +1,16 @@
 //! The longest free gap of each label.
-ghost use Rattle.std.specs.Prelude.{◌≡◌, ◌≤◌, ◌↔◌, [], length, IfOk};
+ghost use Rattle.std.specs.Prelude.{◌≡◌, ◌≤◌, ◌*◌, ◌↔◌, [], length, IfOk, OnOk};
 ghost use Rattle.ml_ratio.specs.Fraction.{Fraction, value_of};
 ghost use Rattle.ml_cone.specs.Choice.{ActiveUntil};
-ghost use Rattle.ml_gaps.specs.Blocked.{IsBlockedBy};
+ghost use Rattle.ml_gaps.specs.Blocked.{IsBlocked, IsPairPiece, IsBlockedBy};
 ghost use Rattle.ml_gaps.specs.Gaps.{AreGaps};
 ghost use Rattle.ml_gaps.specs.Longest.{IsLongestOf};
-ghost use Rattle.ml_gaps.specs.Piece.{HaveScale};
+ghost use Rattle.ml_gaps.specs.Near.{IsNearOf, AreNears};
+ghost use Rattle.ml_gaps.specs.Piece.{HaveScale, AddsPieces};
 
 use crate::block::blocked;
 use crate::gap::Gap;
+use crate::near::Near;
 use crate::piece::Piece;
 use crate::sweep::longest;
 use ml_cone::Label;
@@ -28,10 +30,12 @@ pub fn gaps(alloc: Global, labels: &[Label]) -> Result<Seq<Gap>, AllocError>
     ensures { IfOk result (AreGaps labels.now) }
 {
     let mut gaps = Seq::new(alloc);
+    let mut nears = Vec::new(alloc);
     let mut pieces = Vec::new(alloc);
     for label in labels {
-        pieces = pieces_of(label, labels, gaps.as_slice(), pieces)?;
+        pieces = pieces_of(label, labels, gaps.as_slice(), nears.as_slice(), pieces)?;
         let gap = longest_of(label, &mut pieces);
+        nears.push(Near::of(label, &gap.until))?;
         gaps.push(gap)?;
         pieces.clear();
     }
@@ -43,17 +47,40 @@ fn pieces_of(
     label: &Label,
     labels: &[Label],
     gaps: &[Gap],
+    nears: &[Near],
     room: Vec<Piece>,
 ) -> Result<Vec<Piece>, AllocError>
     requires few { length gaps.now ≤ length labels.now }
+    requires nears { AreNears labels.now gaps.now nears.now }
     requires empty { room.items ≡ [] }
     ensures { IfOk result (λ pieces. (s : Fraction) → HaveScale pieces.items s ↔ IsBlockedBy label.now labels.now gaps.now (length gaps.now) s) }
 {
+    let own = Near::of(label, &label.max());
     let mut pieces = Seq::of_vec(room);
     for j in 0..gaps.len() {
-        blocked(label, &labels[j], &gaps[j], &mut pieces)?;
+        add_blocked(label, &own, &labels[j], &nears[j], &gaps[j], &mut pieces)?;
     }
     Ok(pieces.into_vec())
+}
+
+// The same of one of them: none where it is too far away.
+fn add_blocked(
+    label: &Label,
+    own: &Near,
+    other: &Label,
+    near: &Near,
+    gap: &Gap,
+    pieces: &mut Seq<Piece>,
+) -> Result<(), AllocError>
+    requires own { IsNearOf label.now (value_of label.now.max) own.now }
+    requires near { IsNearOf other.now (value_of gap.now.until) near.now }
+    ensures { OnOk result (AddsPieces (IsBlocked label.now other.now gap.now) (IsPairPiece label.now other.now gap.now)
+        (length label.now.boxes * length other.now.boxes) pieces.old pieces.new) }
+{
+    if own.is_apart(near) {
+        return Ok(());
+    }
+    blocked(label, other, gap, pieces)
 }
 
 // The longest gap of the label that the pieces leave.

@@ -1,8 +1,8 @@
-pub mod Added
-pub mod Differ
-pub mod Gone
-pub mod Ids
-pub mod Made
-pub mod Orders
-pub mod Props
-pub mod Runs
+mod Added
+mod Differ
+mod Gone
+mod Ids
+mod Made
+mod Orders
+mod Props
+mod Runs

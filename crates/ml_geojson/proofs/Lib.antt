@@ -14,3 +14,5 @@ mod Differing
 mod SameLemmas
 mod Once
 mod Exact
+mod OneFault
+mod SameFeature

@@ -1,6 +1,6 @@
 //! Laws over the definitions alone: what is accepted is not refused and is read in one way, and what
 //! is written reads back.
-ghost use Rattle.std.specs.Prelude.{◌≡◌, ℕ, List, map as mapped, Ok};
+ghost use Rattle.std.specs.Prelude.{◌≡◌, ◌≢◌, ℕ, List, map as mapped, Ok};
 ghost use Rattle.ml_json.specs.Canonical.{settled, IsPrintable};
 ghost use Rattle.ml_ratio.specs.declared.feature.Feature.{Feature};
 ghost use Rattle.ml_geojson.specs.Collection.{own_parts, feature, collection};
@@ -26,6 +26,19 @@ pub fn feature_or_fault()
     laws::text_or_fault();
 }
 
+/// One thing is wrong with bytes that are no map file, but for want of memory; and one with bytes that
+/// are no feature with an id.
+pub fn one_fault()
+    ensures map { (bytes : List ℕ) (one other : GeoFault) → one ≢ GeoFault.Memory → other ≢ GeoFault.Memory →
+        IsMapFault bytes one → IsMapFault bytes other → one ≡ other }
+    ensures feature { (bytes : List ℕ) (one other : GeoFault) → one ≢ GeoFault.Memory → other ≢ GeoFault.Memory →
+        IsFeatureFault bytes one → IsFeatureFault bytes other → one ≡ other }
+{
+    laws::one_tree();
+    laws::text_or_fault();
+    laws::one_fault();
+}
+
 /// Bytes are a map file of the same features only.
 pub fn one_map()
     ensures { (bytes : List ℕ) (features others : List Feature) → IsMap bytes features → IsMap bytes others → AreSameFeatures features others }
@@ -39,6 +52,11 @@ pub fn one_feature()
 {
     laws::one_tree();
 }
+
+/// Features of the same id, shape and properties are one.
+pub fn same_is_one()
+    ensures { (one other : Feature) → IsSameFeature one other → one ≡ other }
+{}
 
 /// The trees of features and of collections can be printed, and read as what they were made of.
 pub fn trees_read_back()

@@ -1,8 +1,8 @@
 //! Map files in GeoJSON (RFC 7946): features read from JSON text and written as canonical text.
 //!
 //! - [`reader`]: a map file or one feature to features, with [`positions`], [`shapes`],
-//!   [`properties`] and [`parts`] of a feature, [`members`] of JSON maps, and the [`ids`] that
-//!   features get;
+//!   [`properties`] and [`parts`] of a feature, [`members`] of JSON maps, the types of geometry
+//!   (`kind`), and the [`ids`] that features get, which they lack as a `draft`;
 //! - [`writer`]: features to text, by way of JSON [`values`];
 //! - [`fault`]: why bytes are refused;
 //! - [`laws`]: laws over the definitions alone.

@@ -1,16 +1,15 @@
 -- The numbers that a search finds.
-use Rattle.std.proofs.Common.{◌≡◌, ◌≢◌, sym, refl, ℕ, ◌+◌, ◌<◌, ◌≤◌, arith, Bool, true, false, List, [], ◌∷◌, ◌++◌, subst, inl, inr}
+use Rattle.std.proofs.Common.{◌≡◌, refl, ℕ, ◌+◌, ◌<◌, ◌≤◌, arith, Bool, true, false, List, inl, inr}
 use Rattle.std.specs.Prelude.{Contains, ◌⊎◌, ◌↔◌, ◌&&◌, OnOk, Result, Ok, Err, ℤ, pos, ◌+ℤ◌, ◌≤ℤ◌}
 use Rattle.std.specs.Ordering.{is_le, nat_cmp}
 use Rattle.std.proofs.lemmas.Bool.{false≢true}
 use Rattle.std.proofs.lemmas.Bool.Decides.{nat_tests}
 use Rattle.std.proofs.lemmas.Int.{ints, by_lt_z}
-use Rattle.std.proofs.lemmas.List.Elements.{Contains-append_cases, Contains-append_left, Contains-append_right}
 use Rattle.ml_ratio.specs.Fraction.{value_of, IsAtMost}
 use Rattle.ml_ratio.specs.RatioOrder.{ratio_cmp}
 use Rattle.ml_ratio.specs.declared.ratio.Ratio.{Ratio}
 use Rattle.ml_cone.specs.declared.cells.Cells.{Cells}
-use Rattle.ml_spans.specs.Search.{is_within, values_where}
+use Rattle.ml_spans.specs.Search.{is_within, IsValueOf, HasPassing}
 use Rattle.ml_grid.specs.Cell.{cell_cmp}
 use Rattle.ml_grid.specs.Column.{IsInColumn, IsInColumnFrom, IsAmongFrom}
 use Rattle.ml_grid.proofs.Partial.{IsAmongFirst, IsAmongFirstFrom}
@@ -48,40 +47,16 @@ finds_same P Q entries a b h r n = (
   λ old. elim old [ inl in_a ↦ (h n).1 (inl in_a) | inr some ↦ (h n).1 (inr (number_same Q P entries (λ e. (r e).0) n some)) ],
 )
 
--- the value of each entry that passes is found, and each value found is that of such an entry
-abbrev pub Picks : (Entry → Bool) → List Entry → Type 0
-Picks p entries =
-    ((e : Entry) → Contains entries e → p e ≡ true → Contains (values_where p entries) e.value)
-    × ((n : ℕ) → Contains (values_where p entries) n → (e : Entry) × Contains entries e × (p e ≡ true) × (e.value ≡ n))
-
--- a list that is not empty has something in it, and an empty one has nothing
-first_of : (ns : List ℕ) → ns ≢ [] → (n : ℕ) × Contains ns n
-first_of [] some = absurd (some refl)
-first_of (n ∷ ns) some = (n, (0, omega arith, refl))
-
-lacks_all : (n : ℕ) → ¬ (Contains [] n)
-lacks_all n h = let lt : h.0 < 0 = h.1 in omega arith
-
--- what a search appends
-pub finds_picked : (p : Entry → Bool) (P : Entry → Type 0) (entries : List Entry) (a b : List ℕ) → Picks p entries → ((e : Entry) → P e ↔ (p e ≡ true)) → b ≡ a ++ values_where p entries → Finds P entries a b
-finds_picked p P entries a b picks r is n = (
-  λ new. elim (Contains-append_cases a (values_where p entries) n (subst (λ (ns : List ℕ). Contains ns n) is new)) [
-    | inl old ↦ inl old
-    | inr some ↦ let found = picks.1 n some in inr (found.0, found.1, found.3, (r found.0).1 found.2)
-  ],
-  λ h. subst (λ (ns : List ℕ). Contains ns n) (sym is) (elim h [
-    | inl old ↦ Contains-append_left a (values_where p entries) n old
-    | inr some ↦ Contains-append_right a (values_where p entries) n
-        (subst (λ (m : ℕ). Contains (values_where p entries) m) some.2 (picks.0 some.0 some.1 ((r some.0).0 some.3)))
-  ]),
+-- what a search appended
+pub finds_tested : (p : Entry → Bool) (P : Entry → Type 0) (entries : List Entry) (a b : List ℕ) → ((e : Entry) → P e ↔ (p e ≡ true)) → ((n : ℕ) → Contains b n ↔ (Contains a n ⊎ IsValueOf p entries n)) → Finds P entries a b
+finds_tested p P entries a b r found n = (
+  λ new. elim ((found n).0 new) [ inl old ↦ inl old | inr f ↦ inr (f.0, f.1, f.3, (r f.0).1 f.2) ],
+  λ h. (found n).1 (elim h [ inl old ↦ inl old | inr f ↦ inr (f.0, f.1, (r f.0).0 f.3, f.2) ]),
 )
 
 -- whether a search gives anything
-pub some_picked : (p : Entry → Bool) (P : Entry → Type 0) (entries : List Entry) → Picks p entries → ((e : Entry) → P e ↔ (p e ≡ true)) → (values_where p entries ≢ []) ↔ HasEntry P entries
-some_picked p P entries picks r = (
-  λ some. let n = first_of (values_where p entries) some in let found = picks.1 n.0 n.1 in (found.0, found.1, (r found.0).1 found.2),
-  λ has none. lacks_all has.0.value (subst (λ (ns : List ℕ). Contains ns has.0.value) none (picks.0 has.0 has.1 ((r has.0).0 has.2))),
-)
+pub some_tested : (p : Entry → Bool) (P : Entry → Type 0) (entries : List Entry) → ((e : Entry) → P e ↔ (p e ≡ true)) → HasPassing p entries ↔ HasEntry P entries
+some_tested p P entries r = (λ some. (some.0, some.1, (r some.0).1 some.2), λ has. (has.0, has.1, (r has.0).0 has.2))
 
 pub on_ok : {E : Type 0} (r : Result (Unit {0}) E) (P Q : Type 0) → (P → Q) → OnOk r P → OnOk r Q
 on_ok (Ok u) P Q f h = f h

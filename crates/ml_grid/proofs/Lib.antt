@@ -1,12 +1,13 @@
-pub mod Answered
-pub mod Casts
-pub mod Columns
-pub mod Counts
-pub mod Finds
-pub mod Near
-pub mod Partial
-pub mod Places
-pub mod Seen
-pub mod Sets
-pub mod Sums
-pub mod Windows
+mod Answered
+mod Casts
+mod Columns
+mod Counts
+mod Finds
+mod Moved
+mod Near
+mod Partial
+mod Places
+mod Seen
+mod Sets
+mod Sums
+mod Windows

@@ -1,48 +1,23 @@
--- The labels near a view, and the rivals of a label, by the grid's entries.
+-- The labels near a view, by the grid's entries.
 use Rattle.std.proofs.Common.{refl, lit<, ℕ, ◌+◌, ◌*◌, ◌^◌, ◌<◌, ◌≤◌, arith, subst, List, ◌↔◌, inl, inr}
 use Rattle.std.proofs.Math.Nat.{pow-le-pow_right}
 use Rattle.std.proofs.lemmas.Bool.{cases_lt}
 use Rattle.std.proofs.lemmas.Nat.{mul-le}
 use Rattle.ml_ratio.specs.Fraction.{Fraction, value_of, IsAtMost, IsLess}
 use Rattle.ml_ratio.specs.Band.{IsInBand, MeetsBand}
-use Rattle.ml_ratio.proofs.Bands.{has_band}
-use Rattle.ml_ratio.proofs.Fractions.{at_most_trans, at_most_less}
+use Rattle.ml_ratio.proofs.lemmas.Bands.{has_band}
+use Rattle.ml_ratio.proofs.lemmas.Fractions.{less_is_at_most, at_most_trans, at_most_less}
 use Rattle.ml_ratio.specs.declared.ratio.Ratio.{Ratio}
-use Rattle.ml_cone.specs.Cell.{SharedCell, BoundCell, SeenCell}
-use Rattle.ml_cone.specs.Choice.{ActiveUntil, IsEnd, CoversFrom}
-use Rattle.ml_cone.specs.Rivals.{AreRivals}
+use Rattle.ml_cone.specs.Cell.{SeenCell}
+use Rattle.ml_cone.specs.Choice.{ActiveUntil, IsEnd}
 use Rattle.ml_cone.specs.Shown.{IsInView}
-use Rattle.ml_cone.proofs.Meetings.{less_is_at_most}
 use Rattle.ml_spans.specs.Spans.{entry_of}
 use Rattle.ml_cone.specs.declared.label.Label.{Label}
 use Rattle.ml_cone.specs.declared.view.View.{View}
 use Rattle.ml_grid.specs.Cell.{cell_of}
 use Rattle.ml_grid.specs.Entry.{Entry, AreEntriesOf}
 use Rattle.ml_grid.specs.Found.{IsNumberOf, IsSeen}
-use Rattle.ml_grid.specs.Near.{IsNear, IsFoundFor, IsFoundAt}
-
-pub found_rival : ((a b : Label) → AreRivals a b → SharedCell a b) → (a b : Label) (number : ℕ) (u : Ratio) (entries : List Entry) → AreEntriesOf number b u entries → AreRivals a b → IsFoundFor a entries number
-found_rival rivals_share a b number u entries its rivals =
-    let cell = rivals_share a b rivals in
-    let entry = (its (entry_of (cell_of cell.band cell.x cell.y) u number)).1 (record { in_cell = cell.second; its_end = refl; its_number = refl }) in
-    record {
-      band = cell.band;
-      low = cell.first.low;
-      meets = cell.first.meets;
-      found = (entry_of (cell_of cell.band cell.x cell.y) u number, entry.0, refl, (refl, cell.first.among));
-    }
-
-pub found_bound : ((low high : Label) (u f : Fraction) → IsEnd low f → IsLess f (value_of low.max) → IsAtMost u (value_of high.max) → CoversFrom low high u f → BoundCell low high f) →
-    (a b : Label) (f : Fraction) (number : ℕ) (u : Ratio) (entries : List Entry) → IsEnd a f → IsLess f (value_of a.max) → IsEnd b (value_of u) → CoversFrom a b (value_of u) f → AreEntriesOf number b u entries → IsFoundAt a f entries number
-found_bound bound_shares a b f number u entries end below its_end covers its =
-    let cell = bound_shares a b (value_of u) f end below its_end.1 covers in
-    let entry = (its (entry_of (cell_of cell.band cell.x cell.y) u number)).1 (record { in_cell = cell.second; its_end = refl; its_number = refl }) in
-    record {
-      band = cell.band;
-      low = cell.first.low;
-      in_band = cell.in_band;
-      found = (entry_of (cell_of cell.band cell.x cell.y) u number, entry.0, refl, (refl, cell.first.among));
-    }
+use Rattle.ml_grid.specs.Near.{IsNear}
 
 whole : ℕ → Fraction
 whole n = record { num = n; den = 1; positive = lit< tt }

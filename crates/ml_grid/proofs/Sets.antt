@@ -1,8 +1,7 @@
 -- Entries that come in and go out, as sets.
-use Rattle.std.proofs.Common.{◌≡◌, ◌∙◌, ap, sym, refl, ℕ, ◌+◌, ◌<◌, arith, List, ◌∷◌, inl, inr, subst, true, false}
-use Rattle.std.specs.Prelude.{Contains, ◌⊎◌, ◌↔◌}
+use Rattle.std.proofs.Common.{◌≡◌, ◌∙◌, ap, sym, refl, ℕ, ◌+◌, ◌<◌, arith, List, inl, inr, subst, true, false}
+use Rattle.std.specs.Prelude.{◌⊎◌, ◌↔◌}
 use Rattle.std.proofs.lemmas.Bool.{cases_lt}
-use Rattle.std.proofs.lemmas.List.Elements.{Contains-append_right}
 use Rattle.ml_ratio.specs.declared.ratio.Ratio.{Ratio}
 use Rattle.ml_ratio.specs.Fraction.{value_of}
 use Rattle.ml_ratio.specs.Band.{MeetsBand}
@@ -10,7 +9,6 @@ use Rattle.std.proofs.lemmas.Bool.{false≢true}
 use Rattle.ml_cone.specs.Cell.{IsInCell}
 use Rattle.ml_cone.specs.Cells.{IsAmongCells}
 use Rattle.ml_cone.specs.Hull.{hull_of, AreFew}
-use Rattle.ml_spans.specs.Order.{IsAdded}
 use Rattle.ml_spans.specs.Spans.{entry_of}
 use Rattle.ml_cone.specs.declared.cells.Cells.{Cells}
 use Rattle.ml_cone.specs.declared.label.Label.{Label}
@@ -22,22 +20,6 @@ use Rattle.ml_grid.specs.Placed.{IsPlaced, IsEntryAt}
 use Rattle.ml_grid.proofs.Partial.{IsEntryBelow}
 use Rattle.ml_grid.specs.declared.cell.Cell.{Cell}
 use Rattle.ml_grid.proofs.Places.{place_once, among_at, place_of_cell}
-
--- one entry more comes in
-pub comes_in : (x : Entry) (before after : List Entry) → ((e : Entry) → Contains before e → Contains after e) → ((e : Entry) → Contains after e → (x ≡ e) ⊎ Contains before e) → IsAdded x before after → Adds (λ e. e ≡ x) before after
-comes_in x before after has only added e =
-    let here : Contains (x ∷ added.after) x = (0, omega arith, refl) in
-    let there : Contains after x = subst (λ (l : List Entry). Contains l x) (sym added.is) (Contains-append_right added.before (x ∷ added.after) x here) in (
-      λ new. elim (only e new) [ inl same ↦ inr (sym same) | inr old ↦ inl old ],
-      λ h. elim h [ inl old ↦ has e old | inr is ↦ subst (λ (d : Entry). Contains after d) (sym is) there ],
-    )
-
--- one entry goes, of which nothing is left
-pub goes_out : (x : Entry) (before after : List Entry) → ((e : Entry) → Contains after e → Contains before e) → ((e : Entry) → Contains before e → (x ≡ e) ⊎ Contains after e) → ¬ (Contains after x) → Drops (λ e. e ≡ x) before after
-goes_out x before after has only gone e = (
-  λ left. (has e left, λ is. gone (subst (λ (d : Entry). Contains after d) is left)),
-  λ old. elim (only e old.0) [ inl same ↦ absurd (old.1 (sym same)) | inr left ↦ left ],
-)
 
 -- nothing comes in
 pub adds_none : (P : Entry → Type 0) (a : List Entry) → ((e : Entry) → ¬ (P e)) → Adds P a a
@@ -171,8 +153,3 @@ added_are_its number a until before after free adds e = (
   λ h. elim ((adds e).0 h.0) [ inl old ↦ absurd (free e old h.1) | inr own ↦ own ],
   λ own. ((adds e).1 (inr own), own.its_number),
 )
-
--- and where these went the number is free
-pub dropped_is_free : (number : ℕ) (a : Label) (until : Ratio) (before after : List Entry) → AreEntriesOf number a until before → Drops (IsEntryOf number a until) before after → IsFree number after
-dropped_is_free number a until before after its drops e there is =
-    let left = (drops e).0 there in left.1 ((its e).0 (left.0, is))

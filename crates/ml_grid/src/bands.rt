@@ -35,7 +35,7 @@ pub fn cells_of(cells: &Cells) -> usize
     requires few_columns { AreUpToNine cells.now.x0 cells.now.x1 }
     requires few_rows { AreUpToNine cells.now.y0 cells.now.y1 }
     ensures count { result ≡ cell_count cells.now }
-    ensures few { result < 100 }
+    ensures few { result ≤ 81 }
 {
     span_len(cells.x0, cells.x1) * span_len(cells.y0, cells.y1)
 }
@@ -59,7 +59,7 @@ pub fn cell_at(cells: &Cells, i: usize) -> Cell
 fn entries_in(label: &Label, band: u8) -> usize
     requires { band < 28 }
     ensures count { result ≡ band_count label.now band }
-    ensures few { result < 100 }
+    ensures few { result ≤ 16 }
 {
     if is_kept(label, band) {
         cells_of(&hull(label, band))
@@ -70,7 +70,8 @@ fn entries_in(label: &Label, band: u8) -> usize
 
 /// How many entries the label has, over all bands.
 pub fn entries_of(label: &Label) -> usize
-    ensures { result ≡ entry_count label.now }
+    ensures count { result ≡ entry_count label.now }
+    ensures few { result ≤ 448 }
 {
     let mut count = 0;
     for band in 0..BANDS {

@@ -12,7 +12,6 @@ use crate::cell::Cell;
 use crate::keep::Tree;
 use ml_cone::Cells;
 use ml_ratio::{Ratio, Seq, Steps};
-use ml_spans::laws::{found_value, value_found};
 use std::alloc::AllocError;
 use std::sync::ledger::Ledger;
 
@@ -39,8 +38,6 @@ fn find_column(tree: &Tree, x: i64, cells: &Cells, found: &mut Seq<u32>) -> Resu
     ensures ok { OnOk result (Finds (IsInColumn cells.now x) tree.now.entries found.old found.new) }
 {
     let (from, to) = column_ends(x, cells);
-    value_found::<Cell, Ratio, u32>();
-    found_value::<Cell, Ratio, u32>();
     tree.range(&from, &to, found)
 }
 
@@ -55,8 +52,6 @@ fn find_column_from(
     ensures ok { OnOk result (Finds (IsInColumnFrom cells.now x scale.now) tree.now.entries found.old found.new) }
 {
     let (from, to) = column_ends(x, cells);
-    value_found::<Cell, Ratio, u32>();
-    found_value::<Cell, Ratio, u32>();
     tree.stab(&from, &to, scale, found)
 }
 
@@ -65,8 +60,6 @@ fn has_in_column(tree: &Tree, x: i64, cells: &Cells, scale: &Ratio) -> bool
     ensures { IsTrue result ↔ HasEntry (IsInColumnFrom cells.now x scale.now) tree.now.entries }
 {
     let (from, to) = column_ends(x, cells);
-    value_found::<Cell, Ratio, u32>();
-    found_value::<Cell, Ratio, u32>();
     tree.is_stabbed(&from, &to, scale)
 }
 

@@ -1,21 +1,25 @@
 //! The grid.
-ghost use Rattle.std.specs.Prelude.{ℕ, ◌≡◌, ◌+◌, ◌≤◌, ◌↔◌, [], max, length, Contains, IsTrue, OnOk, OnErr, IfOk};
+ghost use Rattle.std.specs.Prelude.{ℕ, ◌≡◌, ◌≢◌, ◌+◌, ◌≤◌, ◌↔◌, [], max, length, Contains, IsTrue, OnOk, OnErr, IfOk};
+ghost use Rattle.std.specs.List.{AllPairs};
+ghost use Rattle.std.specs.List.Sorted.{IsPermutation};
 ghost use Rattle.std.specs.Ordering.{nat_cmp};
 ghost use Rattle.ml_ratio.specs.RatioOrder.{ratio_cmp};
 ghost use Rattle.ml_spans.specs.Order.{entry_order, IsRising};
 ghost use Rattle.ml_grid.specs.Cell.{cell_cmp};
 ghost use Rattle.ml_grid.specs.Count.{AreUpToNine, entry_count};
-ghost use Rattle.ml_grid.specs.Entry.{IsEntryOf, Adds, Drops, IsFree, AreEntriesOf};
+ghost use Rattle.ml_grid.specs.Entry.{IsEntryOf, Adds, Drops, Replaces, IsFree, AreEntriesOf};
 ghost use Rattle.ml_grid.specs.Found.{Appends, AppendsFirst, IsInHull, IsNumberOf, HasEntry, IsSeen};
 ghost use Rattle.ml_grid.specs.Column.{IsAmongFrom};
 
 use crate::bands::entries_of;
+use crate::cell::Cell;
 use crate::find::{append, append_counted, ascending, find_cells, find_cells_from, has_in_cells};
-use crate::keep::{Tree, add_all, drop_all};
+use crate::keep::{Tree, add_all, drop_all, move_all};
 use crate::window::window_cells;
 use ml_cone::{Cells, Label, Span, View, hull};
 use ml_ratio::{Ratio, Seq, Steps};
-use ml_spans::SpanTree;
+use ml_spans::sorting::in_order;
+use ml_spans::{Entry, SpanTree};
 use std::alloc::{AllocError, Global};
 use std::marker::Model;
 use std::sync::ledger::Ledger;
@@ -51,6 +55,20 @@ impl Grid {
         }
     }
 
+    /// The grid of these entries, of which no two may be the same, with no room.
+    ///
+    /// # Errors
+    /// Want of memory.
+    pub fn of(alloc: Global, entries: Vec<Entry<Cell, Ratio, u32>>) -> Result<Grid, AllocError>
+        requires differ { AllPairs (λ one other. one ≢ other) entries.items }
+        ensures entries { IfOk result (λ grid. IsPermutation entries.items grid.entries) }
+        ensures spare { IfOk result (λ grid. grid.spare ≡ 0) }
+    {
+        let sorted = in_order(entries);
+        let tree = SpanTree::of_sorted(alloc, sorted.as_slice())?;
+        Ok(Grid { tree })
+    }
+
     /// How many entries there are. They are in order of cell, then number, then end, each once.
     pub fn len(&self) -> usize
         ensures count { result ≡ length self.now.entries }
@@ -66,9 +84,12 @@ impl Grid {
         self.tree.spare()
     }
 
-    /// How many entries the label with this span has.
+    /// How many entries the label with this span has, which begins at the label's minimum: at most 448, since
+    /// there are 28 bands, and in each at most 16 cells.
     pub fn entries(label: &Label, _span: &Span) -> usize
-        ensures { result ≡ entry_count label.now }
+        requires { _span.now.min ≡ label.now.min }
+        ensures count { result ≡ entry_count label.now }
+        ensures few { result ≤ 448 }
     {
         entries_of(label)
     }
@@ -86,8 +107,10 @@ impl Grid {
         self.tree.reserve(n)
     }
 
-    /// Puts in the entries of a label whose number has none. It takes no memory and cannot fail.
+    /// Puts in the entries of a label with this span, which begins at the label's minimum. The number has
+    /// none. It takes no memory and cannot fail.
     pub fn add(&mut self, number: u32, label: &Label, span: &Span)
+        requires begins { span.now.min ≡ label.now.min }
         requires free { IsFree number self.old.entries }
         requires room { entry_count label.now ≤ self.old.spare }
         ensures entries { Adds (IsEntryOf number label.now span.now.until) self.old.entries self.new.entries }
@@ -96,14 +119,25 @@ impl Grid {
         add_all(&mut self.tree, number, span.until, label);
     }
 
-    /// Takes out the entries of a label with this span, which are those with its number; they may come
-    /// in again. It takes no memory and cannot fail.
+    /// Takes out the entries of a label with this span, which begins at the label's minimum; they are those
+    /// with its number, and may come in again. It takes no memory and cannot fail.
     pub fn drop_label(&mut self, number: u32, label: &Label, span: &Span)
+        requires begins { span.now.min ≡ label.now.min }
         requires its { AreEntriesOf number label.now span.now.until self.old.entries }
         ensures entries { Drops (IsEntryOf number label.now span.now.until) self.old.entries self.new.entries }
         ensures spare { self.new.spare ≡ self.old.spare + entry_count label.now }
     {
         drop_all(&mut self.tree, number, span.until, label);
+    }
+
+    /// Gives the entries of a label, which are those with its number, another end, each in its place. It
+    /// takes no memory and cannot fail.
+    pub fn move_label(&mut self, number: u32, label: &Label, from: &Ratio, to: &Ratio)
+        requires its { AreEntriesOf number label.now from.now self.old.entries }
+        ensures entries { Replaces (IsEntryOf number label.now from.now) (IsEntryOf number label.now to.now) self.old.entries self.new.entries }
+        ensures spare { self.new.spare ≡ self.old.spare }
+    {
+        move_all(&mut self.tree, number, label, from, to);
     }
 
     /// Appends the numbers that have an entry in the band in a cell of the label's hull there, ascending

@@ -1,7 +1,8 @@
-//! A label's entries, put in and taken out.
-ghost use Rattle.std.specs.Prelude.{ℕ, ◌≡◌, ◌+◌, ◌<◌, ◌≤◌, ◌≤ℤ◌, Contains};
+//! A label's entries, put in, taken out and given another end.
+ghost use Rattle.std.specs.Prelude.{ℕ, ◌≡◌, ◌+◌, ◌<◌, ◌≤◌, ◌≤ℤ◌, ◌↔◌, Contains};
+ghost use Rattle.ml_ratio.specs.declared.ratio.Ratio.{Ratio};
 ghost use Rattle.ml_grid.specs.Count.{AreUpToNine, cell_count, cell_in, band_count, entry_count};
-ghost use Rattle.ml_grid.specs.Entry.{Entry, IsEntryOf, Adds, Drops, IsFree, AreEntriesOf};
+ghost use Rattle.ml_grid.specs.Entry.{Entry, IsEntryOf, Adds, Drops, Replaces, IsFree, AreEntriesOf};
 ghost use Rattle.ml_grid.specs.Placed.{IsPlaced, IsEntryAt};
 ghost use Rattle.ml_spans.specs.Spans.{entry_of};
 
@@ -11,7 +12,6 @@ use ml_cone::laws::hulls_are_few;
 use ml_cone::{Cells, Label, hull};
 use ml_ratio::Ratio;
 use ml_spans::SpanTree;
-use ml_spans::laws::{added_has, added_only};
 
 /// The index below the grid: cells as keys, ends, and the numbers of labels.
 pub type Tree = SpanTree<Cell, Ratio, u32>;
@@ -23,8 +23,6 @@ fn put_in(tree: &mut Tree, number: u32, until: Ratio, cell: Cell)
     ensures entries { Adds (λ e. e ≡ entry_of cell until number) tree.old.entries tree.new.entries }
     ensures spare { tree.new.spare + 1 ≡ tree.old.spare }
 {
-    added_has::<Cell, Ratio, u32>();
-    added_only::<Cell, Ratio, u32>();
     tree.insert(cell, until, number);
 }
 
@@ -48,8 +46,6 @@ fn take_out(tree: &mut Tree, number: u32, until: Ratio, cell: Cell)
     ensures entries { Drops (λ e. e ≡ entry_of cell until number) tree.old.entries tree.new.entries }
     ensures spare { tree.new.spare ≡ tree.old.spare + 1 }
 {
-    added_has::<Cell, Ratio, u32>();
-    added_only::<Cell, Ratio, u32>();
     let _there = tree.remove(&cell, &until, &number);
 }
 
@@ -113,5 +109,52 @@ pub fn drop_all(tree: &mut Tree, number: u32, until: Ratio, label: &Label)
 {
     for band in 0..BANDS {
         drop_band(tree, number, until, label, band);
+    }
+}
+
+// Gives an entry that is there another end. No other one has its cell and its number.
+fn move_one(tree: &mut Tree, number: u32, from: &Ratio, to: &Ratio, cell: Cell)
+    requires its { (until : Ratio) → Contains tree.old.entries (entry_of cell until number) ↔ (until ≡ from.now) }
+    ensures entries { Replaces (λ e. e ≡ entry_of cell from.now number) (λ e. e ≡ entry_of cell to.now number) tree.old.entries tree.new.entries }
+    ensures spare { tree.new.spare ≡ tree.old.spare }
+{
+    let _there = tree.set_end(&cell, from, &number, to);
+}
+
+// Gives the entry for each of the cells another end.
+fn move_cells(tree: &mut Tree, number: u32, from: &Ratio, to: &Ratio, cells: &Cells)
+    requires few_columns { AreUpToNine cells.now.x0 cells.now.x1 }
+    requires few_rows { AreUpToNine cells.now.y0 cells.now.y1 }
+    requires its { (i : ℕ) → i < cell_count cells.now → (until : Ratio) → Contains tree.old.entries (entry_of (cell_in cells.now i) until number) ↔ (until ≡ from.now) }
+    ensures entries { Replaces (IsPlaced number from.now cells.now (cell_count cells.now)) (IsPlaced number to.now cells.now (cell_count cells.now)) tree.old.entries tree.new.entries }
+    ensures spare { tree.new.spare ≡ tree.old.spare }
+{
+    for i in 0..cells_of(cells) {
+        move_one(tree, number, from, to, cell_at(cells, i));
+    }
+}
+
+// Gives the label's entries of the band another end.
+fn move_band(tree: &mut Tree, number: u32, from: &Ratio, to: &Ratio, label: &Label, band: u8)
+    requires low { band < 28 }
+    requires there { (e : Entry) → IsEntryAt number label.now from.now band e → Contains tree.old.entries e }
+    requires alone { (e : Entry) → Contains tree.old.entries e → e.value ≡ number → e.key.band ≡ band → e.end ≡ from.now }
+    ensures entries { Replaces (IsEntryAt number label.now from.now band) (IsEntryAt number label.now to.now band) tree.old.entries tree.new.entries }
+    ensures spare { tree.new.spare ≡ tree.old.spare }
+{
+    if is_kept(label, band) {
+        hulls_are_few();
+        move_cells(tree, number, from, to, &hull(label, band));
+    }
+}
+
+/// Gives the entries of a label, which are those with its number, another end.
+pub fn move_all(tree: &mut Tree, number: u32, label: &Label, from: &Ratio, to: &Ratio)
+    requires its { AreEntriesOf number label.now from.now tree.old.entries }
+    ensures entries { Replaces (IsEntryOf number label.now from.now) (IsEntryOf number label.now to.now) tree.old.entries tree.new.entries }
+    ensures spare { tree.new.spare ≡ tree.old.spare }
+{
+    for band in 0..BANDS {
+        move_band(tree, number, from, to, label, band);
     }
 }

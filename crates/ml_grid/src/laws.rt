@@ -1,19 +1,20 @@
 //! Laws of a grid's entries. Each function takes nothing and does nothing: its contract is the law, for
 //! all values.
 ghost use Rattle.std.specs.Prelude.{ℕ, List, ◌↔◌};
-ghost use Rattle.ml_ratio.specs.Fraction.{Fraction, IsLess, value_of};
+ghost use Rattle.ml_ratio.specs.Fraction.{value_of};
 ghost use Rattle.ml_ratio.specs.declared.ratio.Ratio.{Ratio};
-ghost use Rattle.ml_cone.specs.Choice.{ActiveUntil, IsEnd, CoversFrom};
-ghost use Rattle.ml_cone.specs.Rivals.{AreRivals};
+ghost use Rattle.ml_cone.specs.Choice.{ActiveUntil, IsEnd};
 ghost use Rattle.ml_cone.specs.Shown.{IsInView};
 ghost use Rattle.ml_cone.specs.declared.label.Label.{Label};
 ghost use Rattle.ml_cone.specs.declared.view.View.{View};
-ghost use Rattle.ml_grid.specs.Entry.{Entry, IsEntryOf, Adds, Drops, IsFree, AreEntriesOf};
+ghost use Rattle.ml_grid.specs.Entry.{Entry, IsEntryOf, Adds, Drops, Replaces, IsFree, AreEntriesOf};
+ghost use Rattle.ml_ratio.specs.Band.{IsInBand};
 ghost use Rattle.ml_grid.specs.Count.{AreCounted, entry_count};
+ghost use Rattle.ml_grid.specs.Window.{HasFewCells};
 ghost use Rattle.ml_grid.specs.Found.{IsNumberOf, IsSeen};
-ghost use Rattle.ml_grid.specs.Near.{IsNear, IsFoundFor, IsFoundAt};
+ghost use Rattle.ml_grid.specs.Near.{IsNear};
 
-use ml_cone::laws::{bound_shares, hulls_are_few, rivals_share, seen_in_cell};
+use ml_cone::laws::{hulls_are_few, seen_in_cell};
 
 /// A label's entries are as many as [`Grid::entries`](crate::Grid::entries) tells.
 pub fn entries_counted()
@@ -30,36 +31,24 @@ pub fn added_are_its()
         AreEntriesOf number label until after }
 {}
 
-/// A number whose entries went is free: so another label can come in under it.
-pub fn dropped_is_free()
-    ensures { (number : ℕ) (label : Label) (until : Ratio) (before after : List Entry) →
-        AreEntriesOf number label until before → Drops (IsEntryOf number label until) before after →
-        IsFree number after }
+/// The entries of a label that got another end are those of the label with this end.
+pub fn moved_are_its()
+    ensures { (number : ℕ) (label : Label) (from to : Ratio) (before after : List Entry) →
+        AreEntriesOf number label from before →
+        Replaces (IsEntryOf number label from) (IsEntryOf number label to) before after →
+        AreEntriesOf number label to after }
 {}
-
-/// Each rival of a label is found in some band that meets the label's selectable range.
-pub fn rivals_found()
-    ensures { (label rival : Label) (number : ℕ) (until : Ratio) (entries : List Entry) →
-        AreEntriesOf number rival until entries → AreRivals label rival → IsFoundFor label entries number }
-{
-    rivals_share();
-}
-
-/// Each label that bounds another at an end is found in the band of that end.
-pub fn bounds_found()
-    ensures { (label rival : Label) (bound : Fraction) (number : ℕ) (until : Ratio) (entries : List Entry) →
-        IsEnd label bound → IsLess bound (value_of label.max) → IsEnd rival (value_of until) →
-        CoversFrom label rival (value_of until) bound → AreEntriesOf number rival until entries →
-        IsFoundAt label bound entries number }
-{
-    bound_shares();
-}
 
 /// The numbers that are seen in a window are exactly those of the labels near the view.
 pub fn seen_are_near()
     ensures { (label : Label) (number : ℕ) (until : Ratio) (entries : List Entry) (view : View) →
         IsEnd label (value_of until) → AreEntriesOf number label until entries →
         IsNumberOf (IsSeen view) entries number ↔ IsNear label until view }
+{}
+
+/// The cells of the band of a view's scale that meet its window are at most 81: nine columns and nine rows.
+pub fn windows_are_few()
+    ensures { (view : View) (k : ℕ) → IsInBand (value_of view.scale) k → HasFewCells view k }
 {}
 
 /// Each label that a view shows is seen in its window.

@@ -7,7 +7,7 @@ use Rattle.ml_cone.specs.declared.slot.Span.{Span}
 use Rattle.ml_watch.specs.declared.change.Change.{Change}
 use Rattle.ml_store.specs.Rows.{labels_in, HasId}
 use Rattle.ml_store.specs.declared.row.Row.{Row}
-use Rattle.ml_store.proofs.Lists.{contains_map, map_contains}
+use Rattle.ml_ratio.proofs.lemmas.Lists.{contains_map, map_contains}
 use Rattle.ml_repair.specs.Changes.{IsTold, span_of}
 use Rattle.ml_repair.specs.Edit.{IsEdited}
 use Rattle.ml_repair.specs.Settled.{IsSettled}

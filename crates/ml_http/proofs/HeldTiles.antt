@@ -14,7 +14,7 @@ use Rattle.ml_cone.specs.declared.view.View.{View}
 use Rattle.ml_watch.specs.declared.change.Change.{Change}
 use Rattle.ml_store.specs.Rows.{labels_in, slots_in}
 use Rattle.ml_store.specs.declared.row.Row.{Row}
-use Rattle.ml_store.proofs.Lists.{contains_map, map_contains}
+use Rattle.ml_ratio.proofs.lemmas.Lists.{contains_map, map_contains}
 use Rattle.ml_repair.specs.Changes.{AreChanges, IsChanged, StandsAmong, span_of}
 use Rattle.ml_repair.specs.Settled.{IsSettled}
 use Rattle.ml_answer.specs.View.{view_text}

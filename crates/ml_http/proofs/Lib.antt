@@ -1,23 +1,30 @@
-pub mod ConnectionLemmas
-pub mod Digits
-pub mod EmptyWord
-pub mod HeldLemmas
-pub mod JudgeLemmas
-pub mod LengthLemmas
-pub mod LinkLemmas
-pub mod Marks
-pub mod OneAsked
-pub mod ReaderLemmas
-pub mod SameLists
-pub mod SameReplies
-pub mod SameLabels
-pub mod SameViews
-pub mod StepLemmas
-pub mod StreamLemmas
-pub mod TakesLemmas
-pub mod ShownRows
-pub mod HeldTiles
-pub mod Dropping
-pub mod StayRight
-pub mod TileLemmas
-pub mod StatePlaces
+mod ConnectionLemmas
+mod Digits
+mod EmptyWord
+mod HeldLemmas
+mod JudgeLemmas
+mod LengthLemmas
+mod LinkLemmas
+mod Marks
+mod OneAsked
+mod ReaderLemmas
+mod SameLists
+mod SameReplies
+mod SameLabels
+mod SameViews
+mod StepLemmas
+mod StreamLemmas
+mod TakesLemmas
+mod ShownRows
+mod HeldTiles
+mod Dropping
+mod StayRight
+mod TileLemmas
+mod StatePlaces
+mod OneTile
+mod Adoption
+mod Levels
+mod OneRead
+mod OneAccount
+mod OneReply
+mod SameChanges

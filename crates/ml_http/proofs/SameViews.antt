@@ -1,5 +1,5 @@
 -- What a view shows depends on the labels alone.
-use Rattle.std.proofs.Common.{◌≡◌, ◌≢◌, ℕ, ◌+◌, ◌<◌, List, [], ◌∷◌, length, map, get_or, Contains, All, ◌⊎◌, inl, inr, refl, sym, ap, subst, ◌∙◌, arith}
+use Rattle.std.proofs.Common.{◌≡◌, ◌≢◌, ℕ, ◌+◌, ◌<◌, Option, List, [], ◌∷◌, length, map, get_or, Contains, All, ◌⊎◌, inl, inr, refl, sym, ap, subst, ◌∙◌, arith}
 use Rattle.std.specs.Prelude.{◌↔◌}
 use Rattle.std.proofs.lemmas.Bool.{cases_lt}
 use Rattle.std.proofs.lemmas.List.{get_or_default, get_or-map, length-map}
@@ -8,7 +8,7 @@ use Rattle.ml_ratio.specs.Fraction.{value_of, IsSame}
 use Rattle.ml_ratio.specs.declared.feature.Feature.{Feature}
 use Rattle.ml_cone.specs.Choice.{Choice, IsLongest}
 use Rattle.ml_cone.specs.Shown.{AreShown, IsShown, IsShownUntil}
-use Rattle.ml_cone.specs.Slots.{ends, no_slot}
+use Rattle.ml_cone.specs.Slots.{AreSlots, IsBlockerBy, ends, no_slot}
 use Rattle.ml_cone.specs.declared.label.Label.{Label}
 use Rattle.ml_cone.specs.declared.slot.Slot.{Slot}
 use Rattle.ml_cone.specs.declared.view.View.{View}
@@ -24,6 +24,14 @@ use Rattle.ml_http.proofs.SameLabels.{same_ratio}
 -- one longest choice
 abbrev pub OneLongest : Type 0
 OneLongest = (labels : List Label) (one other : Choice) → IsLongest labels one → IsLongest labels other → (i : ℕ) → i < length labels → IsSame (one i) (other i)
+
+-- what is known of the choice: there is one longest, labels have one list of slots, and a label has one blocker
+pub record KnownChoice : Type 0 where
+  pub longest : OneLongest
+  pub slots : (number : ℕ → ℕ) (labels : List Label) (slots others : List Slot) → AreSlots number labels slots → AreSlots number labels others → slots ≡ others
+  pub blocker : (number : ℕ → ℕ) (labels : List Label) (one other : Choice) →
+      ((k : ℕ) → k < length labels → IsSame (one k) (other k)) → (i : ℕ) → i < length labels → (x y : Option ℕ) →
+      IsBlockerBy number labels one i x → IsBlockerBy number labels other i y → x ≡ y
 
 until_at : List Row → ℕ → Rattle.ml_ratio.specs.declared.ratio.Ratio.Ratio
 until_at rows p = (get_or (slots_in rows) p no_slot).until

@@ -14,3 +14,5 @@ pub mod Step
 pub mod Stream
 pub mod TileReply
 pub mod TileWork
+pub mod Level
+pub mod Once

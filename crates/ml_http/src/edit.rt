@@ -202,7 +202,6 @@ fn accept<W: Watcher>(
         (beside crowd.old tiles.old) (beside crowd.new tiles.new) bytes.items) }
     ensures memory { OnErr result ((editor.new.state ≡ editor.old.state) × (crowd.new ≡ crowd.old) × (tiles.new ≡ tiles.old)) }
 {
-    let _before = editor.rev();
     let reply = accepted_reply(alloc, &ready, closes)?;
     forget_changes(editor, tiles, &ready);
     editor.commit(ready, crowd);

@@ -3,7 +3,7 @@ ghost use Rattle.std.specs.Prelude.{◌≡◌, Some};
 ghost use Rattle.std.specs.Option.{option_copied};
 ghost use Rattle.ml_store.specs.Rows.{labels_in, slots_in};
 ghost use Rattle.ml_repair.specs.Changes.{IsChange, IsTold};
-ghost use Rattle.ml_editor.specs.Editing.{IsLabelWith, IsReady, id_of, rows_after};
+ghost use Rattle.ml_editor.specs.Editing.{IsEditing, IsLabelWith, IsReady, id_of, rows_after};
 ghost use Rattle.ml_http.specs.Step.{work_of};
 ghost use Rattle.ml_http.specs.TileWork.{Drops, IsDoneTo, IsForgotten, ShowsChange, ShowsChanges, ShowsId};
 
@@ -58,7 +58,6 @@ fn forget_before(editor: &Editor, tiles: &mut Tiles, change: &Change)
     ensures { Drops (ShowsId editor.now.engine.rows change.now.id) tiles.old tiles.new }
 {
     one_label_an_id();
-    let _rev = editor.rev();
     forget_label(tiles, label_with(editor, &change.id), &change.before);
 }
 
@@ -90,7 +89,8 @@ fn forget_label(tiles: &mut Tiles, label: Option<&Label>, span: &Option<Span>)
 
 // The label with this id, if there is one.
 fn label_with<'a>(editor: &'a Editor, id: &Text) -> Option<&'a Label>
-    ensures { IsLabelWith (labels_in editor.now.engine.rows) (option_copied result) id.now }
+    ensures label { IsLabelWith (labels_in editor.now.engine.rows) (option_copied result) id.now }
+    ensures holds { IsEditing editor.now }
 {
     match editor.number_of(id) {
         Some(number) => Some(editor.label_at(number)),

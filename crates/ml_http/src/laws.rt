@@ -1,20 +1,46 @@
 //! Laws over the definitions alone. Each function takes nothing and does nothing: its contract is the
 //! law, for all values.
-ghost use Rattle.std.specs.Prelude.{◌≡◌, ℕ, Bool, List, [], ◌++◌};
-ghost use Rattle.ml_editor.specs.State.{State};
+ghost use Rattle.std.specs.Prelude.{◌≡◌, ◌≢◌, ℕ, ℤ, Bool, List, [], ◌∷◌, ◌++◌, Option, Some, All, IsUtf8};
+ghost use Rattle.ml_cone.specs.Slots.{AreSlots};
+ghost use Rattle.ml_cone.specs.declared.label.Label.{Label};
+ghost use Rattle.ml_cone.specs.declared.slot.Slot.{Slot};
+ghost use Rattle.ml_ratio.specs.Fraction.{Fraction};
+ghost use Rattle.ml_ratio.specs.declared.feature.Feature.{Feature};
+ghost use Rattle.ml_style.specs.declared.class.Class.{Class};
+ghost use Rattle.ml_style.specs.declared.class.Kind.TheVariants.{LineKind};
+ghost use Rattle.ml_style.specs.declared.style.Style.{Style};
+ghost use Rattle.ml_label.specs.Labelling.{IsClassOf, IsFeatureLabel};
+ghost use Rattle.ml_view.specs.Drawn.{MayRise};
+ghost use Rattle.ml_http.specs.Level.{ReachesHeight};
+ghost use Rattle.ml_label.specs.Labels.{AreLabelsOf};
+ghost use Rattle.ml_tile.specs.declared.key.TileKey.{TileKey};
+ghost use Rattle.ml_follow.specs.Alike.{IsStateWith};
+ghost use Rattle.ml_follow.specs.Follower.{IsStale, IsDue};
+ghost use Rattle.ml_follow.specs.States.{AreStates};
+ghost use Rattle.ml_follow.specs.declared.state.State as followed;
+ghost use Rattle.ml_editor.specs.State.{State, IsState};
+ghost use Rattle.ml_http.specs.StateReply.{IsStateText};
 ghost use Rattle.ml_tile.specs.Cache.{Cache};
-ghost use Rattle.ml_http.specs.Link.{AreTexts};
+ghost use Rattle.ml_http.specs.Link.{AreTexts, IsLinkServed, LinkState};
+ghost use Rattle.ml_http.specs.Once.{AreOneAnswer, EndsWell};
+ghost use Rattle.ml_http.specs.declared.connection_end.ConnEnd.{ConnEnd};
+ghost use Rattle.ml_watch.specs.Hearing.{Hearing};
 ghost use Rattle.ml_http.specs.TileWork.{IsDoneTo};
 ghost use Rattle.ml_http.specs.Alike.{AreAlike};
-ghost use Rattle.ml_http.specs.Step.{LinkAnswer, Query, IsRead, MapStep};
+ghost use Rattle.ml_http.specs.Step.{LinkAnswer, Query, IsRead, IsTileText, IsTileAnswer, MapStep};
+ghost use Rattle.ml_http.specs.declared.route.ReadRoute.{ReadRoute};
 ghost use Rattle.ml_http.specs.declared.route.ReadRoute.TheVariants as reads;
 ghost use Rattle.ml_http.specs.Stream.{AreEvents};
 ghost use Rattle.ml_view.specs.Words.{SomeCoordinate, SomeSide, SomeScale};
+ghost use Rattle.ml_tile.specs.Words.{IsDepthWord, SomeColumn};
 ghost use Rattle.ml_http.specs.declared.request.Event.{Event};
 
-use ml_conflict::laws::l0 as one_longest;
+use ml_conflict::laws::{l0 as one_longest, one_choice};
+use ml_editor::laws::{accepted_is_reached, one_edit, one_refusal};
+use ml_follow::laws::adopted;
 use ml_label::laws::one_label;
-use ml_repair::laws::{one_label_an_id, unchanged_stays};
+use ml_repair::laws::{one_changes, one_cost, one_label_an_id, unchanged_stays};
+use ml_view::laws::level_labels;
 
 /// Two maps with one style and the same features, in whatever order, answer each request for a view, as
 /// JSON or as SVG, with the same bytes, whatever edits led to them.
@@ -38,13 +64,15 @@ pub fn l5()
         → (others : List Event) × (all ≡ few ++ others) }
 {}
 
-/// An empty word is no coordinate, no side of a window and no scale. A name of a view's query that is
-/// missing, or stands twice or more, is read as an empty word; so it is judged like a wrong value.
-#[tactic(auto, using(crate::proofs::EmptyWord::no_coordinate, crate::proofs::EmptyWord::no_side, crate::proofs::EmptyWord::no_scale))]
+/// An empty word is no coordinate, no side of a window and no scale, and neither the depth of a tile nor
+/// its column or row. A name of a query that is missing, or stands twice or more, is read as an empty
+/// word; so it is judged like a wrong value.
 pub fn empty_word()
     ensures coordinate { ¬ (SomeCoordinate []) }
     ensures side { ¬ (SomeSide []) }
     ensures scale { ¬ (SomeScale []) }
+    ensures depth { (z : ℕ) → ¬ (IsDepthWord [] z) }
+    ensures column { (z : ℕ) → ¬ (SomeColumn z []) }
 {}
 
 /// The bodies of tiles that are held stay those of their tiles while requests are answered, whatever
@@ -58,4 +86,78 @@ pub fn held_tiles_stay_right()
     one_longest();
     unchanged_stays();
     one_label_an_id();
+}
+
+/// Two maps with one style and the same features, in whatever order, have the same body for each tile, and
+/// answer each request for a tile with the same bytes. So a tile that is held, whose body is that of the
+/// present map, is answered as one that is made for the request.
+pub fn one_tile()
+    ensures body { (s t : State) (key : TileKey) (a b : List ℕ) → AreAlike s t → IsTileText s key a → IsTileText t key b → a ≡ b }
+    ensures reply { (s t : State) (closes : Bool) (query : Query) (one other : LinkAnswer) (u v : State) → AreAlike s t →
+        IsTileAnswer s closes query one u → IsTileAnswer t closes query other v → one.reply ≡ other.reply }
+{
+    one_label();
+    one_longest();
+}
+
+/// Whatever map was reached, the text of its state is read as one state, which a follower that holds
+/// nothing, or a smaller revision, is to adopt; and it has the labels of the map's features in priority
+/// order, alike in ids, anchors, boxes, selectable ranges and margins, with their ends and blockers.
+pub fn states_are_adopted()
+    ensures { (s : State) (text : List ℕ) (held : Option followed.State) → IsState s → All (λ f. IsUtf8 f.id) s.features →
+        IsStateText s text → ¬ (IsStale held s.rev) →
+        (labels : List Label) × (slots : List Slot) × (state : followed.State) × AreLabelsOf s.style s.features labels
+        × AreSlots (λ j. j) labels slots × AreStates text (state ∷ []) × IsStateWith s.rev labels slots state × IsDue held state }
+{
+    adopted();
+}
+
+/// Names at points and in areas may rise over one another, where straight texts of their classes reach one
+/// height over their anchors, margins counted.
+///
+/// So a view of a map whose style has such classes alone may be drawn on a map that is stretched in y.
+pub fn names_rise()
+    ensures { (style : Style) (f g : Feature) (one other : Class) (a b : Label) (height : ℤ) (s : Fraction) →
+        IsClassOf style f one → one.kind ≢ LineKind → ReachesHeight height one → IsFeatureLabel style f a →
+        IsClassOf style g other → other.kind ≢ LineKind → ReachesHeight height other → IsFeatureLabel style g b →
+        MayRise a b s }
+{
+    level_labels();
+}
+
+/// A request that changes nothing has one reply.
+pub fn one_read()
+    ensures { (s : State) (route : ReadRoute) (closes : Bool) (query : Query) (a b : List ℕ) → IsState s →
+        IsRead route s closes query a → IsRead route s closes query b → a ≡ b }
+{
+    one_label();
+    one_longest();
+    one_choice();
+}
+
+/// Each event has one answer: two answers of the machine to one event of one state have one reply, one
+/// list of changes and one cost, and leave one state.
+pub fn one_reply()
+    ensures { (s : State) (event : Event) (one other : LinkAnswer) (t u : State) → IsState s →
+        MapStep s event one t → MapStep s event other u → AreOneAnswer one other t u }
+{
+    one_label();
+    one_longest();
+    one_choice();
+    one_refusal();
+    one_edit();
+    one_changes();
+    one_cost();
+}
+
+/// Each connection gets the replies: two accounts of one that both end well, over the same bytes from one
+/// state, write the same bytes, in whatever pieces these came.
+pub fn one_account<W>()
+    ensures { (hearing : W → Hearing) (old one other : LinkState W) (bytes : List ℕ) (left rest written first second : Option (List ℕ)) (end ending : ConnEnd) →
+        IsState old.map_state → EndsWell end → EndsWell ending →
+        IsLinkServed hearing old one (Some bytes) left written first end →
+        IsLinkServed hearing old other (Some bytes) rest written second ending → first ≡ second }
+{
+    one_reply();
+    accepted_is_reached();
 }

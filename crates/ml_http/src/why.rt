@@ -71,7 +71,6 @@ fn slot_of(alloc: Global, editor: &Editor, id: &Text, number: u32) -> Result<Seq
     requires { IsNumberOf editor.now.engine.rows id.now number }
     ensures { IfOk result (IsSlotText editor.now.state id.now) }
 {
-    let _rev = editor.rev();
     let slot = editor.slot_at(number);
     let blocker = blocker_of(editor, slot.blocker);
     slot_json(alloc, editor.label_at(number), slot.until, blocker)

@@ -2,7 +2,7 @@
 //! connections come in.
 //!
 //! Each trait has a count of faults, which contracts see and which never falls. An answer that
-//! blames the outside comes only where that count rose in the same call. Each trait has optional
+//! blames the outside raises that count, and any other leaves it. Each trait has optional
 //! meanings besides, as the bytes that were written: an object that knows them tells them, and one
 //! over a real device tells nothing.
 //!
@@ -12,7 +12,7 @@
 //! - [`files`]: the trait [`Files`];
 //! - [`link`]: one connection ([`Link`]); [`door`]: the trait [`Door`], which gives them;
 //! - [`mem_source`], [`mem_sink`], [`mem_files`], [`mem_door`]: objects in memory that tell all, and
-//!   fail at listed calls, over [`failing`];
+//!   fail at listed calls, over [`failing`]; `link_list` and `named` are their connections and files;
 //! - [`calm_source`], [`calm_sink`], [`calm_files`], [`calm_door`]: objects that never fail;
 //! - [`real`], [`real_input`], [`tcp_door`]: adapters over the system, which are trusted;
 //! - [`laws`]: what is taken, or put, piece by piece.

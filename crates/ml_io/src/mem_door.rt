@@ -90,6 +90,7 @@ impl Door for MemDoor {
             × (Some self.new.links.served ≡ Some self.old.links.served) }
         ensures cause { HasCause self.old.faults self.new.faults result }
         ensures ok { IsOk result }
+        ensures calls { (self.new.calls ≡ self.old.calls) × (self.new.fails ≡ self.old.fails) }
     {
         self.links.listen(port);
         Ok(())
@@ -126,6 +127,7 @@ impl Door for MemDoor {
             × (self.new.links.listens ≡ self.old.links.listens)
             × (Some self.new.links.coming ≡ Some self.old.links.coming) }
         ensures faults { self.new.faults ≡ self.old.faults }
+        ensures calls { (self.new.calls ≡ self.old.calls) × (self.new.fails ≡ self.old.fails) }
     {
         self.links.done(link);
     }

@@ -1,5 +1,5 @@
 -- The answers exclude one another, so each comes exactly where its fact holds.
-use Rattle.std.proofs.Common.{◌≡◌, ℕ, ◌+◌, ◌<◌, ◌≤◌, ◌⊎◌, inl, inr, List, ◌++◌, take, drop, Result, Ok, Err, IfOk, refl, sym, ◌∙◌, ap, subst, arith, append_assoc, take-take}
+use Rattle.std.proofs.Common.{◌≡◌, ◌≢◌, ℕ, ◌+◌, ◌<◌, ◌≤◌, ◌⊎◌, inl, inr, List, ◌++◌, take, drop, Result, Ok, Err, IfOk, refl, sym, ◌∙◌, ap, subst, arith, append_assoc, take-take}
 use Rattle.std.proofs.lemmas.List.{take-append-drop}
 use Rattle.std.proofs.lemmas.Bool.{cases_lt}
 use Rattle.ml_json.specs.Tree.{Tree}
@@ -96,3 +96,13 @@ pub text_or_fault : (bytes : List ℕ) (tree : Tree) (fault : JsonFault) → IsT
 text_or_fault bytes tree (faults.NotJson at) accepted refused = absurd (text_or_not bytes tree at accepted refused)
 text_or_fault bytes tree (faults.Deep at) accepted refused = absurd (text_or_deep bytes tree at accepted refused)
 text_or_fault bytes tree faults.Memory accepted refused = refl
+
+-- one thing is wrong with bytes, but for want of memory
+pub one_fault : (bytes : List ℕ) (one other : JsonFault) → one ≢ faults.Memory → other ≢ faults.Memory → Refuses one bytes → Refuses other bytes → one ≡ other
+one_fault bytes (faults.NotJson a) (faults.NotJson b) m n p q = ap faults.NotJson (one_place (IsNotJson bytes) a b (not_json_later bytes) p q)
+one_fault bytes (faults.NotJson a) (faults.Deep b) m n p q = absurd (deep_or_not bytes b a q p)
+one_fault bytes (faults.NotJson a) faults.Memory m n p q = absurd (n refl)
+one_fault bytes (faults.Deep a) (faults.NotJson b) m n p q = absurd (deep_or_not bytes a b p q)
+one_fault bytes (faults.Deep a) (faults.Deep b) m n p q = ap faults.Deep (one_place (IsDeep bytes) a b (deep_later bytes) p q)
+one_fault bytes (faults.Deep a) faults.Memory m n p q = absurd (n refl)
+one_fault bytes faults.Memory other m n p q = absurd (m refl)

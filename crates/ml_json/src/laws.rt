@@ -1,6 +1,6 @@
 //! Laws over the definitions alone: what bytes stand for, and what coordinates and members keep when
 //! they are written and read.
-ghost use Rattle.std.specs.Prelude.{◌≡◌, ℕ, ℤ, List};
+ghost use Rattle.std.specs.Prelude.{◌≡◌, ◌≢◌, ℕ, ℤ, List};
 ghost use Rattle.ml_ratio.specs.JsonNumber.{IsNumber};
 ghost use Rattle.ml_ratio.specs.World.{IsInWorld};
 ghost use Rattle.ml_json.specs.Tree.{Tree, Pairs, no_pairs, put_all};
@@ -18,6 +18,12 @@ pub fn one_tree()
 /// What is a text is refused for want of memory alone.
 pub fn text_or_fault()
     ensures { (bytes : List ℕ) (tree : Tree) (fault : JsonFault) → IsText bytes tree → Refuses fault bytes → fault ≡ JsonFault.Memory }
+{}
+
+/// One thing is wrong with bytes that are no text, but for want of memory.
+pub fn one_fault()
+    ensures { (bytes : List ℕ) (one other : JsonFault) → one ≢ JsonFault.Memory → other ≢ JsonFault.Memory →
+        Refuses one bytes → Refuses other bytes → one ≡ other }
 {}
 
 /// The text of a coordinate reads as this coordinate.

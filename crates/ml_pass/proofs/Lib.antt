@@ -1,6 +1,9 @@
-pub mod RivalLemmas
-pub mod Assigning
-pub mod RowLemmas
-pub mod TableLemmas
-pub mod SlotLines
-pub mod Placed
+mod Searching
+mod Fields
+mod Assigning
+mod RowLemmas
+mod TableLemmas
+mod SlotLines
+mod Placed
+mod OneTable
+mod Gathering

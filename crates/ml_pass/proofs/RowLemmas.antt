@@ -8,11 +8,11 @@ use Rattle.std.proofs.lemmas.Slice.Zip.{AllZip-long}
 use Rattle.ml_ratio.specs.Fraction.{Fraction, value_of, IsLess, IsAtMost, IsSame}
 use Rattle.ml_ratio.specs.Lines.{parts}
 use Rattle.ml_ratio.specs.Number.{numeral, whole_number}
-use Rattle.ml_ratio.proofs.Numbers.{numeral_small}
-use Rattle.ml_ratio.proofs.Reading.{ratio_same}
+use Rattle.ml_ratio.proofs.lemmas.Numerals.{numeral_small}
+use Rattle.ml_ratio.proofs.lemmas.Numerals.{ratio_same}
 use Rattle.ml_ratio.specs.Ratio.{ReadsRatio}
 use Rattle.ml_ratio.specs.declared.ratio.Ratio.{Ratio}
-use Rattle.ml_ratio.proofs.Fractions.{less_at_most, at_most_less, at_most_trans}
+use Rattle.ml_ratio.proofs.lemmas.Fractions.{less_at_most, at_most_less, at_most_trans}
 use Rattle.ml_cone.specs.Label.{AreLabelParts, IsLabelOf}
 use Rattle.ml_cone.specs.declared.label.BoxPx.{BoxPx}
 use Rattle.ml_cone.specs.declared.label.Label.{Label}

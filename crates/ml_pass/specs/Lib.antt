@@ -1,4 +1,5 @@
-pub mod Before
+pub mod Field
+pub mod Search
 pub mod Row
 pub mod Table
 pub mod SlotsText

@@ -1,19 +1,23 @@
 //! The choice of a whole list of labels in one pass, and the text files of labels and slots.
 //!
-//! - `pass`: the longest choice with its blockers ([`assign`]), over `before`: the labels before a
-//!   place as rivals;
+//! - `pass`: the longest choice with its blockers ([`assign`]), over `field`: the labels in order from west
+//!   to east, each a `spot`, `search`: those before a label that may bound it, and `found`: these as
+//!   rivals;
 //! - `table`: label tables ([`read_table`]), over `row`: one line of a table
 //!   ([`read_boxes`], [`pieces_of`]), and `fault`: why one is refused ([`TableFault`]);
-//! - [`laws`]: that texts write one list of boxes at most;
+//! - [`laws`]: that a table has one reading or one fault, and texts write one list of boxes at most;
 //! - `slots_text`: the text of a choice ([`write_slots`]).
 #![tactic(auto)]
 
-mod before;
 mod fault;
+mod field;
+mod found;
 pub mod laws;
 mod pass;
 mod row;
+mod search;
 mod slots_text;
+mod spot;
 mod table;
 
 pub use fault::TableFault;

@@ -1,12 +1,17 @@
 //! The choice in one pass over the labels.
-ghost use Rattle.std.specs.Prelude.{◌≡◌, ◌≤◌, ◌<◌, length, IfOk, All};
-ghost use Rattle.ml_cone.specs.Slots.{AreSlots};
+ghost use Rattle.std.specs.Prelude.{ℕ, ◌≡◌, ◌+◌, ◌≤◌, ◌<◌, [], length, IfOk, OnOk, All};
+ghost use Rattle.ml_cone.specs.Slots.{AreSlots, IsOwnSlot};
+ghost use Rattle.ml_conflict.specs.Reach.{Reaches};
+ghost use Rattle.ml_pass.specs.Field.{IsFieldOf};
+ghost use Rattle.ml_pass.specs.Search.{rivals_in};
 ghost use Rattle.ml_pass.specs.SlotsText.{IsPlaced};
 
-use crate::before::Before;
-use ml_cone::{Label, Slot};
+use crate::field::Field;
+use crate::found::Found;
+use crate::search::Search;
+use ml_cone::{Label, Site, Slot};
 use ml_conflict::evaluate;
-use ml_conflict::laws::{own_slots, same_rivals};
+use ml_conflict::laws::{enough, own_slots, same_rivals};
 use ml_ratio::{Seq, Steps};
 use std::alloc::{AllocError, Global};
 use std::marker::Brand;
@@ -14,6 +19,8 @@ use std::sync::ledger::{Blank, Ledger};
 
 /// The lexicographically longest conflict-free choice in the order of the labels, and each label's
 /// blocker; a blocker is given by its place, so each is one.
+///
+/// It evaluates each label once, among those before it that are near.
 ///
 /// # Errors
 /// Want of memory.
@@ -38,17 +45,62 @@ fn assign_counted<L: Ledger>(
     ensures slots { IfOk result (λ slots. AreSlots (λ j. j) labels.now slots) }
     ensures placed { IfOk result (λ slots. All (λ slot. IsPlaced labels.now slot.blocker) slots) }
 {
+    let mut steps: Steps<L> = Steps::new(blank);
+    choose(alloc, labels, &mut steps)
+}
+
+// The same; it spends one step for each label.
+fn choose<L: Ledger>(
+    alloc: Global,
+    labels: &[Label],
+    steps: &mut Steps<L>,
+) -> Result<Seq<Slot>, AllocError>
+    requires { length labels.now ≤ 32768 }
+    ensures slots { IfOk result (λ slots. AreSlots (λ j. j) labels.now slots) }
+    ensures placed { IfOk result (λ slots. All (λ slot. IsPlaced labels.now slot.blocker) slots) }
+    ensures spent { OnOk result (steps.new ≡ steps.old + length labels.now) }
+{
     same_rivals();
     own_slots();
-    let mut steps: Steps<L> = Steps::new(blank);
+    let field = Field::of(alloc, labels)?;
     let mut slots = Vec::with_capacity(alloc, labels.len())?;
-    for label in labels {
-        let before = Before {
+    let mut places = Vec::new(alloc);
+    for low in labels {
+        let search = Search {
+            low,
+            site: Site::of(low),
             labels,
             slots: &slots,
         };
-        let slot = evaluate(label, &before, &mut steps);
+        let slot = slot_of(&search, &field, &mut places, steps)?;
         slots.push(slot)?;
     }
     Ok(Seq::of_vec(slots))
+}
+
+// The label's slot among all that have one, with the memory of the places of another label.
+fn slot_of<L: Ledger>(
+    search: &Search<'_>,
+    field: &Field,
+    places: &mut Vec<u32>,
+    steps: &mut Steps<L>,
+) -> Result<Slot, AllocError>
+    requires field { IsFieldOf search.now.labels.now field.now.spots.items field.now.reach }
+    requires reaches { Reaches search.now.low.now field.now.reach }
+    requires empty { places.old.items ≡ [] }
+    ensures own { IfOk result (λ slot. IsOwnSlot (rivals_in search.now.labels.now search.now.slots.now search.now.low.now)
+        (λ j. j < length search.now.slots.now) search.now.low.now slot) }
+    ensures cleared { OnOk result (places.new.items ≡ []) }
+    ensures spent { OnOk result (steps.new ≡ steps.old + 1) }
+{
+    enough();
+    search.gather(field, places)?;
+    places.sort_unstable();
+    let found = Found {
+        search: *search,
+        places: places.as_slice(),
+    };
+    let slot = evaluate(search.low, &found, steps);
+    places.clear();
+    Ok(slot)
 }

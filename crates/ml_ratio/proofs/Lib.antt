@@ -1,8 +1,5 @@
-pub mod Bands
-pub mod Floors
-pub mod Fractions
-pub mod Gauss
-pub mod LineLemmas
-pub mod Lists
-pub mod Numbers
-pub mod Reading
+mod Floors
+mod Gauss
+mod LineLemmas
+mod Numbers
+pub mod lemmas

@@ -5,6 +5,7 @@ pub mod Fraction
 pub mod Geometry
 pub mod JsonNumber
 pub mod Lines
+pub mod Lists
 pub mod Lowest
 pub mod Number
 pub mod Ratio

@@ -12,8 +12,6 @@ use Rattle.ml_cone.specs.declared.slot.Slot.{Slot}
 use Rattle.ml_store.specs.Rows.{numbers_in, labels_in, number_at, HasId, IsFresh, HaveOwnNumbers, AreDifferent}
 use Rattle.ml_store.specs.Table.{IsRowAt, with_slot}
 use Rattle.ml_store.specs.declared.row.Row.{Row}
-use Rattle.ml_store.proofs.Different.{same_place}
-use Rattle.ml_store.proofs.Lists.{map_insert}
 use Rattle.ml_watch.specs.declared.change.Change.{Change}
 use Rattle.ml_store.specs.Rows.{Stored}
 use Rattle.ml_repair.specs.Carry.{CanComeIn, HasRoomIn, gone_count}
@@ -26,6 +24,7 @@ use Rattle.ml_repair.proofs.Edited.{remove_insert, moved_none}
 use Rattle.ml_repair.proofs.Moving.{slot_here, slot_elsewhere}
 use Rattle.ml_repair.proofs.Placing.{list_remove}
 use Rattle.ml_repair.proofs.Present.{length-labels}
+use Rattle.ml_ratio.proofs.lemmas.Lists.{map_insert, same_place}
 
 -- ---- one move after another
 
@@ -61,7 +60,7 @@ moved_at_row m rows at differ here =
     let many = length-map rows (λ (t : Row). t.number) in
     let lt : at < length rows = here.0 in
     one_moved m rows at here.0 (λ d. sym (number_is rows at d here.0) ∙ here.1)
-    (λ k d k_in ne e. ne (same_place (numbers_in rows) k at differ (omega arith) (omega arith) (number_is rows k d k_in ∙ e ∙ sym here.1)))
+    (λ k d k_in ne e. ne (same_place (numbers_in rows) k at 0 differ (omega arith) (omega arith) (number_is rows k d k_in ∙ e ∙ sym here.1)))
 
 -- ---- the label that comes
 

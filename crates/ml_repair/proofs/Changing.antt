@@ -14,8 +14,6 @@ use Rattle.ml_cone.specs.declared.slot.Slot.{Slot}
 use Rattle.ml_watch.specs.declared.change.Change.{Change}
 use Rattle.ml_store.specs.Rows.{labels_in, slots_in}
 use Rattle.ml_store.specs.declared.row.Row.{Row}
-use Rattle.ml_store.proofs.ByName.{ids_decide}
-use Rattle.ml_store.proofs.Tables.{slot_read}
 use Rattle.ml_repair.specs.Changes.{Ranged, IsStanding, IsAbsent, IsStateOf, IsChange, AreChanges}
 use Rattle.ml_repair.specs.Plan.{moved_row, slot_for}
 use Rattle.ml_repair.specs.Stays.{IsStayChange, stay_change}
@@ -23,6 +21,8 @@ use Rattle.ml_repair.specs.declared.edit.Moved.{Moved}
 use Rattle.ml_repair.proofs.NearRosters.{row_there, label_read}
 use Rattle.ml_repair.proofs.OneRow.{one_id}
 use Rattle.ml_repair.proofs.Present.{length-labels}
+use Rattle.std.proofs.lemmas.Slice.Eq.{bytes_eq-Decides}
+use Rattle.ml_ratio.proofs.lemmas.Lists.{map_read}
 
 -- a row's label with its active range
 abbrev pub ranged : Row → Ranged
@@ -45,7 +45,7 @@ standing rows r there =
       is_place = omega arith;
       its_label = λ d. label_read rows there.0 r d lt (sym there.2);
       its_id = refl;
-      its_span = ap (λ (s : Slot). record { min = r.label.min; until = s.until }) (sym (slot_read rows there.0 r lt (sym there.2)));
+      its_span = ap (λ (s : Slot). record { min = r.label.min; until = s.until }) (sym (map_read (λ (t : Row). t.slot) rows there.0 r no_slot lt (sym there.2)));
     }
 
 pub standing_row : (rows : List Row) (id : List ℕ) (one : Ranged) → IsStanding (labels_in rows) (slots_in rows) id one → (r : Row) × Contains rows r × (r.label.order.id ≡ id) × (one ≡ ranged r)
@@ -61,7 +61,7 @@ standing_row rows id one stands =
       (at, lt, sym s.1),
       ap (λ (a : Label). a.order.id) label ∙ stands.its_id,
       ranged_same one (ranged r) (sym label)
-          (stands.its_span ∙ ap (λ (a : Label). record { min = a.min; until = (get_or (slots_in rows) at no_slot).until }) (sym label) ∙ ap (λ (t : Slot). record { min = r.label.min; until = t.until }) (slot_read rows at r lt s.1)),
+          (stands.its_span ∙ ap (λ (a : Label). record { min = a.min; until = (get_or (slots_in rows) at no_slot).until }) (sym label) ∙ ap (λ (t : Slot). record { min = r.label.min; until = t.until }) (map_read (λ (t : Row). t.slot) rows at r no_slot lt s.1)),
     )
 
 pub no_row : (rows : List Row) (id : List ℕ) → IsAbsent (labels_in rows) id → (r : Row) → Contains rows r → r.label.order.id ≢ id
@@ -158,12 +158,12 @@ module _ (rows after left : List Row) (moved : List Moved) (id : List ℕ) (edit
     where
       go : (b : Bool) → pointwise nat_eq c.id id ≡ b → IsStayChange left moved c ⊎ ((c ≡ edited_change id was is) × (was ≢ is))
       go true e =
-          let same : c.id ≡ id = (ids_decide c.id id).0 e in
+          let same : c.id ≡ id = (bytes_eq-Decides c.id id).0 e in
           let a : h.was ≡ was = state_once rows c.id h.was was edit.up_before h.state_before (subst (λ (i : List ℕ). IsStateOf (labels_in rows) (slots_in rows) i was) (sym same) state_before) in
           let b : h.is ≡ is = state_once after c.id h.is is edit.up_after h.state_after (subst (λ (i : List ℕ). IsStateOf (labels_in after) (slots_in after) i is) (sym same) state_after) in
           inr (change_same c (edited_change id was is) same (h.span_before ∙ ap (option_map (λ (x : Ranged). x.span)) a) (h.span_after ∙ ap (option_map (λ (x : Ranged). x.span)) b), λ f. h.differ (a ∙ f ∙ sym b))
       go false e =
-          inl (other c (λ same. let t = (ids_decide c.id id).1 same in let f : true ≡ false = sym t ∙ e in cc) h.was h.is h.state_before h.state_after h.differ h.span_before h.span_after)
+          inl (other c (λ same. let t = (bytes_eq-Decides c.id id).1 same in let f : true ≡ false = sym t ∙ e in cc) h.was h.is h.state_before h.state_after h.differ h.span_before h.span_after)
 
   pub are_changes : (changes : List Change) → IsStrictlySortedBy (slice_cmp nat_cmp) (map (λ change. change.id) changes) →
       ((c : Change) → Contains changes c ↔ (IsStayChange left moved c ⊎ ((c ≡ edited_change id was is) × (was ≢ is)))) → AreChanges (labels_in rows) (slots_in rows) (labels_in after) (slots_in after) changes

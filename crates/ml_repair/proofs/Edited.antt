@@ -10,7 +10,6 @@ use Rattle.ml_cone.specs.declared.label.Label.{Label}
 use Rattle.ml_cone.specs.declared.slot.Slot.{Slot}
 use Rattle.ml_store.specs.Rows.{numbers_in, labels_in, slots_in, number_at}
 use Rattle.ml_store.specs.declared.row.Row.{Row}
-use Rattle.ml_store.proofs.Lists.{map_insert, map_remove}
 use Rattle.ml_repair.specs.Plan.{moved_row, moved_rows, slot_for}
 use Rattle.ml_repair.specs.Repair.{AreOwn, Stands, present_slots}
 use Rattle.ml_repair.specs.Size.{IsSize}
@@ -20,6 +19,7 @@ use Rattle.ml_repair.proofs.Carrying.{CarriedLaw}
 use Rattle.ml_repair.proofs.Joined.{IsPlaceOf, without_insert, without_remove, all_shorter, all_longer, own_all_there, all_own_there, longest_same, left_out_ends}
 use Rattle.ml_repair.proofs.Present.{length-labels, length-present}
 use Rattle.ml_repair.proofs.Repairing.{own_before}
+use Rattle.ml_ratio.proofs.lemmas.Lists.{map_insert, map_remove}
 
 abbrev pub OwnLaw : Type 0
 OwnLaw = (number : ℕ → ℕ) (labels : List Label) (slots : List Slot) → HaveOwnSlots number labels slots ↔ AreSlots number labels slots

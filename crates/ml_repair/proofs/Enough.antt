@@ -8,7 +8,7 @@ use Rattle.std.proofs.lemmas.List.Kept.{AllPairs-from_increasing}
 use Rattle.ml_ratio.specs.Fraction.{Fraction, value_of, IsLess, IsAtMost}
 use Rattle.ml_ratio.specs.Band.{MeetsBand}
 use Rattle.ml_ratio.specs.declared.ratio.Ratio.{Ratio}
-use Rattle.ml_ratio.proofs.Fractions.{at_most_trans, less_trans, middle, middle_above, middle_below}
+use Rattle.ml_ratio.proofs.lemmas.Fractions.{at_most_trans, less_trans, middle, middle_above, middle_below}
 use Rattle.ml_cone.specs.Choice.{Choice, IsEnd, Allows, IsLimit, CoversFrom, Blocks}
 use Rattle.ml_cone.specs.Rivals.{AreRivals}
 use Rattle.ml_cone.specs.Overlap.{Overlap, BoxesOverlap}

@@ -1,25 +1,32 @@
 -- Places that are gathered band by band.
-use Rattle.std.proofs.Common.{◌≡◌, ℕ, zero, suc, ◌+◌, ◌^◌, ◌<◌, ◌≤◌, Bool, true, List, [], ◌∷◌, length, get_or, take, ◌++◌, Contains, ◌⊎◌, inl, inr, refl, sym, ap, subst, arith}
+use Rattle.std.proofs.Common.{◌≡◌, ℕ, zero, suc, ◌+◌, ◌^◌, ◌<◌, ◌≤◌, Bool, true, List, [], ◌∷◌, length, get_or, take, map, ◌++◌, Contains, ◌⊎◌, inl, inr, refl, sym, ap, ◌∙◌, subst, arith}
 use Rattle.std.specs.Prelude.{◌↔◌, All}
 use Rattle.std.proofs.Math.Nat.{pow-le-pow_right}
 use Rattle.std.proofs.lemmas.Bool.{cases_lt}
 use Rattle.std.proofs.lemmas.Nat.{mul-le}
-use Rattle.std.proofs.lemmas.List.{take_more, get_or_default}
+use Rattle.std.proofs.lemmas.List.{take_more, get_or_default, map-append, length-map}
 use Rattle.std.proofs.lemmas.List.Elements.{Contains-append_left, Contains-push, Contains-push_cases}
 use Rattle.ml_ratio.specs.Fraction.{Fraction, value_of, IsAtMost}
 use Rattle.ml_ratio.specs.Band.{IsInBand, MeetsBand}
 use Rattle.ml_ratio.specs.declared.ratio.Ratio.{Ratio}
-use Rattle.ml_ratio.proofs.Fractions.{at_most_less, at_most_trans}
+use Rattle.ml_ratio.proofs.lemmas.Fractions.{at_most_less, at_most_trans}
 use Rattle.ml_cone.specs.Choice.{IsLimit}
 use Rattle.ml_cone.specs.Slots.{ends}
 use Rattle.ml_cone.specs.declared.label.Label.{Label}
 use Rattle.ml_cone.specs.declared.slot.Slot.{Slot}
 use Rattle.ml_conflict.specs.Begin.{SetsNoneUpTo}
-use Rattle.ml_store.specs.Rows.{labels_in, slots_in}
+use Rattle.ml_ratio.proofs.lemmas.Lists.{map_read}
+use Rattle.ml_cone.specs.Slots.{no_slot}
+use Rattle.ml_store.specs.Rows.{number_at, labels_in, slots_in}
 use Rattle.ml_store.specs.declared.row.Row.{Row}
 use Rattle.ml_repair.specs.declared.edit.Moved.{Moved}
-use Rattle.ml_repair.specs.Roster.{OverlapsAt, NoneBefore}
-use Rattle.ml_repair.specs.Repair.{Stands, IsBoundBy, ReachesBand, AreReaching, IsClear, Counts, AreEnough, AreSifted, present_slots}
+use Rattle.ml_repair.specs.Moves.{numbers_of}
+use Rattle.ml_repair.specs.Roster.{OverlapsAt, NoneBefore, PlacesCame}
+use Rattle.ml_repair.proofs.Enough.{contained_or_not}
+use Rattle.ml_repair.proofs.Moving.{slot_kept}
+use Rattle.ml_repair.proofs.NearRosters.{row_there}
+use Rattle.ml_repair.proofs.Present.{present_read}
+use Rattle.ml_repair.specs.Repair.{Stands, IsBoundBy, IsUnmoved, ReachesBand, AreReaching, IsClear, Counts, AreEnough, AreSifted, present_slots}
 
 -- ---- bands
 
@@ -56,11 +63,6 @@ bound_more rows moved low few many bound all h = elim h [ inl most ↦ inl most 
 
 -- ---- the scale that is searched from
 
--- where no label has a new slot, each has its own
-pub present_unmoved : (rows : List Row) → present_slots rows [] ≡ slots_in rows
-present_unmoved [] = refl
-present_unmoved (r ∷ rows) = ap (λ (slots : List Slot). r.slot ∷ slots) (present_unmoved rows)
-
 -- a range that reaches into a band lasts until the scale at which the band starts
 pub reaching_lasts : (k : ℕ) (scale : Ratio) (u : Fraction) → (k ≡ 0 → scale.num ≡ 0) → (0 < k → scale.num ≡ 2 ^ k) → scale.den ≡ 1 → ReachesBand k u → IsAtMost (value_of scale) u
 reaching_lasts k scale u first num den reaches =
@@ -77,13 +79,30 @@ reaches_before k n u le reaches some =
     let h = reaches (omega arith) in
     omega arith
 
+-- a label without a new slot has its own
+own_slot : (rows : List Row) (moved : List Moved) (p : ℕ) → p < length rows → IsUnmoved rows moved p → get_or (present_slots rows moved) p no_slot ≡ get_or (slots_in rows) p no_slot
+own_slot rows moved p lt unmoved =
+    let s = row_there rows p lt in
+    let r : Row = s.0 in
+    let many = length-map moved (λ (m : Moved). m.number) in
+    let named : (k : ℕ) → k < length moved → k < length (numbers_of moved) = λ k k_in. omega arith in
+    present_read rows moved p r lt s.1
+    ∙ slot_kept r.number r.slot moved (λ k k_in e. unmoved (k, named k k_in, get_or_default (numbers_of moved) k (number_at rows p) 0 (named k k_in) ∙ e ∙ sym (map_read (λ (t : Row). t.number) rows p r 0 lt s.1)))
+    ∙ sym (map_read (λ (t : Row). t.slot) rows p r no_slot lt s.1)
+
+-- so one that reaches into a band has an own slot that lasts until it
+pub lasts_until : (rows : List Row) (moved : List Moved) (k p : ℕ) (scale : Ratio) → (k ≡ 0 → scale.num ≡ 0) → (0 < k → scale.num ≡ 2 ^ k) → scale.den ≡ 1 → p < length rows → IsUnmoved rows moved p →
+    ReachesBand k (ends (present_slots rows moved) p) → IsAtMost (value_of scale) (ends (slots_in rows) p)
+lasts_until rows moved k p scale first num den lt unmoved reaches =
+    reaching_lasts k scale (ends (slots_in rows) p) first num den (subst (λ (s : Slot). ReachesBand k (value_of s.until)) (own_slot rows moved p lt unmoved) reaches)
+
 -- where no label's own slot lasts so long, none reaches into one of the bands
 pub clear_bands : (rows : List Row) (moved : List Moved) (low : Label) (i k m : ℕ) (scale : Ratio) → (m ≡ k + 3) ⊎ (27 ≤ m) → NoneBefore rows low i k m scale →
-    ((p : ℕ) → ReachesBand k (ends (present_slots rows moved) p) → IsAtMost (value_of scale) (ends (slots_in rows) p)) → IsClear rows moved low i k (k + 3)
-clear_bands rows moved low i k m scale wide none lasts p n before from upto over reaches =
+    (k ≡ 0 → scale.num ≡ 0) → (0 < k → scale.num ≡ 2 ^ k) → scale.den ≡ 1 → IsClear rows moved low i k (k + 3)
+clear_bands rows moved low i k m scale wide none first num den p n before from upto over unmoved reaches =
     let few : n < 28 = (over.1 low).low in
     let last : n ≤ m = elim wide [ inl e ↦ omega arith | inr h ↦ omega arith ] in
-    none p n before from last over (lasts p (reaches_before k n (ends (present_slots rows moved) p) from reaches))
+    none p n before from last over (lasts_until rows moved k p scale first num den over.0 unmoved (reaches_before k n (ends (present_slots rows moved) p) from reaches))
 
 -- ---- places that are sifted
 
@@ -174,13 +193,17 @@ pub record GatheredBelow (rows : List Row) (moved : List Moved) (low : Label) (a
   pub stand : (p : ℕ) → Contains places p → Stands comes true at i p
   pub bound_is : IsBoundBy rows moved low places bound
   pub whole : (p k : ℕ) → Stands comes true at i p → OverlapsAt rows low k p → ReachesBand k (ends (present_slots rows moved) p) → first ≤ k → k < band → Counts rows moved low bound places p
+  pub new_ones : (p : ℕ) → Stands comes true at i p → p < length rows → Contains (numbers_of moved) (number_at rows p) → Counts rows moved low bound places p
 
 module _ (rows : List Row) (moved : List Moved) (low : Label) (at : ℕ) (comes : Bool) (i first : ℕ) where
-  pub gathered_none : GatheredBelow rows moved low at comes i first first low.max []
-  gathered_none = record {
-    stand = λ p h. absurd (let lt : h.0 < 0 = h.1 in omega arith);
-    bound_is = inl refl;
+  -- the labels with new slots
+  pub gathered_new : (found more : List ℕ) (next : Ratio) → ((p : ℕ) → p < length rows → Contains (numbers_of moved) (number_at rows p) → Contains found p) → AreSifted rows moved low at comes i found low.max next [] more →
+      GatheredBelow rows moved low at comes i first first next more
+  gathered_new found more next all are = record {
+    stand = λ p h. elim (are.sound p h) [ inl old ↦ absurd (let lt : old.0 < 0 = old.1 in omega arith) | inr new ↦ new ];
+    bound_is = are.bound_is (inl refl);
     whole = λ p k s f r a b. absurd (omega arith);
+    new_ones = λ p s lt m. are.whole p (all p lt m) s;
   }
 
   pub gathered_more : (band : ℕ) (bound next : Ratio) (places more found : List ℕ) → GatheredBelow rows moved low at comes i first band bound places → AreReaching rows moved low band found →
@@ -192,8 +215,12 @@ module _ (rows : List Row) (moved : List Moved) (low : Label) (at : ℕ) (comes 
       | inl less ↦ counts_more rows moved low bound next places more are.kept are.upto p (so_far.whole p k s f r a less)
       | inr here ↦
           let e : k ≡ band = omega arith in
-          are.whole p (all.whole p (subst (λ (b : ℕ). OverlapsAt rows low b p) e f) (subst (λ (b : ℕ). ReachesBand b (ends (present_slots rows moved) p)) e r)) s
+          elim (contained_or_not (numbers_of moved) (number_at rows p)) [
+            | inl m ↦ counts_more rows moved low bound next places more are.kept are.upto p (so_far.new_ones p s f.0 m)
+            | inr unmoved ↦ are.whole p (all.whole p (subst (λ (b : ℕ). OverlapsAt rows low b p) e f) unmoved (subst (λ (b : ℕ). ReachesBand b (ends (present_slots rows moved) p)) e r)) s
+          ]
     ];
+    new_ones = λ p s lt m. counts_more rows moved low bound next places more are.kept are.upto p (so_far.new_ones p s lt m);
   }
 
   -- bands in which there is nothing to gather
@@ -203,8 +230,12 @@ module _ (rows : List Row) (moved : List Moved) (low : Label) (at : ℕ) (comes 
     bound_is = so_far.bound_is;
     whole = λ p k s f r a b. elim (cases_lt k band) [
       | inl less ↦ so_far.whole p k s f r a less
-      | inr here ↦ absurd (clear p k s.0 here (omega arith) f r)
+      | inr here ↦ elim (contained_or_not (numbers_of moved) (number_at rows p)) [
+        | inl m ↦ so_far.new_ones p s f.0 m
+        | inr unmoved ↦ absurd (clear p k s.0 here (omega arith) f unmoved r)
+      ]
     ];
+    new_ones = so_far.new_ones;
   }
 
   pub gathered_enough : (band b : ℕ) (bound : Ratio) (places sorted : List ℕ) → GatheredBelow rows moved low at comes i first band bound places → IsInBand (value_of low.min) first → IsInBand (value_of bound) b → (b < band) ⊎ (28 ≤ band) →
@@ -228,3 +259,20 @@ all_within rows at comes i places in' stand k d lt =
     let s = stand p (k, lt, get_or_default places k p d lt) in
     let h : p < i = s.0 in
     omega arith
+
+-- ---- the labels with new slots
+
+pub numbers_more : (moved : List Moved) (k : ℕ) (m : Moved) (numbers after : List ℕ) → k < length moved → numbers ≡ map (λ m. m.number) (take k moved) → after ≡ numbers ++ (get_or moved k m).number ∷ [] → after ≡ map (λ m. m.number) (take (k + 1) moved)
+numbers_more moved k m numbers after lt so_far pushed =
+    pushed ∙ ap (λ (xs : List ℕ). xs ++ (get_or moved k m).number ∷ []) so_far ∙ sym (ap (map (λ (m : Moved). m.number)) (take_more moved k m lt) ∙ map-append (λ (m : Moved). m.number) (take k moved) (get_or moved k m ∷ []))
+
+pub places_within : (rows : List Row) (numbers places : List ℕ) → PlacesCame rows numbers [] places → All (λ p. p < length rows) places
+places_within rows numbers places came k d lt =
+    let p : ℕ = get_or places k d in
+    elim ((came p).0 (k, lt, get_or_default places k p d lt)) [
+      | inl old ↦ absurd (let h : old.0 < 0 = old.1 in omega arith)
+      | inr new ↦ new.2.0
+    ]
+
+pub places_whole : (rows : List Row) (moved : List Moved) (numbers places : List ℕ) → PlacesCame rows numbers [] places → numbers ≡ numbers_of moved → (p : ℕ) → p < length rows → Contains (numbers_of moved) (number_at rows p) → Contains places p
+places_whole rows moved numbers places came is p lt there = (came p).1 (inr (number_at rows p, subst (λ (ns : List ℕ). Contains ns (number_at rows p)) (sym is) there, (lt, refl)))

@@ -6,10 +6,10 @@ use Rattle.std.proofs.lemmas.List.Quantifiers.{all_pairs_push}
 use Rattle.ml_watch.specs.declared.change.Change.{Change}
 use Rattle.ml_store.specs.Rows.{labels_in, HasId}
 use Rattle.ml_store.specs.declared.row.Row.{Row}
-use Rattle.ml_store.proofs.Lists.{contains_map}
 use Rattle.ml_repair.specs.Stays.{IsStayChange, IsJoinedBy}
 use Rattle.ml_watch.specs.ById.{HaveOwnIds}
 use Rattle.ml_repair.specs.declared.edit.Moved.{Moved}
+use Rattle.ml_ratio.proofs.lemmas.Lists.{contains_map}
 
 module _ (rows : List Row) (moved : List Moved) where
   pub joined_same : (edited : Option Change) (before after : List Change) → ((c : Change) → Contains before c ↔ IsStayChange rows moved c) → IsJoinedBy edited before after → (c : Change) → Contains after c ↔ (IsStayChange rows moved c ⊎ (edited ≡ Some c))

@@ -1,30 +1,32 @@
-pub mod Answered
-pub mod Pigeons
-pub mod Sizes
-pub mod Moving
-pub mod Rosters
-pub mod NearRosters
-pub mod Present
-pub mod Gathering
-pub mod Carrying
-pub mod Enough
-pub mod Unhit
-pub mod Repairing
-pub mod Waking
-pub mod RepairSteps
-pub mod Joined
-pub mod Edited
-pub mod Placing
-pub mod OneRow
-pub mod Noting
-pub mod Sorting
-pub mod Changing
-pub mod Joining
-pub mod Shapes
-pub mod Plans
-pub mod Carries
-pub mod Reading
-pub mod Seeing
-pub mod Building
-pub mod Deciding
-pub mod UnchangedRows
+mod Answered
+mod Pigeons
+mod Sizes
+mod KeptBlockers
+mod Moving
+mod Rosters
+mod NearRosters
+mod Present
+mod Gathering
+mod Carrying
+mod Enough
+mod Unhit
+mod Repairing
+mod Waking
+mod RepairSteps
+mod Joined
+mod Edited
+mod Placing
+mod OneEdit
+mod OneRow
+mod Noting
+mod Sorting
+mod Changing
+mod Joining
+mod Shapes
+mod Plans
+mod Carries
+mod Reading
+mod Seeing
+mod Building
+mod Deciding
+mod UnchangedRows

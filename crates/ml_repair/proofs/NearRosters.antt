@@ -1,11 +1,11 @@
 -- What a search finds in a list of which one row may go, and into which one may come.
 use Rattle.std.proofs.Common.{◌≡◌, ◌≢◌, ℕ, zero, suc, ◌+◌, ◌-◌, ◌<◌, ◌≤◌, List, [], ◌∷◌, length, get_or, take, Contains, ◌⊎◌, inl, inr, refl, sym, ap, ◌∙◌, subst, arith, Option, Some, None}
-use Rattle.std.specs.Prelude.{insert, All, IfSome, IsSome}
+use Rattle.std.specs.Prelude.{insert, All, IfSome, IsSome, remove}
 use denote.Ref.{Bor}
 use Rattle.std.proofs.lemmas.Bool.{cases_lt, cases_eq, false≢true}
 use Rattle.std.proofs.lemmas.List.{get_or_default, get_or-map, length-map, take_more, take_all}
 use Rattle.std.proofs.lemmas.List.Edits.{length-insert, get_or-insert_below}
-use Rattle.std.proofs.lemmas.List.Elements.{Contains-append_left, Contains-push, Contains-push_cases}
+use Rattle.std.proofs.lemmas.List.Elements.{Contains-append_left, Contains-push, Contains-push_cases, All-cons, All-tail}
 use Rattle.ml_ratio.specs.Fraction.{value_of, IsAtMost}
 use Rattle.ml_ratio.specs.declared.ratio.Ratio.{Ratio}
 use Rattle.ml_cone.specs.Slots.{no_slot}
@@ -16,11 +16,11 @@ use Rattle.ml_store.specs.Rows.{numbers_in, labels_in, slots_in, IsFresh, HaveOw
 use Rattle.ml_store.specs.Search.{IsFoundIn, IsNumberWith, Gathers, AreOverlapping, NoneOverlaps}
 use Rattle.ml_store.specs.Table.{IsRowAt}
 use Rattle.ml_store.specs.declared.row.Row.{Row}
-use Rattle.ml_store.proofs.Fresh.{differ_inserted, differ_removed}
-use Rattle.ml_store.proofs.Lists.{added_remove, added_insert, added_has, all_longer, all_shorter, map_insert, map_remove}
-use Rattle.ml_store.proofs.Naming.{number_read}
 use Rattle.ml_repair.specs.Roster.{left_rows, joined_rows, AreNumbered, AreFound, AreOverlapped, NoneBefore, PlacesCame}
 use Rattle.ml_repair.proofs.Rosters.{joined_above, left_most}
+use Rattle.ml_ratio.proofs.lemmas.Lists.{map_insert, map_remove, map_read, different_insert, remove_has}
+use Rattle.std.proofs.lemmas.List.Quantifiers.{all_pairs_remove}
+use Rattle.std.proofs.lemmas.List.Sorted.{All-permutation, IsPermutation-insert, IsPermutation-remove}
 
 pub row_there : (rows : List Row) (j : ℕ) → j < length rows → (r : Row) × (r ≡ get_or rows j r)
 row_there [] j lt = absurd (omega arith)
@@ -31,7 +31,7 @@ pub left_contains : (gone : Option ℕ) (rows : List Row) (r : Row) → IfSome g
 left_contains None rows r in' there = there
 left_contains (Some g) rows r in' there =
     let s = row_there rows g in' in
-    added_has (added_remove rows g s.0 in' s.1) r there
+    remove_has rows g s.0 r in' s.1 there
 
 -- a row of the list is the one that is to come, or one of those that were there
 pub row_from : (come : Option (Bor Row)) (at : ℕ) (gone : Option ℕ) (rows : List Row) (p : ℕ) → IfSome gone (λ g. g < length rows) → IfSome come (λ row. at ≤ length (left_rows gone rows)) → p < length (joined_rows come at (left_rows gone rows)) →
@@ -88,7 +88,7 @@ module _ (come : Option (Bor Row)) (at : ℕ) (gone : Option ℕ) (rows : List R
         | inr some ↦
             let r : Row = some.0 in
             let number = found r some.1 (has r some.2) in
-            (last p).1 (inl ((came p).1 (inr (r.number, number, (lt, number_read (joined_rows come at (left_rows gone rows)) p r lt some.2)))))
+            (last p).1 (inl ((came p).1 (inr (r.number, number, (lt, map_read (λ (t : Row). t.number) (joined_rows come at (left_rows gone rows)) p r 0 lt some.2)))))
       ]
 
 pub near_found : (come : Option (Bor Row)) (at : ℕ) (gone : Option ℕ) (rows : List Row) (a : Label) (k : ℕ) (numbers before middle after : List ℕ) →
@@ -168,14 +168,16 @@ places_all rows numbers before places k le so_far = rw (take_all k numbers le) a
 
 left_differ : (gone : Option ℕ) (rows : List Row) → IfSome gone (λ g. g < length rows) → HaveOwnNumbers rows → HaveOwnNumbers (left_rows gone rows)
 left_differ None rows in' differ = differ
-left_differ (Some g) rows in' differ = differ_removed rows g differ in'
+left_differ (Some g) rows in' differ =
+    let many = length-map rows (λ (r : Row). r.number) in
+    rw (map_remove (λ (r : Row). r.number) rows g) (all_pairs_remove (λ (a : ℕ) (b : ℕ). a ≢ b) (numbers_in rows) g (omega arith) differ)
 
 left_low : (gone : Option ℕ) (rows : List Row) → IfSome gone (λ g. g < length rows) → All (λ n. n < 32768) (numbers_in rows) → All (λ n. n < 32768) (numbers_in (left_rows gone rows))
 left_low None rows in' all = all
 left_low (Some g) rows in' all =
     let many = length-map rows (λ (r : Row). r.number) in
     let n : ℕ = get_or (numbers_in rows) g 0 in
-    rw (map_remove (λ (r : Row). r.number) rows g) (all_shorter (λ n. n < 32768) (added_remove (numbers_in rows) g n (omega arith) (get_or_default (numbers_in rows) g 0 n (omega arith))) all)
+    rw (map_remove (λ (r : Row). r.number) rows g) (All-tail (λ n. n < 32768) n (remove (numbers_in rows) g) (All-permutation (λ n. n < 32768) (numbers_in rows) (n ∷ remove (numbers_in rows) g) (IsPermutation-remove (numbers_in rows) g n (omega arith) (get_or_default (numbers_in rows) g 0 n (omega arith))) all))
 
 pub numbered_left : (gone : Option ℕ) (rows : List Row) → IfSome gone (λ g. g < length rows) → length rows ≤ 32768 → HaveOwnNumbers rows → All (λ n. n < 32768) (numbers_in rows) → AreNumbered (left_rows gone rows)
 numbered_left gone rows in' few differ all = record {
@@ -188,6 +190,8 @@ pub numbered_with : (gone : Option ℕ) (rows : List Row) (row : Row) (at : ℕ)
     HaveOwnNumbers rows → All (λ n. n < 32768) (numbers_in rows) → AreNumbered (insert (left_rows gone rows) at row)
 numbered_with gone rows row at in' le few fresh low differ all = record {
   few = (let n = length-insert (left_rows gone rows) at row le in omega arith);
-  differ = differ_inserted (left_rows gone rows) at row (left_differ gone rows in' differ) le fresh;
-  low = rw (map_insert (λ (r : Row). r.number) (left_rows gone rows) at row) (all_longer (λ n. n < 32768) (added_insert (numbers_in (left_rows gone rows)) at row.number) low (left_low gone rows in' all));
+  differ =
+      let many = length-map (left_rows gone rows) (λ (r : Row). r.number) in
+      rw (map_insert (λ (r : Row). r.number) (left_rows gone rows) at row) (different_insert (numbers_in (left_rows gone rows)) at row.number (omega arith) fresh (left_differ gone rows in' differ));
+  low = rw (map_insert (λ (r : Row). r.number) (left_rows gone rows) at row) (All-permutation (λ n. n < 32768) (row.number ∷ numbers_in (left_rows gone rows)) (insert (numbers_in (left_rows gone rows)) at row.number) (IsPermutation-insert (numbers_in (left_rows gone rows)) at row.number) (All-cons (λ n. n < 32768) row.number (numbers_in (left_rows gone rows)) low (left_low gone rows in' all)));
 }

@@ -15,7 +15,6 @@ use Rattle.ml_cone.specs.declared.slot.Slot.{Slot}
 use Rattle.ml_watch.specs.declared.change.Change.{Change}
 use Rattle.ml_store.specs.Rows.{numbers_in, labels_in, HaveOwnNumbers, IsFresh, AreDifferent}
 use Rattle.ml_store.specs.declared.row.Row.{Row}
-use Rattle.ml_store.proofs.Lists.{contains_map}
 use Rattle.ml_repair.specs.Moves.{numbers_of}
 use Rattle.ml_repair.specs.Plan.{slot_for}
 use Rattle.ml_repair.specs.Stays.{IsStayChange, IsPushedFor, stay_change}
@@ -25,6 +24,7 @@ use Rattle.ml_repair.proofs.Moving.{slot_new, slot_kept}
 use Rattle.std.specs.Prelude.{◌↔◌}
 use Rattle.ml_repair.proofs.Enough.{contained_or_not}
 use Rattle.ml_repair.proofs.OneRow.{one_number, one_id}
+use Rattle.ml_ratio.proofs.lemmas.Lists.{contains_map}
 
 -- equal values are one ratio
 pub same_ratio : (a b : Ratio) → IsSame (value_of a) (value_of b) → a ≡ b

@@ -5,9 +5,8 @@ use Rattle.std.proofs.lemmas.List.{get_or_default, length-map}
 use Rattle.ml_cone.specs.Label.{IsLabelList}
 use Rattle.ml_store.specs.Rows.{numbers_in, labels_in, HaveOwnNumbers}
 use Rattle.ml_store.specs.declared.row.Row.{Row}
-use Rattle.ml_store.proofs.Different.{same_place}
-use Rattle.ml_store.proofs.Naming.{number_read}
 use Rattle.ml_repair.proofs.Placing.{only_id}
+use Rattle.ml_ratio.proofs.lemmas.Lists.{same_place, map_read}
 
 module _ (rows : List Row) (r s : Row) (in_r : Contains rows r) (in_s : Contains rows s) where
   same_at : in_r.0 ≡ in_s.0 → r ≡ s
@@ -20,7 +19,7 @@ module _ (rows : List Row) (r s : Row) (in_r : Contains rows r) (in_s : Contains
       let many = length-map rows (λ (t : Row). t.number) in
       let a : in_r.0 < length rows = in_r.1 in
       let b : in_s.0 < length rows = in_s.1 in
-      same_at (same_place (numbers_in rows) in_r.0 in_s.0 differ (omega arith) (omega arith) (number_read rows in_r.0 r in_r.1 (sym in_r.2) ∙ e ∙ sym (number_read rows in_s.0 s in_s.1 (sym in_s.2))))
+      same_at (same_place (numbers_in rows) in_r.0 in_s.0 0 differ (omega arith) (omega arith) (map_read (λ (t : Row). t.number) rows in_r.0 r 0 in_r.1 (sym in_r.2) ∙ e ∙ sym (map_read (λ (t : Row). t.number) rows in_s.0 s 0 in_s.1 (sym in_s.2))))
 
   pub one_id : IsLabelList (labels_in rows) → r.label.order.id ≡ s.label.order.id → r ≡ s
   one_id up e =

@@ -5,7 +5,7 @@ use Rattle.std.proofs.lemmas.Bool.{cases_lt}
 use Rattle.std.proofs.lemmas.List.Edits.{length-remove}
 use Rattle.std.proofs.lemmas.List.Elements.{Contains-append_left, Contains-push}
 use Rattle.ml_store.specs.Rows.{AreDifferent}
-use Rattle.ml_store.proofs.Lists.{added_remove, added_only}
+use Rattle.ml_ratio.proofs.lemmas.Lists.{remove_only}
 
 different_tail : (x : ℕ) (xs : List ℕ) → AreDifferent (x ∷ xs) → AreDifferent xs
 different_tail x xs differ i j d less lt = differ (suc i) (suc j) d (omega arith) (omega arith)
@@ -18,9 +18,8 @@ no_more [] ys differ all = omega arith
 no_more (x ∷ xs) ys differ all =
     let at = all x (0, omega arith, refl) in
     let lt : at.0 < length ys = at.1 in
-    let cut = added_remove ys at.0 x lt (sym at.2) in
     let n = length-remove ys at.0 lt in
-    let rest = no_more xs (remove ys at.0) (different_tail x xs differ) (λ y there. elim (added_only cut y (all y (suc there.0, (let h : there.0 < length xs = there.1 in omega arith), there.2))) [
+    let rest = no_more xs (remove ys at.0) (different_tail x xs differ) (λ y there. elim (remove_only ys at.0 x y lt (sym at.2) (all y (suc there.0, (let h : there.0 < length xs = there.1 in omega arith), there.2))) [
       | inl same ↦ absurd (head_apart x y xs differ there same)
       | inr left ↦ left
     ]) in

@@ -1,5 +1,5 @@
 -- Labels in priority order, as one goes or comes in its place.
-use Rattle.std.proofs.Common.{◌≡◌, ◌≢◌, ℕ, zero, suc, ◌+◌, ◌<◌, ◌≤◌, List, [], ◌∷◌, length, get_or, inl, inr, refl, sym, ap, ◌∙◌, arith, Bool, true, false}
+use Rattle.std.proofs.Common.{◌≡◌, ◌≢◌, ℕ, zero, suc, ◌+◌, ◌<◌, ◌≤◌, List, [], ◌∷◌, length, get_or, inl, inr, refl, sym, ap, ◌∙◌, arith, Bool, true, false, ◌-◌}
 use Rattle.std.specs.Prelude.{insert, remove, not, if◌then◌else◌, bytes_eq}
 use Rattle.std.specs.Ordering.{is_lt, is_eq, ordering_reverse}
 use Rattle.std.specs.declared.cmp.Ordering.{Ordering}
@@ -14,8 +14,6 @@ use Rattle.ml_cone.specs.declared.label.Label.{Label}
 use Rattle.ml_cone.specs.declared.order.Order.{Order}
 use Rattle.ml_store.specs.Rows.{labels_in, HasId}
 use Rattle.ml_store.specs.declared.row.Row.{Row}
-use Rattle.ml_store.proofs.ByName.{ids_decide}
-use Rattle.ml_store.proofs.Different.{above}
 use Rattle.ml_repair.specs.Placed.{IsPlaceFor}
 use Rattle.ml_repair.specs.Plan.{with_row, without_id}
 use Rattle.ml_repair.proofs.Present.{length-labels}
@@ -42,7 +40,7 @@ after_more labels order middle up lt here k d le in' less =
 
 -- two places in the order that tie have the same id
 pub same_id : (one other : Order) → order_cmp one other ≡ Equal → one.id ≡ other.id
-same_id one other tie = (ids_decide one.id other.id).0 (and_parts _ _ (order_ties one other ∙ ap is_eq tie)).1
+same_id one other tie = (bytes_eq-Decides one.id other.id).0 (and_parts _ _ (order_ties one other ∙ ap is_eq tie)).1
 
 turned : (one other : Ordering) → one ≡ ordering_reverse other → ¬ (one ≡ Less) → ¬ (one ≡ Equal) → other ≡ Less
 turned one Less e a b = refl
@@ -79,7 +77,7 @@ list_insert labels at a place new up j i d less in' =
             (place.before j d (omega arith), apart j d (omega arith))
         | inr beyond ↦
             let strict : at < i = (let no : i ≢ at = beyond in omega arith) in
-            let p = above i at strict in
+            let p : (m : ℕ) × (i ≡ m + 1) × (at ≤ m) = (i - 1, omega arith, omega arith) in
             let e : i ≡ p.0 + 1 = p.1 in
             let l : at ≤ p.0 = p.2 in
             let p_in : p.0 < length labels = omega arith in
@@ -92,7 +90,7 @@ list_insert labels at a place new up j i d less in' =
                     (order_after (get_or labels p.0 d).order a.order (place.after p.0 d p.2 p_in) (apart p.0 d p_in), λ f. apart p.0 d p_in (sym f))
                 | inr past ↦
                     let more : at < j = (let no : j ≢ at = past in omega arith) in
-                    let q = above j at more in
+                    let q : (m : ℕ) × (j ≡ m + 1) × (at ≤ m) = (j - 1, omega arith, omega arith) in
                     let f : j ≡ q.0 + 1 = q.1 in
                     rw (ap (λ k. get_or (insert labels at a) k d) q.1 ∙ get_or-insert_above labels at a d q.0 q.2 le, after) (up q.0 p.0 d (omega arith) p_in)
               ]

@@ -12,13 +12,12 @@ use Rattle.ml_cone.specs.declared.slot.Span.{Span}
 use Rattle.ml_watch.specs.declared.change.Change.{Change}
 use Rattle.ml_store.specs.Rows.{numbers_in, labels_in, slots_in, HasId, IsFresh}
 use Rattle.ml_store.specs.declared.row.Row.{Row}
-use Rattle.ml_store.proofs.Lists.{map_insert, map_remove, map_contains, contains_map, contained, added_insert}
 use Rattle.std.proofs.lemmas.List.Edits.{length-insert, get_or-insert_at}
 use Rattle.ml_repair.specs.Changes.{Ranged, IsStateOf, AreChanges}
 use Rattle.ml_repair.specs.Cost.{IsCost}
 use Rattle.ml_repair.specs.Edit.{IsEdited}
 use Rattle.ml_repair.specs.Placed.{IsPlaceFor}
-use Rattle.ml_repair.specs.Plan.{Planned, IsPlanOf, CanBeMade, planned_rows, kept_rows, rows_with, with_row, without_id, moved_row, moved_rows, slot_for}
+use Rattle.ml_repair.specs.Plan.{Planned, IsPlanFor, CanBeMade, KeepNumbers, edited_id, planned_rows, kept_rows, rows_with, with_row, without_id, moved_row, moved_rows, slot_for}
 use Rattle.ml_repair.specs.Repair.{AreSettled}
 use Rattle.ml_repair.specs.Roster.{AreNumbered}
 use Rattle.ml_repair.specs.Settled.{IsSettled}
@@ -33,9 +32,10 @@ use Rattle.ml_repair.proofs.Edited.{moved_none}
 use Rattle.ml_repair.proofs.NearRosters.{numbered_left, numbered_with}
 use Rattle.ml_repair.proofs.Present.{labels-moved, length-labels, low_number}
 use Rattle.std.proofs.lemmas.List.{length-map}
-use Rattle.ml_store.proofs.Different.{removed_gone}
-use Rattle.ml_store.proofs.Naming.{number_read}
+use Rattle.std.proofs.lemmas.List.Elements.{Contains-get_or}
+use Rattle.ml_repair.proofs.OneRow.{one_id}
 use Rattle.ml_repair.proofs.Shapes.{AreLeft, AreJoinedBy, label_of, edit_is, edited_is, settled_after, left_remove, left_all, left_no_id, without_remove_is, joined_none, joined_some, come_is, place_of_id, no_id, low_of_rows}
+use Rattle.ml_ratio.proofs.lemmas.Lists.{contains_map, map_contains, map_insert, map_remove, removed_gone, map_read, insert_there}
 
 planned_is : (plan : Planned) (rows : List Row) → planned_rows plan rows ≡ rows_with plan.edit (moved_rows plan.moved (kept_rows plan.edit rows))
 unfolding planned_rows
@@ -44,27 +44,47 @@ planned_is plan rows = refl
 module _ (rows left all : List Row) (moved : List Moved) (id : List ℕ) (come : Option Row) (are : AreLeft rows left id) (joined : AreJoinedBy left all id come) (edit : LabelEdit) (changes : List Change) (n : ℕ)
     (settled : IsSettled rows) (numbered_all : AreNumbered all) (up_all : IsLabelList (labels_in all)) (slots : AreSettled all moved)
     (made : rows_with edit (moved_rows moved (kept_rows edit rows)) ≡ moved_rows moved all) where
-  abbrev pub the_plan : Planned
-  the_plan = record { edit = edit; moved = moved; changes = changes; evaluated = n }
-
   pub planned : planned_rows (record { edit = edit; moved = moved; changes = changes; evaluated = n }) rows ≡ moved_rows moved all
   planned = planned_is (record { edit = edit; moved = moved; changes = changes; evaluated = n }) rows ∙ made
 
-  pub plan_of_state : CanBeMade edit rows → IsPlanOf (record { edit = edit; moved = moved; changes = changes; evaluated = n }) rows
-  plan_of_state possible = record { possible = possible; settled = subst IsSettled (sym planned) (settled_after all moved numbered_all up_all slots) }
+  keep_numbers : ((r s : Row) → come ≡ Some s → Contains rows r → r.label.order.id ≡ id → r.number ≡ s.number) → KeepNumbers rows (moved_rows moved all)
+  keep_numbers own r s there after same =
+      let t = map_contains (moved_row moved) all s after in
+      let its : r.label.order.id ≡ t.0.label.order.id = same ∙ sym (ap (λ (x : Row). x.label.order.id) t.2) in
+      let number : t.0.number ≡ s.number = ap (λ (x : Row). x.number) t.2 in
+      elim (joined.only t.0 t.1) [
+        | inl stays ↦ ap (λ (x : Row). x.number) (one_id rows r t.0 there (are.stayed t.0 stays).0 settled.in_order its) ∙ number
+        | inr comes ↦ own r t.0 comes there (its ∙ (joined.here t.0 comes).1) ∙ number
+      ]
 
-  pub plan_labels : IsEdited id (label_of come) (labels_in rows) (labels_in (planned_rows (record { edit = edit; moved = moved; changes = changes; evaluated = n }) rows))
-  plan_labels = subst (λ (rs : List Row). IsEdited id (label_of come) (labels_in rows) (labels_in rs)) (sym planned) (edited_is rows left all moved id come are joined)
-
-  pub plan_changes : (was is : Option Ranged) → IsStateOf (labels_in rows) (slots_in rows) id was → IsStateOf (labels_in (moved_rows moved all)) (slots_in (moved_rows moved all)) id is →
+  pub made_plan : (was is : Option Ranged) (own : List ℕ) (label : Option Label) (steps after : ℕ) → CanBeMade edit rows → edited_id edit ≡ id → ((r s : Row) → come ≡ Some s → Contains rows r → r.label.order.id ≡ id → r.number ≡ s.number) →
+      IsStateOf (labels_in rows) (slots_in rows) id was → IsStateOf (labels_in (moved_rows moved all)) (slots_in (moved_rows moved all)) id is →
       IsStrictlySortedBy (slice_cmp nat_cmp) (map (λ change. change.id) changes) → ((c : Change) → Contains changes c ↔ (IsStayChange left moved c ⊎ ((c ≡ edited_change id was is) × (was ≢ is)))) →
-      AreChanges (labels_in rows) (slots_in rows) (labels_in (planned_rows (record { edit = edit; moved = moved; changes = changes; evaluated = n }) rows)) (slots_in (planned_rows (record { edit = edit; moved = moved; changes = changes; evaluated = n }) rows)) changes
-  plan_changes was is before after sorted same =
+      IsCost (labels_in rows) (labels_in all) id n → id ≡ own → label_of come ≡ label → after ≡ steps + n → IsPlanFor (record { edit = edit; moved = moved; changes = changes; evaluated = n }) rows own label steps after
+  made_plan was is own label steps after possible its numbers state_before state_after sorted same cost is_own is_label spent =
+      let plan : Planned = record { edit = edit; moved = moved; changes = changes; evaluated = n } in
+      let new = planned_rows plan rows in
+      let changes_are : AreChanges (labels_in rows) (slots_in rows) (labels_in new) (slots_in new) changes =
       subst (λ (rs : List Row). AreChanges (labels_in rows) (slots_in rows) (labels_in rs) (slots_in rs) changes) (sym planned)
-      (are_changes rows (moved_rows moved all) left moved id (edit_is rows left all moved id come are joined settled.in_order up_all) was is before after changes sorted same)
-
-  pub plan_cost : IsCost (labels_in rows) (labels_in all) id n → IsCost (labels_in rows) (labels_in (planned_rows (record { edit = edit; moved = moved; changes = changes; evaluated = n }) rows)) id n
-  plan_cost cost = subst (λ (ls : List Label). IsCost (labels_in rows) ls id n) (sym (ap labels_in planned ∙ labels-moved all moved)) cost
+      (are_changes rows (moved_rows moved all) left moved id (edit_is rows left all moved id come are joined settled.in_order up_all) was is state_before state_after changes sorted same) in
+      let cost_is : IsCost (labels_in rows) (labels_in new) id n = subst (λ (ls : List Label). IsCost (labels_in rows) ls id n) (sym (ap labels_in planned ∙ labels-moved all moved)) cost in
+      let edited : IsEdited id (label_of come) (labels_in rows) (labels_in new) =
+      subst (λ (rs : List Row). IsEdited id (label_of come) (labels_in rows) (labels_in rs)) (sym planned) (edited_is rows left all moved id come are joined) in
+      let P : List ℕ → Option Label → Type 0 = λ i l. IsEdited i l (labels_in rows) (labels_in new) in
+      let Q : List ℕ → Type 0 = λ i. IsCost (labels_in rows) (labels_in new) i n in
+      record {
+        of_state = record {
+          possible = possible;
+          settled = subst IsSettled (sym planned) (settled_after all moved numbered_all up_all slots);
+          numbers = subst (KeepNumbers rows) (sym planned) (keep_numbers numbers);
+          changes = changes_are;
+          cost = subst Q (sym its) cost_is;
+        };
+        labels = subst (λ (i : List ℕ). P i label) is_own (subst (P id) is_label edited);
+        changes = changes_are;
+        cost = subst Q is_own cost_is;
+        spent = spent;
+      }
 
 -- ---- states of the edited label
 
@@ -88,7 +108,7 @@ state_come left at row moved kept =
     (subst (Contains (moved_rows moved (insert left at row))) (ap (λ (s : Slot). record row { slot = s }) (kept row.slot)) (moved_there left at row moved)) refl
   where
     moved_there : (left : List Row) (at : ℕ) (row : Row) (moved : List Moved) → Contains (moved_rows moved (insert left at row)) (moved_row moved row)
-    moved_there left at row moved = contains_map (moved_row moved) (insert left at row) row (contained (added_insert left at row))
+    moved_there left at row moved = contains_map (moved_row moved) (insert left at row) row (insert_there left at row)
 
 -- ---- the change of the edited label
 
@@ -169,25 +189,17 @@ module _ (rows : List Row) (at : ℕ) (row : Row) (boxed : Box Row Global) (move
   made_in : rows_with (Add boxed) (moved_rows moved (kept_rows (Add boxed) rows)) ≡ moved_rows moved (insert rows at row)
   made_in = ap (λ (r : Row). with_row r (moved_rows moved rows)) is_row ∙ come_is rows at row moved place kept
 
-  pub in_state : IsPlanOf (record { edit = Add boxed; moved = moved; changes = changes; evaluated = n }) rows
-  in_state = plan_of_state rows rows (insert rows at row) moved row.label.order.id (Some row) (left_all rows row.label.order.id new) (joined_some rows at row) (Add boxed) changes n settled numbered_in up_in slots made_in (rw is_row new)
-
-  pub in_labels : IsEdited row.label.order.id (Some row.label) (labels_in rows) (labels_in (planned_rows (record { edit = Add boxed; moved = moved; changes = changes; evaluated = n }) rows))
-  in_labels = plan_labels rows rows (insert rows at row) moved row.label.order.id (Some row) (left_all rows row.label.order.id new) (joined_some rows at row) (Add boxed) changes n settled numbered_in up_in slots made_in
-
-  pub in_changes : (edited : Change) → edited ≡ edited_change row.label.order.id None (Some (ranged row)) → IsStrictlySortedBy (slice_cmp nat_cmp) (map (λ change. change.id) changes) →
-      ((c : Change) → Contains changes c ↔ (IsStayChange rows moved c ⊎ (Some edited ≡ Some c))) →
-      AreChanges (labels_in rows) (slots_in rows) (labels_in (planned_rows (record { edit = Add boxed; moved = moved; changes = changes; evaluated = n }) rows)) (slots_in (planned_rows (record { edit = Add boxed; moved = moved; changes = changes; evaluated = n }) rows)) changes
-  in_changes edited is sorted same =
-      plan_changes rows rows (insert rows at row) moved row.label.order.id (Some row) (left_all rows row.label.order.id new) (joined_some rows at row) (Add boxed) changes n settled numbered_in up_in slots made_in
-      None (Some (ranged row)) (state_new rows row.label.order.id new) (state_come rows at row moved kept) sorted
+  pub in_plan : (edited : Change) (label : Label) (steps after : ℕ) → edited ≡ edited_change row.label.order.id None (Some (ranged row)) → IsStrictlySortedBy (slice_cmp nat_cmp) (map (λ change. change.id) changes) →
+      ((c : Change) → Contains changes c ↔ (IsStayChange rows moved c ⊎ (Some edited ≡ Some c))) → AreTouched (labels_in (insert rows at row)) at true n → row.label ≡ label → after ≡ steps + n →
+      IsPlanFor (record { edit = Add boxed; moved = moved; changes = changes; evaluated = n }) rows label.order.id (Some label) steps after
+  in_plan edited label steps after is sorted same touched is_label spent =
+      made_plan rows rows (insert rows at row) moved row.label.order.id (Some row) (left_all rows row.label.order.id new) (joined_some rows at row) (Add boxed) changes n settled numbered_in up_in slots made_in
+      None (Some (ranged row)) label.order.id (Some label) steps after (rw is_row new) (ap (λ (r : Row). r.label.order.id) is_row)
+      (λ r s e there id. absurd (new (r.label, contains_map (λ (t : Row). t.label) rows r there, id)))
+      (state_new rows row.label.order.id new) (state_come rows at row moved kept) sorted
       (both_same rows moved changes (Some edited) (λ c. (c ≡ edited_change row.label.order.id None (Some (ranged row))) × (None ≢ Some (ranged row))) same
       (some_edited edited row.label.order.id None (Some (ranged row)) is (λ e. cc)))
-
-  pub in_cost : AreTouched (labels_in (insert rows at row)) at true n → IsCost (labels_in rows) (labels_in (planned_rows (record { edit = Add boxed; moved = moved; changes = changes; evaluated = n }) rows)) row.label.order.id n
-  in_cost touched =
-      plan_cost rows rows (insert rows at row) moved row.label.order.id (Some row) (left_all rows row.label.order.id new) (joined_some rows at row) (Add boxed) changes n settled numbered_in up_in slots made_in
-      (cost_in rows at row n at_most new touched)
+      (cost_in rows at row n at_most new touched) (ap (λ (l : Label). l.order.id) is_label) (ap (λ (l : Label). Some l) is_label) spent
 
 -- ---- a label goes
 
@@ -205,25 +217,17 @@ module _ (rows : List Row) (at : ℕ) (id : List ℕ) (moved : List Moved) (chan
   are_out : AreLeft rows (remove rows at) id
   are_out = left_remove rows at id settled.in_order lt here
 
-  pub out_state : IsPlanOf (record { edit = Remove id; moved = moved; changes = changes; evaluated = n }) rows
-  out_state = plan_of_state rows (remove rows at) (remove rows at) moved id None are_out (joined_none (remove rows at) id) (Remove id) changes n settled numbered_out up_out slots made_out has
-
-  pub out_labels : IsEdited id None (labels_in rows) (labels_in (planned_rows (record { edit = Remove id; moved = moved; changes = changes; evaluated = n }) rows))
-  out_labels = plan_labels rows (remove rows at) (remove rows at) moved id None are_out (joined_none (remove rows at) id) (Remove id) changes n settled numbered_out up_out slots made_out
-
-  pub out_changes : (r : Row) → Contains rows r → r.label.order.id ≡ id → (edited : Change) → edited ≡ edited_change id (Some (ranged r)) None → IsStrictlySortedBy (slice_cmp nat_cmp) (map (λ change. change.id) changes) →
-      ((c : Change) → Contains changes c ↔ (IsStayChange (remove rows at) moved c ⊎ (Some edited ≡ Some c))) →
-      AreChanges (labels_in rows) (slots_in rows) (labels_in (planned_rows (record { edit = Remove id; moved = moved; changes = changes; evaluated = n }) rows)) (slots_in (planned_rows (record { edit = Remove id; moved = moved; changes = changes; evaluated = n }) rows)) changes
-  out_changes r there same_id edited is sorted same =
-      plan_changes rows (remove rows at) (remove rows at) moved id None are_out (joined_none (remove rows at) id) (Remove id) changes n settled numbered_out up_out slots made_out
-      (Some (ranged r)) None (state_there rows r id there same_id) (state_gone rows (remove rows at) moved id are_out) sorted
+  pub out_plan : (r : Row) (edited : Change) (own : List ℕ) (steps after : ℕ) → Contains rows r → r.label.order.id ≡ id → edited ≡ edited_change id (Some (ranged r)) None → IsStrictlySortedBy (slice_cmp nat_cmp) (map (λ change. change.id) changes) →
+      ((c : Change) → Contains changes c ↔ (IsStayChange (remove rows at) moved c ⊎ (Some edited ≡ Some c))) → AreTouched (labels_in rows) at false n → id ≡ own → after ≡ steps + n →
+      IsPlanFor (record { edit = Remove id; moved = moved; changes = changes; evaluated = n }) rows own None steps after
+  out_plan r edited own steps after there same_id is sorted same touched is_own spent =
+      made_plan rows (remove rows at) (remove rows at) moved id None are_out (joined_none (remove rows at) id) (Remove id) changes n settled numbered_out up_out slots made_out
+      (Some (ranged r)) None own None steps after has refl
+      (λ s t e one two. absurd (let f : ◌≡◌ {A = Option Row} None (Some t) = e in cc))
+      (state_there rows r id there same_id) (state_gone rows (remove rows at) moved id are_out) sorted
       (both_same (remove rows at) moved changes (Some edited) (λ c. (c ≡ edited_change id (Some (ranged r)) None) × (Some (ranged r) ≢ None)) same
       (some_edited edited id (Some (ranged r)) None is (λ e. cc)))
-
-  pub out_cost : AreTouched (labels_in rows) at false n → IsCost (labels_in rows) (labels_in (planned_rows (record { edit = Remove id; moved = moved; changes = changes; evaluated = n }) rows)) id n
-  out_cost touched =
-      plan_cost rows (remove rows at) (remove rows at) moved id None are_out (joined_none (remove rows at) id) (Remove id) changes n settled numbered_out up_out slots made_out
-      (cost_out rows at id n lt here (left_no_id rows at id settled.in_order lt here) touched)
+      (cost_out rows at id n lt here (left_no_id rows at id settled.in_order lt here) touched) is_own refl spent
 
 -- ---- a label comes in place of another
 
@@ -254,26 +258,23 @@ module _ (rows : List Row) (at to : ℕ) (row : Row) (boxed : Box Row Global) (m
       ∙ ap (λ (rs : List Row). with_row row (moved_rows moved rs)) (without_remove_is rows at row.label.order.id settled.in_order lt here)
       ∙ come_is (remove rows at) to row moved place kept
 
-  pub instead_state : IsPlanOf (record { edit = Replace boxed; moved = moved; changes = changes; evaluated = n + m }) rows
-  instead_state = plan_of_state rows (remove rows at) (insert (remove rows at) to row) moved row.label.order.id (Some row) are_instead (joined_some (remove rows at) to row) (Replace boxed) changes (n + m) settled numbered_instead up_instead slots made_instead (rw is_row has)
+  own_number : ((d : Row) → (get_or rows at d).number ≡ row.number) → (r s : Row) → Some row ≡ Some s → Contains rows r → r.label.order.id ≡ row.label.order.id → r.number ≡ s.number
+  own_number number r s e there id =
+      let same : row ≡ s = cc in
+      let one : r ≡ get_or rows at r = one_id rows r (get_or rows at r) there (Contains-get_or rows at r lt) settled.in_order (id ∙ sym (here r)) in
+      ap (λ (t : Row). t.number) one ∙ number r ∙ ap (λ (t : Row). t.number) same
 
-  pub instead_labels : IsEdited row.label.order.id (Some row.label) (labels_in rows) (labels_in (planned_rows (record { edit = Replace boxed; moved = moved; changes = changes; evaluated = n + m }) rows))
-  instead_labels = plan_labels rows (remove rows at) (insert (remove rows at) to row) moved row.label.order.id (Some row) are_instead (joined_some (remove rows at) to row) (Replace boxed) changes (n + m) settled numbered_instead up_instead slots made_instead
-
-  pub instead_changes : (r : Row) → Contains rows r → r.label.order.id ≡ row.label.order.id → (edited : Option Change) → IsChangeBetween r row edited → IsStrictlySortedBy (slice_cmp nat_cmp) (map (λ change. change.id) changes) →
-      ((c : Change) → Contains changes c ↔ (IsStayChange (remove rows at) moved c ⊎ (edited ≡ Some c))) →
-      AreChanges (labels_in rows) (slots_in rows) (labels_in (planned_rows (record { edit = Replace boxed; moved = moved; changes = changes; evaluated = n + m }) rows)) (slots_in (planned_rows (record { edit = Replace boxed; moved = moved; changes = changes; evaluated = n + m }) rows)) changes
-  instead_changes r there same_id edited between sorted same =
-      plan_changes rows (remove rows at) (insert (remove rows at) to row) moved row.label.order.id (Some row) are_instead (joined_some (remove rows at) to row) (Replace boxed) changes (n + m) settled numbered_instead up_instead slots made_instead
-      (Some (ranged r)) (Some (ranged row)) (state_there rows r row.label.order.id there same_id) (state_come (remove rows at) to row moved kept) sorted
+  pub instead_plan : (r : Row) (edited : Option Change) (label : Label) (steps after : ℕ) → Contains rows r → r.label.order.id ≡ row.label.order.id → ((d : Row) → (get_or rows at d).number ≡ row.number) → IsChangeBetween r row edited →
+      IsStrictlySortedBy (slice_cmp nat_cmp) (map (λ change. change.id) changes) → ((c : Change) → Contains changes c ↔ (IsStayChange (remove rows at) moved c ⊎ (edited ≡ Some c))) →
+      AreTouched (labels_in rows) at false n → AreTouched (labels_in (insert (remove rows at) to row)) to true m → row.label ≡ label → after ≡ steps + (n + m) →
+      IsPlanFor (record { edit = Replace boxed; moved = moved; changes = changes; evaluated = n + m }) rows label.order.id (Some label) steps after
+  instead_plan r edited label steps after there same_id number between sorted same gone come is_label spent =
+      made_plan rows (remove rows at) (insert (remove rows at) to row) moved row.label.order.id (Some row) are_instead (joined_some (remove rows at) to row) (Replace boxed) changes (n + m) settled numbered_instead up_instead slots made_instead
+      (Some (ranged r)) (Some (ranged row)) label.order.id (Some label) steps after (rw is_row has) (ap (λ (t : Row). t.label.order.id) is_row) (own_number number)
+      (state_there rows r row.label.order.id there same_id) (state_come (remove rows at) to row moved kept) sorted
       (both_same (remove rows at) moved changes edited (λ c. (c ≡ edited_change row.label.order.id (Some (ranged r)) (Some (ranged row))) × (Some (ranged r) ≢ Some (ranged row))) same
       (between_edited r row row.label.order.id edited refl between))
-
-  pub instead_cost : AreTouched (labels_in rows) at false n → AreTouched (labels_in (insert (remove rows at) to row)) to true m →
-      IsCost (labels_in rows) (labels_in (planned_rows (record { edit = Replace boxed; moved = moved; changes = changes; evaluated = n + m }) rows)) row.label.order.id (n + m)
-  instead_cost gone come =
-      plan_cost rows (remove rows at) (insert (remove rows at) to row) moved row.label.order.id (Some row) are_instead (joined_some (remove rows at) to row) (Replace boxed) changes (n + m) settled numbered_instead up_instead slots made_instead
-      (cost_both rows at to row n m lt here to_most gone come)
+      (cost_both rows at to row n m lt here to_most gone come) (ap (λ (l : Label). l.order.id) is_label) (ap (λ (l : Label). Some l) is_label) spent
 
 -- ---- the label that goes
 
@@ -283,7 +284,7 @@ up_removed rows at settled lt = rw (map_remove (λ (r : Row). r.label) rows at) 
 pub number_gone : (rows : List Row) (at : ℕ) (r : Row) → IsSettled rows → at < length rows → r ≡ get_or rows at r → IsFresh r.number (remove rows at)
 number_gone rows at r settled lt read there =
     let many = length-map rows (λ (t : Row). t.number) in
-    removed_gone (numbers_in rows) at (omega arith) settled.own_numbers (rw (number_read rows at r lt read, ← map_remove (λ (t : Row). t.number) rows at) there)
+    removed_gone (numbers_in rows) at 0 (omega arith) settled.own_numbers (rw (map_read (λ (t : Row). t.number) rows at r 0 lt read, ← map_remove (λ (t : Row). t.number) rows at) there)
 
 pub number_low : (rows : List Row) (at : ℕ) (r : Row) → IsSettled rows → at < length rows → r ≡ get_or rows at r → r.number < 32768
 number_low rows at r settled lt read = low_number rows at r (low_of_rows rows settled.low_numbers) lt read
@@ -291,3 +292,7 @@ number_low rows at r settled lt read = low_number rows at r (low_of_rows rows se
 pub between_own : (old new : Row) (edited : Option Change) (labels : List Label) → IsChangeBetween old new edited → ¬ (HasId labels new.label.order.id) → IfSome edited (λ c. ¬ (HasId labels c.id))
 between_own old new None labels h none = tt
 between_own old new (Some c) labels h none = rw h.1 none
+
+-- steps of two passes
+pub spent_both : (before mid after n m : ℕ) → mid ≡ before + n → after ≡ mid + m → after ≡ before + (n + m)
+spent_both before mid after n m a b = omega arith

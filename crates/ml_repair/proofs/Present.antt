@@ -8,14 +8,13 @@ use Rattle.ml_cone.specs.declared.label.Label.{Label}
 use Rattle.ml_cone.specs.declared.slot.Slot.{Slot}
 use Rattle.ml_store.specs.Rows.{numbers_in, labels_in, HaveOwnNumbers}
 use Rattle.ml_store.specs.declared.row.Row.{Row}
-use Rattle.ml_store.proofs.Lists.{map_map}
-use Rattle.ml_store.proofs.Naming.{number_read}
 use Rattle.ml_repair.specs.declared.edit.Moved.{Moved}
 use Rattle.ml_repair.specs.Plan.{moved_row, moved_rows, slot_for}
 use Rattle.ml_repair.specs.Repair.{present_slots, rival_in, IsMovedAt}
-use Rattle.ml_store.proofs.Different.{same_place}
 use Rattle.ml_repair.proofs.Moving.{slot_here, slot_elsewhere}
 use Rattle.ml_repair.proofs.NearRosters.{row_there}
+use Rattle.ml_ratio.proofs.lemmas.Lists.{same_place, map_read}
+use Rattle.std.proofs.lemmas.Simd.{map-map}
 
 pub length-present : (rows : List Row) (moved : List Moved) → length (present_slots rows moved) ≡ length rows
 length-present rows moved = length-map (moved_rows moved rows) (λ (r : Row). r.slot) ∙ length-map rows (moved_row moved)
@@ -31,16 +30,16 @@ present_read rows moved p r lt read =
     ∙ ap (λ (t : Row). t.slot) (get_or-map (moved_row moved) rows p r (moved_row moved r) lt ∙ ap (moved_row moved) (sym read))
 
 pub labels-moved : (rows : List Row) (moved : List Moved) → labels_in (moved_rows moved rows) ≡ labels_in rows
-labels-moved rows moved = map_map (moved_row moved) (λ (t : Row). t.label) rows
+labels-moved rows moved = map-map (λ (t : Row). t.label) (moved_row moved) rows
 
 pub numbers-moved : (rows : List Row) (moved : List Moved) → numbers_in (moved_rows moved rows) ≡ numbers_in rows
-numbers-moved rows moved = map_map (moved_row moved) (λ (t : Row). t.number) rows
+numbers-moved rows moved = map-map (λ (t : Row). t.number) (moved_row moved) rows
 
 -- a low number
 pub low_number : (rows : List Row) (p : ℕ) (r : Row) → All (λ n. n < 32768) (numbers_in rows) → p < length rows → r ≡ get_or rows p r → r.number < 32768
 low_number rows p r low lt read =
     let many = length-map rows (λ (t : Row). t.number) in
-    let e = number_read rows p r lt read in
+    let e = map_read (λ (t : Row). t.number) rows p r 0 lt read in
     let h = low p 0 (omega arith) in
     omega arith
 
@@ -64,12 +63,12 @@ moved_at rows i r slot before after differ lt read put = record {
         let s = row_there rows k k_in in
         let t : Row = s.0 in
         let many = length-map rows (λ (x : Row). x.number) in
-        let apart : t.number ≢ r.number = (λ e. ne (same_place (numbers_in rows) k i differ (omega arith) (omega arith) (number_read rows k t k_in s.1 ∙ e ∙ sym (number_read rows i r lt read)))) in
+        let apart : t.number ≢ r.number = (λ e. ne (same_place (numbers_in rows) k i 0 differ (omega arith) (omega arith) (map_read (λ (t : Row). t.number) rows k t 0 k_in s.1 ∙ e ∙ sym (map_read (λ (t : Row). t.number) rows i r 0 lt read)))) in
         present_read rows after k t k_in s.1 ∙ put t.number t.slot ∙ slot_elsewhere t.number r.number slot (slot_for t.number t.slot before) apart ∙ sym (present_read rows before k t k_in s.1)
     | inr past ↦
         let a = length-present rows after in
         let b = length-present rows before in
         get_past (present_slots rows after) k no_slot (omega arith) ∙ sym (get_past (present_slots rows before) k no_slot (omega arith))
   ];
-  same = λ n own ne. put n own ∙ slot_elsewhere n r.number slot (slot_for n own before) (λ e. ne (e ∙ sym (number_read rows i r lt read)));
+  same = λ n own ne. put n own ∙ slot_elsewhere n r.number slot (slot_for n own before) (λ e. ne (e ∙ sym (map_read (λ (t : Row). t.number) rows i r 0 lt read)));
 }

@@ -6,13 +6,12 @@ use Rattle.std.proofs.lemmas.List.Edits.{length-insert, get_or-insert_below, get
 use Rattle.ml_store.specs.Rows.{numbers_in, number_at, IsFresh, HaveOwnNumbers}
 use Rattle.ml_store.specs.Table.{IsRowAt}
 use Rattle.ml_store.specs.declared.row.Row.{Row}
-use Rattle.ml_store.proofs.Different.{above, removed_gone}
-use Rattle.ml_store.proofs.Lists.{map_insert, map_remove, added_remove, added_insert, added_has, added_only}
 use Rattle.ml_repair.specs.Roster.{left_rows, IsPlaceWithout}
+use Rattle.ml_ratio.proofs.lemmas.Lists.{map_insert, map_remove, removed_gone, insert_only, remove_has}
 
 -- what is in the shorter list is in the longer one
 fresh_left : (numbers : List ℕ) (g n : ℕ) → g < length numbers → ¬ (Contains numbers n) → ¬ (Contains (remove numbers g) n)
-fresh_left numbers g n lt fresh there = fresh (added_has (added_remove numbers g (get_or numbers g 0) lt (get_or_default numbers g 0 (get_or numbers g 0) lt)) n there)
+fresh_left numbers g n lt fresh there = fresh (remove_has numbers g (get_or numbers g 0) n lt (get_or_default numbers g 0 (get_or numbers g 0) lt) there)
 
 length-numbers : (rows : List Row) → length (numbers_in rows) ≡ length rows
 length-numbers rows = length-map rows (λ (r : Row). r.number)
@@ -30,7 +29,7 @@ left_found None rows n at (Some p) in' differ here h = rw h here
 left_found (Some g) rows n at None in' differ here h = λ there.
     let many = length-numbers rows in
     let e : g ≡ at = cc in
-    removed_gone (numbers_in rows) g (omega arith) differ (rw (ap (λ i. number_at rows i) e ∙ here.1, ← map_remove (λ (r : Row). r.number) rows g) there)
+    removed_gone (numbers_in rows) g 0 (omega arith) differ (rw (ap (λ i. number_at rows i) e ∙ here.1, ← map_remove (λ (r : Row). r.number) rows g) there)
 left_found (Some g) rows n at (Some p) in' differ here h =
     let many = length-numbers rows in
     let cut = length-remove rows g in' in
@@ -52,7 +51,7 @@ left_found (Some g) rows n at (Some p) in' differ here h =
 pub joined_found : (row : Row) (at : ℕ) (rows : List Row) (n : ℕ) (place found : Option ℕ) → at ≤ length rows → row.number ≢ n → MatchOption place (IsFresh n rows) (IsRowAt rows n) →
     MatchOption found (place ≡ None) (λ q. (p : ℕ) × (place ≡ Some p) × IsPlaceWithout (Some at) q p) → MatchOption found (IsFresh n (insert rows at row)) (IsRowAt (insert rows at row) n)
 joined_found row at rows n None None le apart was h = λ there.
-    elim (added_only (added_insert (numbers_in rows) at row.number) n (rw (← map_insert (λ (r : Row). r.number) rows at row) there)) [
+    elim (insert_only (numbers_in rows) at row.number n (rw (← map_insert (λ (r : Row). r.number) rows at row) there)) [
       | inl same ↦ apart same
       | inr old ↦ was old
     ]
@@ -87,10 +86,8 @@ joined_row_is row at rows r d place le e = ap (λ i. get_or (insert rows at row)
 
 pub joined_above : (row : Row) (at : ℕ) (rows : List Row) (d : Row) (place : ℕ) → at ≤ length rows → at < place → get_or (insert rows at row) place d ≡ get_or rows (place - 1) d
 joined_above row at rows d place le lt =
-    let p = above place at lt in
-    let e : place ≡ p.0 + 1 = p.1 in
-    let f : place - 1 ≡ p.0 = omega arith in
-    ap (λ i. get_or (insert rows at row) i d) e ∙ get_or-insert_above rows at row d p.0 p.2 le ∙ sym (ap (λ i. get_or rows i d) f)
+    let e : place ≡ place - 1 + 1 = omega arith in
+    ap (λ i. get_or (insert rows at row) i d) e ∙ get_or-insert_above rows at row d (place - 1) (omega arith) le
 
 pub left_above : (gone : Option ℕ) (g : ℕ) (rows : List Row) (at : ℕ) (d : Row) → gone ≡ Some g → g < length rows → g ≤ at → get_or (left_rows gone rows) at d ≡ get_or rows (at + 1) d
 left_above out g rows at d is in' le = rw is (get_or-remove_above rows g d at le in')

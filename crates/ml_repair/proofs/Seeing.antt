@@ -22,22 +22,19 @@ use Rattle.ml_store.specs.Rows.{numbers_in, labels_in, slots_in, number_at, Have
 use Rattle.ml_store.specs.Search.{AreNearNumbers}
 use Rattle.ml_store.specs.Table.{IsRowAt}
 use Rattle.ml_store.specs.declared.row.Row.{Row}
-use Rattle.ml_store.proofs.Different.{same_place}
-use Rattle.ml_store.proofs.Lists.{contains_map, map_contains}
-use Rattle.ml_store.proofs.Naming.{number_read}
-use Rattle.ml_store.proofs.Tables.{slot_read}
 use Rattle.ml_repair.specs.Settled.{IsSettled}
 use Rattle.ml_repair.specs.Shown.{AreShownNumbers, AreApart, AreNear, IsNearAt, IsShownIn}
 use Rattle.ml_repair.proofs.NearRosters.{row_there, label_read}
 use Rattle.ml_repair.proofs.OneRow.{one_number}
 use Rattle.ml_repair.proofs.Present.{length-labels}
+use Rattle.ml_ratio.proofs.lemmas.Lists.{contains_map, map_contains, same_place, map_read}
 
 -- ---- rows that are shown
 
 pub shown_is : (rows : List Row) (view : View) (p : ℕ) (r : Row) → p < length rows → r ≡ get_or rows p r → IsShownIn rows view p ↔ (ActiveUntil r.label (value_of r.slot.until) (value_of view.scale) × IsInView r.label view)
 shown_is rows view p r lt read =
     let many = length-labels rows in
-    let end : ends (slots_in rows) p ≡ value_of r.slot.until = ap (λ (s : Slot). value_of s.until) (slot_read rows p r lt read) in (
+    let end : ends (slots_in rows) p ≡ value_of r.slot.until = ap (λ (s : Slot). value_of s.until) (map_read (λ (t : Row). t.slot) rows p r no_slot lt read) in (
       λ h. subst (λ (f : Fraction). ActiveUntil r.label f (value_of view.scale) × IsInView r.label view) end
           (subst (λ (a : Label). ActiveUntil a (ends (slots_in rows) p) (value_of view.scale) × IsInView a view) (label_read rows p r r.label lt read) (h.1 r.label)),
       λ h. (omega arith, λ d. rw (label_read rows p r d lt read, end) h),
@@ -57,7 +54,7 @@ push_here rows view n p r before after differ here read shown e q =
             let many = length-map rows (λ (t : Row). t.number) in
             let a : p < length rows = here.0 in
             let b : q < length rows = new.0.0 in
-            let f : p ≡ q = same_place (numbers_in rows) p q differ (omega arith) (omega arith) (here.1 ∙ sym new.0.1) in
+            let f : p ≡ q = same_place (numbers_in rows) p q 0 differ (omega arith) (omega arith) (here.1 ∙ sym new.0.1) in
             subst (Contains (before ++ p ∷ [])) f (Contains-push before p)
       ],
     )
@@ -72,7 +69,7 @@ push_hidden rows view n p r before differ here read hidden q = (
         let many = length-map rows (λ (t : Row). t.number) in
         let a : p < length rows = here.0 in
         let b : q < length rows = new.0.0 in
-        let f : q ≡ p = same_place (numbers_in rows) q p differ (omega arith) (omega arith) (new.0.1 ∙ sym here.1) in
+        let f : q ≡ p = same_place (numbers_in rows) q p 0 differ (omega arith) (omega arith) (new.0.1 ∙ sym here.1) in
         absurd (hidden ((shown_is rows view p r here.0 read).0 (subst (IsShownIn rows view) f new.1)))
   ],
 )
@@ -130,7 +127,7 @@ module _ (rows : List Row) (view : View) (settled : IsSettled rows) (near places
       let lt : p < length rows = omega arith in
       let s = row_there rows p lt in
       let h = (shown_is rows view p s.0 lt s.1).0 shown in
-      (same p).1 ((among p).1 (s.0.number, all s.0 (p, lt, sym s.1) h.0 h.1, (lt, number_read rows p s.0 lt s.1), shown))
+      (same p).1 ((among p).1 (s.0.number, all s.0 (p, lt, sym s.1) h.0 h.1, (lt, map_read (λ (t : Row). t.number) rows p s.0 0 lt s.1), shown))
 
   pub shown_numbers_are : (numbers : List ℕ) → numbers ≡ map (number_at rows) sorted → AreShownNumbers rows view numbers
   shown_numbers_are numbers e = record {
@@ -153,7 +150,7 @@ module _ (rows : List Row) (view : View) (settled : IsSettled rows) (near places
       let l : p < length (labels_in rows) = shown.0 in
       let lt : p < length rows = omega arith in
       let t = row_there rows p lt in
-      let f : t.0 ≡ r = one_number rows t.0 r (p, lt, sym t.1) there settled.own_numbers (sym (number_read rows p t.0 lt t.1) ∙ s.2) in
+      let f : t.0 ≡ r = one_number rows t.0 r (p, lt, sym t.1) there settled.own_numbers (sym (map_read (λ (t : Row). t.number) rows p t.0 0 lt t.1) ∙ s.2) in
       (p, lt, subst (λ (x : Row). x ≡ get_or rows p x) f t.1, shown)
 
   -- two labels that are active at a scale do not overlap there
@@ -163,8 +160,8 @@ module _ (rows : List Row) (view : View) (settled : IsSettled rows) (near places
   free_at i j r s less lt read_r read_s one other over =
       let many = length-labels rows in
       let j_in : j < length rows = omega arith in
-      let a : ends (slots_in rows) i ≡ value_of r.slot.until = ap (λ (t : Slot). value_of t.until) (slot_read rows i r lt read_r) in
-      let b : ends (slots_in rows) j ≡ value_of s.slot.until = ap (λ (t : Slot). value_of t.until) (slot_read rows j s j_in read_s) in
+      let a : ends (slots_in rows) i ≡ value_of r.slot.until = ap (λ (t : Slot). value_of t.until) (map_read (λ (t : Row). t.slot) rows i r no_slot lt read_r) in
+      let b : ends (slots_in rows) j ≡ value_of s.slot.until = ap (λ (t : Slot). value_of t.until) (map_read (λ (t : Row). t.slot) rows j s no_slot j_in read_s) in
       let la : get_or (labels_in rows) i r.label ≡ r.label = label_read rows i r r.label lt read_r in
       let lb : get_or (labels_in rows) j r.label ≡ s.label = label_read rows j s r.label j_in read_s in
       let free = settled.slots.longest.free j i r.label less (omega arith) in
@@ -179,7 +176,7 @@ module _ (rows : List Row) (view : View) (settled : IsSettled rows) (near places
       elim (cases_lt p.0 q.0) [
         | inl less ↦ free_at q.0 p.0 b a less q.1 q.2 p.2 sb.0 sa.0 (symmetric a.label b.label (value_of view.scale) over)
         | inr more ↦ elim (cases_eq p.0 q.0) [
-          | inl same' ↦ apart (sym (number_read rows p.0 a p.1 p.2) ∙ ap (number_at rows) same' ∙ number_read rows q.0 b q.1 q.2)
+          | inl same' ↦ apart (sym (map_read (λ (t : Row). t.number) rows p.0 a 0 p.1 p.2) ∙ ap (number_at rows) same' ∙ map_read (λ (t : Row). t.number) rows q.0 b 0 q.1 q.2)
           | inr differ ↦ free_at p.0 q.0 a b (let ne : p.0 ≢ q.0 = differ in omega arith) p.1 p.2 q.2 sa.0 sb.0 over
         ]
       ]
@@ -231,7 +228,7 @@ module _ (rows : List Row) (view : View) (numbers : List ℕ) (differ : HaveOwnN
   near_is : (p : ℕ) (r : Row) → p < length rows → r ≡ get_or rows p r → IsNearAt (labels_in rows) (slots_in rows) view p ↔ IsNear r.label r.slot.until view
   near_is p r lt read =
       let many = length-labels rows in
-      let end : (get_or (slots_in rows) p no_slot).until ≡ r.slot.until = ap (λ (s : Slot). s.until) (slot_read rows p r lt read) in (
+      let end : (get_or (slots_in rows) p no_slot).until ≡ r.slot.until = ap (λ (s : Slot). s.until) (map_read (λ (t : Row). t.slot) rows p r no_slot lt read) in (
         λ h. subst (λ (u : Ratio). IsNear r.label u view) end (subst (λ (a : Label). IsNear a (get_or (slots_in rows) p no_slot).until view) (label_read rows p r r.label lt read) (h.1 r.label)),
         λ h. (omega arith, λ d. rw (label_read rows p r d lt read, end) h),
       )
@@ -260,7 +257,7 @@ module _ (rows : List Row) (view : View) (numbers : List ℕ) (differ : HaveOwnN
           let l : place_in (numbers_in rows) n < length (numbers_in rows) = q.0 in
           let lt : p < length rows = omega arith in
           let t = row_there rows p lt in
-          let e : t.0 ≡ r = one_number rows t.0 r (p, lt, sym t.1) some.1 differ (sym (number_read rows p t.0 lt t.1) ∙ ap (λ k. get_or (numbers_in rows) k 0) (sym is) ∙ q.1 ∙ sym some.2) in
+          let e : t.0 ≡ r = one_number rows t.0 r (p, lt, sym t.1) some.1 differ (sym (map_read (λ (t : Row). t.number) rows p t.0 0 lt t.1) ∙ ap (λ k. get_or (numbers_in rows) k 0) (sym is) ∙ q.1 ∙ sym some.2) in
           (near_is p r lt (subst (λ (x : Row). x ≡ get_or rows p x) e t.1)).1 some.3,
       λ h.
           let many = length-labels rows in
@@ -272,7 +269,7 @@ module _ (rows : List Row) (view : View) (numbers : List ℕ) (differ : HaveOwnN
           let there : Contains numbers r.number = (near.near r.number).1 (r, (p, lt, sym t.1), refl, (near_is p r lt t.1).0 h) in
           let q = placed_in (numbers_in rows) r.number (live_near r.number there) in
           let l' : place_in (numbers_in rows) r.number < length (numbers_in rows) = q.0 in
-          let e : place_in (numbers_in rows) r.number ≡ p = same_place (numbers_in rows) (place_in (numbers_in rows) r.number) p differ l' (omega arith) (q.1 ∙ sym (number_read rows p r lt t.1)) in
+          let e : place_in (numbers_in rows) r.number ≡ p = same_place (numbers_in rows) (place_in (numbers_in rows) r.number) p 0 differ l' (omega arith) (q.1 ∙ sym (map_read (λ (t : Row). t.number) rows p r 0 lt t.1)) in
           subst (Contains (map (place_in (numbers_in rows)) numbers)) e (contains_map (place_in (numbers_in rows)) numbers r.number there),
     );
     many = length-map numbers (place_in (numbers_in rows));
@@ -287,7 +284,7 @@ live_at rows places numbers within e k d lt =
     let p : ℕ = get_or places k 0 in
     let p_in : p < length rows = within k 0 k_in in
     let s = row_there rows p p_in in
-    (s.0, (p, p_in, sym s.1), sym (number_read rows p s.0 p_in s.1) ∙ sym (ap (λ ns. get_or ns k d) e ∙ get_or-map (number_at rows) places k 0 d k_in))
+    (s.0, (p, p_in, sym s.1), sym (map_read (λ (t : Row). t.number) rows p s.0 0 p_in s.1) ∙ sym (ap (λ ns. get_or ns k d) e ∙ get_or-map (number_at rows) places k 0 d k_in))
 
 -- each row's end lies in its range
 pub settled_ends : (rows : List Row) → IsSettled rows → All (λ r. IsEnd r.label (value_of r.slot.until)) rows
@@ -295,7 +292,7 @@ settled_ends rows settled k d lt =
     let many = length-labels rows in
     let s = row_there rows k lt in
     let r : Row = s.0 in
-    let e : ends (slots_in rows) k ≡ value_of r.slot.until = ap (λ (t : Slot). value_of t.until) (slot_read rows k r lt s.1) in
+    let e : ends (slots_in rows) k ≡ value_of r.slot.until = ap (λ (t : Slot). value_of t.until) (map_read (λ (t : Row). t.slot) rows k r no_slot lt s.1) in
     let h = settled.slots.longest.is_choice k r.label (omega arith) in
     rw (get_or_default rows k d r lt, ← s.1) (rw (label_read rows k r r.label lt s.1, e) at h)
 
@@ -306,7 +303,7 @@ blocker_live rows r settled there =
     let lt : p < length rows = there.1 in
     let many = length-labels rows in
     let h = settled.slots.blockers p (omega arith) in
-    go r.slot.blocker (subst (λ (b : Option ℕ). IsBlockerBy (number_at rows) (labels_in rows) (ends (slots_in rows)) p b) (ap (λ (s : Slot). s.blocker) (slot_read rows p r lt (sym there.2))) h)
+    go r.slot.blocker (subst (λ (b : Option ℕ). IsBlockerBy (number_at rows) (labels_in rows) (ends (slots_in rows)) p b) (ap (λ (s : Slot). s.blocker) (map_read (λ (t : Row). t.slot) rows p r no_slot lt (sym there.2))) h)
   where
     go : (b : Option ℕ) → IsBlockerBy (number_at rows) (labels_in rows) (ends (slots_in rows)) there.0 b → IfSome b (IsLive rows)
     go None h = tt
@@ -317,4 +314,4 @@ blocker_live rows r settled there =
         let lt : there.0 < length rows = there.1 in
         let j_in : j < length rows = omega arith in
         let s = row_there rows j j_in in
-        (s.0, (j, j_in, sym s.1), sym (number_read rows j s.0 j_in s.1) ∙ h.1)
+        (s.0, (j, j_in, sym s.1), sym (map_read (λ (t : Row). t.number) rows j s.0 0 j_in s.1) ∙ h.1)

@@ -12,7 +12,6 @@ use Rattle.ml_cone.specs.declared.label.Label.{Label}
 use Rattle.ml_cone.specs.declared.slot.Slot.{Slot}
 use Rattle.ml_store.specs.Rows.{numbers_in, labels_in, slots_in, number_at, HasId}
 use Rattle.ml_store.specs.declared.row.Row.{Row}
-use Rattle.ml_store.proofs.Lists.{map_contains, contains_map, contained, added_has, added_only, added_insert, added_remove}
 use Rattle.ml_repair.specs.Edit.{IsEdited}
 use Rattle.ml_repair.specs.Placed.{IsPlaceFor}
 use Rattle.ml_repair.specs.Plan.{moved_row, moved_rows, slot_for, with_row, without_id}
@@ -25,6 +24,7 @@ use Rattle.ml_repair.proofs.Edited.{moved-insert}
 use Rattle.ml_repair.proofs.NearRosters.{row_there, label_read}
 use Rattle.ml_repair.proofs.Placing.{with_row_is, without_is, only_id}
 use Rattle.ml_repair.proofs.Present.{length-labels, labels-moved, numbers-moved}
+use Rattle.ml_ratio.proofs.lemmas.Lists.{contains_map, map_contains, insert_has, insert_only, insert_there, remove_has, remove_only}
 
 -- ---- numbers of rows, and rows with numbers
 
@@ -84,13 +84,12 @@ module _ (rows : List Row) (at : ℕ) (id : List ℕ) (up : IsLabelList (labels_
   pub left_remove : AreLeft rows (remove rows at) id
   left_remove =
       let s = row_there rows at lt in
-      let added = added_remove rows at s.0 lt s.1 in
       record {
-        stays = λ r there apart. elim (added_only added r there) [
+        stays = λ r there apart. elim (remove_only rows at s.0 r lt s.1 there) [
           | inl e ↦ absurd (apart (ap (λ (t : Row). t.label.order.id) (sym e ∙ s.1) ∙ here s.0))
           | inr old ↦ old
         ];
-        stayed = λ r there. (added_has added r there, gone r there);
+        stayed = λ r there. (remove_has rows at s.0 r lt s.1 there, gone r there);
       }
     where
       gone : (r : Row) → Contains (remove rows at) r → r.label.order.id ≢ id
@@ -117,11 +116,10 @@ joined_none rows id = record { only = λ r there. inl there; kept = λ r there. 
 
 pub joined_some : (left : List Row) (at : ℕ) (row : Row) → AreJoinedBy left (insert left at row) row.label.order.id (Some row)
 joined_some left at row =
-    let added = added_insert left at row in
     record {
-      only = λ r there. elim (added_only added r there) [ inl e ↦ inr (ap (λ (x : Row). Some x) e) | inr old ↦ inl old ];
-      kept = λ r there. added_has added r there;
-      here = λ r e. let f : row ≡ r = cc in (subst (Contains (insert left at row)) f (contained added), ap (λ (t : Row). t.label.order.id) (sym f));
+      only = λ r there. elim (insert_only left at row r there) [ inl e ↦ inr (ap (λ (x : Row). Some x) e) | inr old ↦ inl old ];
+      kept = λ r there. insert_has left at row r there;
+      here = λ r e. let f : row ≡ r = cc in (subst (Contains (insert left at row)) f (insert_there left at row), ap (λ (t : Row). t.label.order.id) (sym f));
     }
 
 -- ---- edits of rows

@@ -19,8 +19,8 @@ use denote.Ref.{Bor}
 use Rattle.ml_cone.specs.Label.{IsLabelList}
 use Rattle.ml_cone.specs.Order.{order_cmp, order_total}
 use Rattle.ml_cone.specs.declared.label.Label.{Label}
-use Rattle.ml_store.proofs.ByName.{ids_decide}
 use Rattle.ml_repair.proofs.Placing.{same_id}
+use Rattle.std.proofs.lemmas.Slice.Eq.{bytes_eq-Decides}
 
 module _ {X : Type 0} (key : X → List ℕ) where
   keys_differ : (xs : List X) → AllPairs (λ x y. key x ≢ key y) xs → AllPairs (λ k l. k ≢ l) (map key xs)
@@ -41,7 +41,7 @@ module _ {X : Type 0} (key : X → List ℕ) where
   -- elements whose keys differ keep them apart when they change places
   pub still_differ : (xs ys : List X) → IsPermutation xs ys → AllPairs (λ x y. key x ≢ key y) xs → AllPairs (λ x y. key x ≢ key y) ys
   still_differ xs ys moved h =
-      elements_differ ys (AllPairs-from_IsDistinct ids_decide (map key ys) (IsDistinct-IsPermutation (pointwise nat_eq) nat_list_eq_equiv.symm (map key xs) (map key ys) (IsPermutation-map key xs ys moved) (IsDistinct-from_AllPairs ids_decide (map key xs) (keys_differ xs h))))
+      elements_differ ys (AllPairs-from_IsDistinct bytes_eq-Decides (map key ys) (IsDistinct-IsPermutation (pointwise nat_eq) nat_list_eq_equiv.symm (map key xs) (map key ys) (IsPermutation-map key xs ys moved) (IsDistinct-from_AllPairs bytes_eq-Decides (map key xs) (keys_differ xs h))))
 
 -- what neither ties nor stands the other way round is less
 less : (turned : Ordering) → is_lt turned ≡ false → ((ordering_reverse turned ≡ Equal) → ⊥) → ordering_reverse turned ≡ Less

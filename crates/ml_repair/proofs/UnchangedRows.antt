@@ -8,12 +8,12 @@ use Rattle.ml_cone.specs.contracts.label.Label as a_label
 use Rattle.ml_watch.specs.declared.change.Change.{Change}
 use Rattle.ml_store.specs.Rows.{labels_in, slots_in}
 use Rattle.ml_store.specs.declared.row.Row.{Row}
-use Rattle.ml_store.proofs.ByName.{ids_decide}
 use Rattle.ml_repair.specs.Changes.{Ranged, IsStateOf, IsStanding, IsChange, AreChanges, IsChanged, IsTold, StandsAmong}
 use Rattle.ml_repair.specs.Settled.{IsSettled}
 use Rattle.ml_repair.proofs.Changing.{ranged, standing, standing_row, no_row, is_absent}
 use Rattle.ml_repair.proofs.Deciding.{same_or_not}
 use Rattle.ml_repair.proofs.OneRow.{one_id}
+use Rattle.std.proofs.lemmas.Slice.Eq.{bytes_eq-Decides}
 
 -- a row with the id, or none
 abbrev Found : List Row → List ℕ → Type 0
@@ -36,10 +36,10 @@ at_place x y xs (suc k) lt is = inr (k, omega (arith, lt), is)
 
 -- a row that has the id or not, and others of which some has it or none
 first_or_later : (x : Row) (rows : List Row) (id : List ℕ) (test : Bool) → pointwise nat_eq x.label.order.id id ≡ test → Found rows id → Found (x ∷ rows) id
-first_or_later x rows id true is found = inl (x, (0, omega arith, refl), (ids_decide x.label.order.id id).0 is)
+first_or_later x rows id true is found = inl (x, (0, omega arith, refl), (bytes_eq-Decides x.label.order.id id).0 is)
 first_or_later x rows id false is (inl there) = inl (there.0, behind x there.0 rows there.1, there.2)
 first_or_later x rows id false is (inr none) = inr (λ row there same. elim (at_place x row rows there.0 there.1 there.2) [
-  | inl first ↦ not_both (pointwise nat_eq x.label.order.id id) is ((ids_decide x.label.order.id id).1 (ap (λ (r : Row). r.label.order.id) first ∙ same))
+  | inl first ↦ not_both (pointwise nat_eq x.label.order.id id) is ((bytes_eq-Decides x.label.order.id id).1 (ap (λ (r : Row). r.label.order.id) first ∙ same))
   | inr others ↦ none row others same
 ])
 

@@ -1,5 +1,6 @@
 -- Later rivals, and labels that wait.
 use Rattle.std.proofs.Common.{◌≡◌, ℕ, ◌+◌, ◌<◌, ◌≤◌, Bool, true, false, List, [], length, get_or, set, Contains, ◌⊎◌, inl, inr, refl, sym, ap, ◌∙◌, subst, arith, get_or-set_same, get_or-set_other}
+use Rattle.std.specs.Prelude.{◌↔◌, All}
 use Rattle.std.proofs.lemmas.Bool.{cases_lt, cases_eq}
 use Rattle.std.proofs.lemmas.List.{get_or_default}
 use Rattle.ml_ratio.specs.Fraction.{value_of}
@@ -100,3 +101,13 @@ module _ (labels : List Label) (i : ℕ) (places : List ℕ) (t k : ℕ) (before
                   ],
             )
       ]
+
+-- ---- the same places in another order
+
+pub same_within : (n : ℕ) (xs ys : List ℕ) → ((p : ℕ) → Contains ys p ↔ Contains xs p) → All (λ p. p < n) xs → All (λ p. p < n) ys
+same_within n xs ys same within k d lt =
+    let p : ℕ = get_or ys k d in
+    let old = (same p).0 (k, lt, get_or_default ys k p d lt) in
+    let h = within old.0 p old.1 in
+    let e : get_or xs old.0 p ≡ p = old.2 in
+    omega arith

@@ -9,6 +9,7 @@ pub mod Shown
 pub mod Moves
 pub mod Roster
 pub mod Repair
+pub mod Kept
 pub mod Placed
 pub mod Stays
 pub mod Carry

@@ -1,14 +1,18 @@
 -- Plans of an edit, and what they make of the live labels.
-use Rattle.std.specs.Prelude.{ℕ, ◌+◌, ◌≤◌, ◌==◌, not, List, [], ◌∷◌, map, filter, if◌then◌else◌}
+use Rattle.std.specs.Prelude.{ℕ, ◌≡◌, ◌+◌, ◌≤◌, ◌==◌, not, List, [], ◌∷◌, map, filter, Contains, Option, if◌then◌else◌}
 use Rattle.std.specs.Str.{bytes_eq}
 use Rattle.std.specs.Ordering.{is_lt}
 use Rattle.ml_cone.specs.Order.{order_cmp}
+use Rattle.ml_cone.specs.declared.label.Label.{Label}
 use Rattle.ml_cone.specs.declared.slot.Slot.{Slot}
 use Rattle.ml_grid.specs.Count.{entry_count}
 use Rattle.ml_watch.specs.declared.change.Change.{Change}
 use Rattle.ml_store.specs.Pairs.{pair_count}
-use Rattle.ml_store.specs.Rows.{labels_in, HasId, Stored}
+use Rattle.ml_store.specs.Rows.{labels_in, slots_in, HasId, Stored}
 use Rattle.ml_store.specs.declared.row.Row.{Row}
+use Rattle.ml_repair.specs.Changes.{AreChanges}
+use Rattle.ml_repair.specs.Cost.{IsCost}
+use Rattle.ml_repair.specs.Edit.{IsEdited}
 use Rattle.ml_repair.specs.Settled.{IsSettled}
 use Rattle.ml_repair.specs.declared.edit.LabelEdit.{LabelEdit}
 use Rattle.ml_repair.specs.declared.edit.LabelEdit.TheVariants.{Add, Remove, Replace}
@@ -66,10 +70,31 @@ rows_with (Replace row) rows = with_row row.value rows
 unfoldable pub planned_rows : Planned → List Row → List Row
 planned_rows plan rows = rows_with plan.edit (moved_rows plan.moved (kept_rows plan.edit rows))
 
--- the plan is of these rows: its edit can be made, and its slots are those of the labels after it
+-- the id of the label that an edit brings or takes out
+abbrev pub edited_id : LabelEdit → List ℕ
+edited_id (Add row) = row.value.label.order.id
+edited_id (Remove id) = id
+edited_id (Replace row) = row.value.label.order.id
+
+-- a label that stays has its number, and one that comes in place of another has that of the other
+abbrev pub KeepNumbers : List Row → List Row → Type 0
+KeepNumbers rows after = (r s : Row) → Contains rows r → Contains after s → r.label.order.id ≡ s.label.order.id → r.number ≡ s.number
+
+-- the plan is of these rows: its edit can be made; its slots are those of the labels after it, which keep their numbers; and it tells just what that changes and costs
 pub record IsPlanOf (plan : Planned) (rows : List Row) : Type 0 where
   pub possible : CanBeMade plan.edit rows
   pub settled : IsSettled (planned_rows plan rows)
+  pub numbers : KeepNumbers rows (planned_rows plan rows)
+  pub changes : AreChanges (labels_in rows) (slots_in rows) (labels_in (planned_rows plan rows)) (slots_in (planned_rows plan rows)) plan.changes
+  pub cost : IsCost (labels_in rows) (labels_in (planned_rows plan rows)) (edited_id plan.edit) plan.evaluated
+
+-- the plan is of these rows, and makes of their labels those but any with the id, and that which comes, if one does; with the changes and the cost of that, and so many steps were spent for it
+pub record IsPlanFor (plan : Planned) (rows : List Row) (id : List ℕ) (come : Option Label) (steps steps_after : ℕ) : Type 0 where
+  pub of_state : IsPlanOf plan rows
+  pub labels : IsEdited id come (labels_in rows) (labels_in (planned_rows plan rows))
+  pub changes : AreChanges (labels_in rows) (slots_in rows) (labels_in (planned_rows plan rows)) (slots_in (planned_rows plan rows)) plan.changes
+  pub cost : IsCost (labels_in rows) (labels_in (planned_rows plan rows)) id plan.evaluated
+  pub spent : steps_after ≡ steps + plan.evaluated
 
 -- how many pairs come with new slots
 abbrev pub moved_pairs : List Moved → ℕ

@@ -12,6 +12,7 @@ use Rattle.ml_conflict.specs.Begin.{SetsNoneUpTo}
 use Rattle.ml_store.specs.Rows.{number_at, labels_in, slots_in}
 use Rattle.ml_store.specs.declared.row.Row.{Row}
 use Rattle.ml_repair.specs.declared.edit.Moved.{Moved}
+use Rattle.ml_repair.specs.Moves.{numbers_of}
 use Rattle.ml_repair.specs.Plan.{moved_rows, slot_for}
 use Rattle.ml_repair.specs.Roster.{OverlapsAt}
 use Rattle.ml_repair.specs.Touched.{IsRivalBefore}
@@ -52,14 +53,18 @@ IsBoundBy rows moved low places bound =
 abbrev pub ReachesBand : ℕ → Fraction → Type 0
 ReachesBand k until = 0 < k → 2 ^ k * until.den ≤ until.num
 
--- places of the list, among them each of a label that the label overlaps in band k, and whose present active range reaches into the band
+-- the row at a place has no new slot
+abbrev pub IsUnmoved : List Row → List Moved → ℕ → Type 0
+IsUnmoved rows moved p = ¬ (Contains (numbers_of moved) (number_at rows p))
+
+-- places of the list, among them each of a label without a new slot that the label overlaps in band k, and whose active range reaches into the band
 pub record AreReaching (rows : List Row) (moved : List Moved) (low : Label) (k : ℕ) (places : List ℕ) : Type 0 where
   pub within : All (λ p. p < length rows) places
-  pub whole : (p : ℕ) → OverlapsAt rows low k p → ReachesBand k (ends (present_slots rows moved) p) → Contains places p
+  pub whole : (p : ℕ) → OverlapsAt rows low k p → IsUnmoved rows moved p → ReachesBand k (ends (present_slots rows moved) p) → Contains places p
 
--- of the labels before place i that the label overlaps in any of the bands from k to m none has a present active range that reaches into that band
+-- of the labels without a new slot before place i that the label overlaps in any of the bands from k to m none has an active range that reaches into that band
 abbrev pub IsClear : List Row → List Moved → Label → ℕ → ℕ → ℕ → Type 0
-IsClear rows moved low i k m = (p n : ℕ) → p < i → k ≤ n → n ≤ m → OverlapsAt rows low n p → ¬ (ReachesBand n (ends (present_slots rows moved) p))
+IsClear rows moved low i k m = (p n : ℕ) → p < i → k ≤ n → n ≤ m → OverlapsAt rows low n p → IsUnmoved rows moved p → ¬ (ReachesBand n (ends (present_slots rows moved) p))
 
 -- a place counts: it is among the places, or its label sets no limit up to the bound
 abbrev pub Counts : List Row → List Moved → Label → Ratio → List ℕ → ℕ → Type 0

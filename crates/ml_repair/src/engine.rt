@@ -5,10 +5,7 @@ ghost use Rattle.ml_cone.specs.declared.label.Label.{Label};
 ghost use Rattle.ml_store.specs.Rows.{numbers_in, labels_in, slots_in, IsLive, HasId, IsNumberOf};
 ghost use Rattle.ml_store.specs.declared.row.Row.{Row};
 ghost use Rattle.ml_repair.specs.Settled.{IsSettled};
-ghost use Rattle.ml_repair.specs.Edit.{IsEdited};
-ghost use Rattle.ml_repair.specs.Cost.{IsCost};
-ghost use Rattle.ml_repair.specs.Changes.{AreChanges};
-ghost use Rattle.ml_repair.specs.Plan.{IsPlanOf, planned_rows, room_of, HasRoom, KeepsRoom};
+ghost use Rattle.ml_repair.specs.Plan.{IsPlanOf, IsPlanFor, planned_rows, room_of, HasRoom, KeepsRoom};
 ghost use Rattle.ml_repair.specs.Shown.{AreShownNumbers, AreApart, AreNear};
 
 use crate::build::build_store;
@@ -126,15 +123,7 @@ impl Engine {
     ) -> Result<Plan, AllocError>
         requires new_id { ¬ (HasId (labels_in self.now.rows) label.order.id) }
         requires few { length self.now.rows < 32768 }
-        ensures of_state { IfOk result (λ plan. IsPlanOf plan self.now.rows) }
-        ensures labels { IfOk result (λ plan.
-            IsEdited label.order.id (Some label) (labels_in self.now.rows) (labels_in (planned_rows plan self.now.rows))) }
-        ensures changes { IfOk result (λ plan.
-            AreChanges (labels_in self.now.rows) (slots_in self.now.rows)
-            (labels_in (planned_rows plan self.now.rows)) (slots_in (planned_rows plan self.now.rows)) plan.changes) }
-        ensures cost { IfOk result (λ plan.
-            IsCost (labels_in self.now.rows) (labels_in (planned_rows plan self.now.rows)) label.order.id plan.evaluated) }
-        ensures spent { IfOk result (λ plan. steps.new ≡ steps.old + plan.evaluated) }
+        ensures { IfOk result (λ plan. IsPlanFor plan self.now.rows label.order.id (Some label) steps.old steps.new) }
     {
         plan_in(alloc, &self.store, label, steps)
     }
@@ -151,15 +140,7 @@ impl Engine {
         steps: &mut Steps<L>,
     ) -> Result<Plan, AllocError>
         requires live { HasId (labels_in self.now.rows) id.now }
-        ensures of_state { IfOk result (λ plan. IsPlanOf plan self.now.rows) }
-        ensures labels { IfOk result (λ plan.
-            IsEdited id.now None (labels_in self.now.rows) (labels_in (planned_rows plan self.now.rows))) }
-        ensures changes { IfOk result (λ plan.
-            AreChanges (labels_in self.now.rows) (slots_in self.now.rows)
-            (labels_in (planned_rows plan self.now.rows)) (slots_in (planned_rows plan self.now.rows)) plan.changes) }
-        ensures cost { IfOk result (λ plan.
-            IsCost (labels_in self.now.rows) (labels_in (planned_rows plan self.now.rows)) id.now plan.evaluated) }
-        ensures spent { IfOk result (λ plan. steps.new ≡ steps.old + plan.evaluated) }
+        ensures { IfOk result (λ plan. IsPlanFor plan self.now.rows id.now None steps.old steps.new) }
     {
         plan_out(alloc, &self.store, id, steps)
     }
@@ -177,15 +158,7 @@ impl Engine {
         steps: &mut Steps<L>,
     ) -> Result<Plan, AllocError>
         requires live { HasId (labels_in self.now.rows) label.order.id }
-        ensures of_state { IfOk result (λ plan. IsPlanOf plan self.now.rows) }
-        ensures labels { IfOk result (λ plan.
-            IsEdited label.order.id (Some label) (labels_in self.now.rows) (labels_in (planned_rows plan self.now.rows))) }
-        ensures changes { IfOk result (λ plan.
-            AreChanges (labels_in self.now.rows) (slots_in self.now.rows)
-            (labels_in (planned_rows plan self.now.rows)) (slots_in (planned_rows plan self.now.rows)) plan.changes) }
-        ensures cost { IfOk result (λ plan.
-            IsCost (labels_in self.now.rows) (labels_in (planned_rows plan self.now.rows)) label.order.id plan.evaluated) }
-        ensures spent { IfOk result (λ plan. steps.new ≡ steps.old + plan.evaluated) }
+        ensures { IfOk result (λ plan. IsPlanFor plan self.now.rows label.order.id (Some label) steps.old steps.new) }
     {
         plan_instead(alloc, &self.store, label, steps)
     }

@@ -5,6 +5,11 @@
 //!   ([`LabelEdit`]);
 //! - [`room`]: how much may come in without memory ([`Room`]);
 //! - [`laws`]: what the changes of an edit tell of its labels.
+//!
+//! Within: `gather`, `sought`, `chosen` and `settle` find the rivals of one label and evaluate it, `kept`
+//! where its blocker stays; `wake`, `repair` and `pass` go through the labels that an edit touches;
+//! `roster`, `moves`, `place` and `planning` are what a plan is made of; `carry`, `build`, `shown` and
+//! `read` carry it out, build an engine and tell of its labels.
 #![tactic(auto)]
 
 mod build;
@@ -14,6 +19,7 @@ mod chosen;
 pub mod edit;
 pub mod engine;
 mod gather;
+mod kept;
 pub mod laws;
 mod moves;
 mod pass;
@@ -26,6 +32,7 @@ pub mod room;
 mod roster;
 mod settle;
 mod shown;
+mod sought;
 mod wake;
 
 pub use edit::{LabelEdit, Moved};

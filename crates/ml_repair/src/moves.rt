@@ -1,5 +1,5 @@
 //! New slots of labels, found by number.
-ghost use Rattle.std.specs.Prelude.{ℕ, ◌≡◌, ◌<◌, ◌≤◌, ◌==◌, ◌↔◌, [], List, length, All, IsTrue, IfOk, if◌then◌else◌};
+ghost use Rattle.std.specs.Prelude.{ℕ, ◌≡◌, ◌<◌, ◌≤◌, ◌==◌, [], List, length, All, IfOk, if◌then◌else◌};
 ghost use Rattle.ml_cone.specs.declared.slot.Slot.{Slot};
 ghost use Rattle.ml_store.specs.Rows.{AreDifferent};
 ghost use Rattle.ml_repair.specs.Plan.{slot_for};
@@ -51,13 +51,6 @@ impl Moves {
     {
         let at = self.column[number as usize] as usize;
         if at > 0 { self.moved[at - 1].slot } else { own }
-    }
-
-    /// Whether no label has a new slot.
-    pub fn is_empty(&self) -> bool
-        ensures { IsTrue result ↔ (self.now ≡ []) }
-    {
-        self.moved.is_empty()
     }
 
     /// The label with this number gets a new slot.

@@ -12,6 +12,7 @@ use crate::moves::Moves;
 use crate::repair::repair;
 use crate::roster::Roster;
 use crate::settle::settle;
+use crate::sought::Edited;
 use ml_cone::Slot;
 use ml_conflict::laws::{carried, own_slots};
 use ml_ratio::Steps;
@@ -74,7 +75,8 @@ pub fn settle_coming<L: Ledger>(
     own_slots();
     carried();
     let roster = Roster::with(store, gone, row, at);
-    let slot = settle(alloc, &roster, moves, at, true, at, steps)?;
+    let edited = Edited { at, comes: true };
+    let slot = settle(alloc, &roster, moves, edited, at, steps)?;
     row.slot = slot;
     Ok(())
 }

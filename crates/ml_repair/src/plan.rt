@@ -15,8 +15,8 @@ use std::marker::Model;
 
 /// What an edit will make of the live labels: the edit itself, and the new slots of labels that stay.
 ///
-/// A plan is of some live labels where its edit can be made there and the slots after it are those of
-/// the longest choice, with its blockers.
+/// A plan is of some live labels where its edit can be made there, the slots after it are those of the
+/// longest choice, with its blockers, and it tells just what that changes and costs.
 #[derive(Drop)]
 pub struct Plan {
     pub(crate) edit: LabelEdit,
@@ -76,7 +76,7 @@ fn labels_for(edit: &LabelEdit) -> usize
 }
 
 /// How many entries the row's label has in the grid.
-pub fn cells_of(row: &Row) -> usize
+pub(crate) fn cells_of(row: &Row) -> usize
     ensures { result ≡ entry_count row.now.label }
 {
     let span = Span {
@@ -98,7 +98,7 @@ fn cells_for(edit: &LabelEdit) -> usize
 }
 
 /// How many pairs a slot has.
-pub fn pairs_of(slot: &Slot) -> usize
+pub(crate) fn pairs_of(slot: &Slot) -> usize
     ensures count { result ≡ pair_count slot.now.blocker }
     ensures low { result ≤ 1 }
 {

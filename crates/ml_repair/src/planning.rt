@@ -3,10 +3,7 @@ ghost use Rattle.std.specs.Prelude.{ℕ, ◌≡◌, ◌+◌, ◌<◌, Some, None
 ghost use Rattle.ml_cone.specs.declared.label.Label.{Label};
 ghost use Rattle.ml_store.specs.Rows.{labels_in, slots_in, HasId};
 ghost use Rattle.ml_store.specs.declared.row.Row.{Row};
-ghost use Rattle.ml_repair.specs.Changes.{AreChanges};
-ghost use Rattle.ml_repair.specs.Cost.{IsCost};
-ghost use Rattle.ml_repair.specs.Edit.{IsEdited};
-ghost use Rattle.ml_repair.specs.Plan.{IsPlanOf, planned_rows};
+ghost use Rattle.ml_repair.specs.Plan.{IsPlanFor};
 ghost use Rattle.ml_repair.specs.Settled.{IsSettled};
 ghost use Rattle.ml_repair.specs.Stays.{IsChangeBetween};
 
@@ -97,15 +94,7 @@ pub fn plan_in<L: Ledger>(
     requires settled { IsSettled store.now.rows }
     requires new_id { ¬ (HasId (labels_in store.now.rows) label.order.id) }
     requires few { length store.now.rows < 32768 }
-    ensures of_state { IfOk result (λ plan. IsPlanOf plan store.now.rows) }
-    ensures labels { IfOk result (λ plan.
-        IsEdited label.order.id (Some label) (labels_in store.now.rows) (labels_in (planned_rows plan store.now.rows))) }
-    ensures changes { IfOk result (λ plan.
-        AreChanges (labels_in store.now.rows) (slots_in store.now.rows)
-        (labels_in (planned_rows plan store.now.rows)) (slots_in (planned_rows plan store.now.rows)) plan.changes) }
-    ensures cost { IfOk result (λ plan.
-        IsCost (labels_in store.now.rows) (labels_in (planned_rows plan store.now.rows)) label.order.id plan.evaluated) }
-    ensures spent { IfOk result (λ plan. steps.new ≡ steps.old + plan.evaluated) }
+    ensures { IfOk result (λ plan. IsPlanFor plan store.now.rows label.order.id (Some label) steps.old steps.new) }
 {
     let number = store.free();
     let roster = Roster::left(store, None);
@@ -140,15 +129,7 @@ pub fn plan_out<L: Ledger>(
 ) -> Result<Plan, AllocError>
     requires settled { IsSettled store.now.rows }
     requires live { HasId (labels_in store.now.rows) id.now }
-    ensures of_state { IfOk result (λ plan. IsPlanOf plan store.now.rows) }
-    ensures labels { IfOk result (λ plan.
-        IsEdited id.now None (labels_in store.now.rows) (labels_in (planned_rows plan store.now.rows))) }
-    ensures changes { IfOk result (λ plan.
-        AreChanges (labels_in store.now.rows) (slots_in store.now.rows)
-        (labels_in (planned_rows plan store.now.rows)) (slots_in (planned_rows plan store.now.rows)) plan.changes) }
-    ensures cost { IfOk result (λ plan.
-        IsCost (labels_in store.now.rows) (labels_in (planned_rows plan store.now.rows)) id.now plan.evaluated) }
-    ensures spent { IfOk result (λ plan. steps.new ≡ steps.old + plan.evaluated) }
+    ensures { IfOk result (λ plan. IsPlanFor plan store.now.rows id.now None steps.old steps.new) }
 {
     let at = place_of_id(store, id);
     let mut moves = Moves::new(alloc)?;
@@ -181,15 +162,7 @@ pub fn plan_instead<L: Ledger>(
 ) -> Result<Plan, AllocError>
     requires settled { IsSettled store.now.rows }
     requires live { HasId (labels_in store.now.rows) label.order.id }
-    ensures of_state { IfOk result (λ plan. IsPlanOf plan store.now.rows) }
-    ensures labels { IfOk result (λ plan.
-        IsEdited label.order.id (Some label) (labels_in store.now.rows) (labels_in (planned_rows plan store.now.rows))) }
-    ensures changes { IfOk result (λ plan.
-        AreChanges (labels_in store.now.rows) (slots_in store.now.rows)
-        (labels_in (planned_rows plan store.now.rows)) (slots_in (planned_rows plan store.now.rows)) plan.changes) }
-    ensures cost { IfOk result (λ plan.
-        IsCost (labels_in store.now.rows) (labels_in (planned_rows plan store.now.rows)) label.order.id plan.evaluated) }
-    ensures spent { IfOk result (λ plan. steps.new ≡ steps.old + plan.evaluated) }
+    ensures { IfOk result (λ plan. IsPlanFor plan store.now.rows label.order.id (Some label) steps.old steps.new) }
 {
     let at = place_of_id(store, label.id());
     let mut moves = Moves::new(alloc)?;

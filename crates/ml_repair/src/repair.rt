@@ -1,25 +1,28 @@
 //! New slots after one label comes or goes.
-ghost use Rattle.std.specs.Prelude.{ℕ, ◌≡◌, ◌≢◌, ◌+◌, ◌<◌, ◌≤◌, true, false, List, length, IfOk, MatchBool, slice_index_or, if◌then◌else◌};
+ghost use Rattle.std.specs.Prelude.{ℕ, ◌≡◌, ◌≢◌, ◌+◌, ◌<◌, ◌≤◌, ◌⊎◌, ◌↔◌, ◌++◌, ◌∷◌, [], true, false, IsTrue, List, length, Contains, IfOk, MatchBool, slice_index_or, if◌then◌else◌};
 ghost use Rattle.ml_ratio.specs.Fraction.{value_of, IsSame};
 ghost use Rattle.ml_cone.specs.Choice.{IsEnd};
 ghost use Rattle.ml_cone.specs.Slots.{ends};
 ghost use Rattle.ml_cone.specs.declared.label.Label.{Label};
 ghost use Rattle.ml_cone.specs.declared.slot.Slot.{Slot};
 ghost use Rattle.ml_store.specs.Rows.{number_at, labels_in};
+ghost use Rattle.ml_repair.specs.Kept.{IsOwnBefore};
 ghost use Rattle.ml_repair.specs.Plan.{slot_for};
 ghost use Rattle.ml_repair.specs.Repair.{Stands, AreOwn, AreLeaving, IsMovedAt, present_slots, present_at};
 ghost use Rattle.ml_repair.specs.Size.{IsSize};
-ghost use Rattle.ml_repair.specs.Touched.{IsTouched};
+ghost use Rattle.ml_repair.specs.Touched.{IsTouched, IsRivalBefore};
 
 use crate::chosen::present_slot;
+use crate::kept::settle_again;
 use crate::moves::Moves;
 use crate::roster::Roster;
-use crate::settle::settle;
+use crate::sought::Edited;
 use crate::wake::wake;
 use ml_cone::Slot;
 use ml_conflict::laws::{carried, rivals_or_free, smaller_ends};
 use ml_ratio::{Ratio, Steps};
 use std::alloc::{AllocError, Global};
+use std::cmp::Ordering;
 use std::sync::ledger::Ledger;
 
 /// Whether two ends differ.
@@ -39,20 +42,49 @@ fn put_slot(roster: &Roster<'_>, moves: &mut Moves, i: usize, slot: Slot) -> Res
     moves.put(row.number, slot)
 }
 
-// The label at `i` gets the slot that those before it leave; whether its end is another one than before.
-// It spends one step.
+// Whether the ends are the same.
+fn same_until(one: &Ratio, other: &Ratio) -> bool
+    ensures { IsTrue result → one.now ≡ other.now }
+{
+    match one.cmp(other) {
+        Ordering::Equal => true,
+        _ => false,
+    }
+}
+
+// Whether the blockers are the same, or there is none either time.
+fn same_blocker(one: Option<u32>, other: Option<u32>) -> bool
+    ensures { IsTrue result → one ≡ other }
+{
+    match (one, other) {
+        (Some(a), Some(b)) => a == b,
+        (None, None) => true,
+        _ => false,
+    }
+}
+
+// Whether the slots are the same.
+fn are_same(one: &Slot, other: &Slot) -> bool
+    ensures { IsTrue result → one.now ≡ other.now }
+{
+    same_until(&one.until, &other.until) && same_blocker(one.blocker, other.blocker)
+}
+
+// The label at `i` gets the slot that those before it leave, if that is another one; whether its end is another
+// one than before. It spends one step.
 fn renew<L: Ledger>(
     alloc: Global,
     roster: &Roster<'_>,
     moves: &mut Moves,
-    at: usize,
-    comes: bool,
+    changed: &[u32],
+    edited: Edited,
     i: usize,
     steps: &mut Steps<L>,
 ) -> Result<bool, AllocError>
     requires is_place { i < length roster.now }
-    requires ends { (d : Label) (j : ℕ) → Stands comes true at i j → IsEnd (slice_index_or (labels_in roster.now) j d) (ends (present_slots roster.now moves.old) j) }
-    ensures own { IfOk result (λ _. AreLeaving roster.now moves.old at comes i (present_at roster.now moves.new i)) }
+    requires ends { (d : Label) (j : ℕ) → Stands edited.comes true edited.at i j → IsEnd (slice_index_or (labels_in roster.now) j d) (ends (present_slots roster.now moves.old) j) }
+    requires known { IsOwnBefore roster.now moves.old edited.at edited.comes changed.now i }
+    ensures own { IfOk result (λ _. AreLeaving roster.now moves.old edited.at edited.comes i (present_at roster.now moves.new i)) }
     ensures others { IfOk result (λ _. (k : ℕ) → k ≢ i → present_at roster.now moves.new k ≡ present_at roster.now moves.old k) }
     ensures same { IfOk result (λ _. (n : ℕ) (own : Slot) → n ≢ number_at roster.now i → slot_for n own moves.new ≡ slot_for n own moves.old) }
     ensures moved { IfOk result (λ moved. MatchBool moved
@@ -61,9 +93,46 @@ fn renew<L: Ledger>(
     ensures spent { IfOk result (λ _. steps.new ≡ steps.old + 1) }
 {
     let old = present_slot(roster, moves, i);
-    let slot = settle(alloc, roster, moves, at, comes, i, steps)?;
-    put_slot(roster, moves, i, slot)?;
-    Ok(differs(old.until, slot.until))
+    let slot = settle_again(alloc, roster, moves, changed, edited, i, steps)?;
+    if are_same(&old, &slot) {
+        Ok(false)
+    } else {
+        put_slot(roster, moves, i, slot)?;
+        Ok(differs(old.until, slot.until))
+    }
+}
+
+// The places whose labels have other ends before any is evaluated: that of the edited label, where it comes.
+fn first_changed(alloc: Global, at: usize, comes: bool) -> Result<Vec<u32>, AllocError>
+    requires { at < 32768 }
+    ensures { IfOk result (λ places. (p : ℕ) → Contains places.items p ↔ ((p ≡ at) × (comes ≡ true))) }
+{
+    let mut places = Vec::new(alloc);
+    if comes {
+        places.push(at as u32)?;
+    }
+    Ok(places)
+}
+
+// The label at `i` has another end: its later rivals wait, and its place is noted.
+fn note(
+    alloc: Global,
+    roster: &Roster<'_>,
+    i: usize,
+    waits: &mut Vec<bool>,
+    changed: &mut Vec<u32>,
+) -> Result<(), AllocError>
+    requires one_each { length waits.old.items ≡ length roster.now }
+    requires is_place { i < length roster.now }
+    ensures one_each { IfOk result (λ _. length waits.new.items ≡ length roster.now) }
+    ensures woken { IfOk result (λ _. (k : ℕ) → k < length roster.now →
+        IsTrue (slice_index_or waits.new.items k false) ↔ (IsTrue (slice_index_or waits.old.items k false) ⊎ IsRivalBefore (labels_in roster.now) i k)) }
+    ensures noted { IfOk result (λ _. changed.new.items ≡ changed.old.items ++ i ∷ []) }
+{
+    let _many = roster.len();
+    wake(alloc, roster, i, waits)?;
+    changed.push(i as u32)?;
+    Ok(())
 }
 
 /// The new slots after the label at `at` comes or goes, and how many labels that touches: of the others
@@ -92,13 +161,15 @@ pub fn repair<L: Ledger>(
     smaller_ends();
     rivals_or_free();
     let many = roster.len();
+    let edited = Edited { at, comes };
     let mut waits = vec![in alloc; false; many]?;
+    let mut changed = first_changed(alloc, at, comes)?;
     wake(alloc, roster, at, &mut waits)?;
     let mut evaluated = if comes { 1 } else { 0 };
     for i in at + 1..many {
         if waits[i] {
-            if renew(alloc, roster, moves, at, comes, i, steps)? {
-                wake(alloc, roster, i, &mut waits)?;
+            if renew(alloc, roster, moves, &changed, edited, i, steps)? {
+                note(alloc, roster, i, &mut waits, &mut changed)?;
             }
             evaluated += 1;
         }

@@ -1,8 +1,9 @@
 //! The labels that an edit is planned over.
-ghost use Rattle.std.specs.Prelude.{ℕ, ◌≡◌, ◌+◌, ◌<◌, ◌≤◌, ◌⊎◌, ◌↔◌, List, length, insert, take, Contains, Option, Some, None, IsTrue, IsSome, IfSome, IfOk, MatchOption, HoldsAt, OnOk};
-ghost use Rattle.ml_store.specs.Rows.{IsFresh};
+ghost use Rattle.std.specs.Prelude.{ℕ, ◌≡◌, ◌+◌, ◌<◌, ◌≤◌, ◌⊎◌, ◌↔◌, List, length, insert, take, Contains, Option, Some, None, IsTrue, IsSome, IfSome, IfOk, MatchOption, HoldsAt, OnOk, slice_index_or};
+ghost use Rattle.ml_cone.specs.declared.label.Label.{Label};
+ghost use Rattle.ml_store.specs.Rows.{number_at, labels_in, IsFresh};
 ghost use Rattle.ml_store.specs.Search.{Gathers};
-ghost use Rattle.ml_store.specs.Table.{IsRowAt, IsPlaceIn};
+ghost use Rattle.ml_store.specs.Table.{IsRowAt, IsPlaceIn, slot_at};
 ghost use Rattle.ml_repair.specs.Roster.{left_rows, joined_rows, AreNumbered, AreFound, AreOverlapped, NoneBefore, PlacesCame, IsPlaceWithout};
 
 use ml_cone::Label;
@@ -160,8 +161,15 @@ fn push_place(roster: &Roster<'_>, number: u32, out: &mut Seq<u32>) -> Result<()
     }
 }
 
-// Appends the places of the numbers.
-fn push_places(roster: &Roster<'_>, numbers: &[u32], out: &mut Seq<u32>) -> Result<(), AllocError>
+/// Appends the places of those of the numbers that have one.
+///
+/// # Errors
+/// Want of memory.
+pub fn push_places(
+    roster: &Roster<'_>,
+    numbers: &[u32],
+    out: &mut Seq<u32>,
+) -> Result<(), AllocError>
     ensures { IfOk result (λ _. PlacesCame roster.now numbers.now out.old out.new) }
 {
     for number in numbers {
@@ -245,10 +253,13 @@ impl<'a> Roster<'a> {
         count
     }
 
-    /// The row at a place.
+    /// The row at a place, which has its number, its label and its slot.
     pub fn row(&self, place: usize) -> &Row
         requires { place < length self.now }
-        ensures { HoldsAt (λ r. r ≡ result.now) self.now place }
+        ensures row { HoldsAt (λ r. r ≡ result.now) self.now place }
+        ensures number { number_at self.now place ≡ result.now.number }
+        ensures label { (d : Label) → slice_index_or (labels_in self.now) place d ≡ result.now.label }
+        ensures slot { slot_at self.now place ≡ result.now.slot }
     {
         joined_row(self.store, self.gone, self.come, self.at, place)
     }

@@ -10,6 +10,7 @@ use crate::chosen::Chosen;
 use crate::gather::gather;
 use crate::moves::Moves;
 use crate::roster::Roster;
+use crate::sought::{Edited, Sought};
 use ml_cone::Slot;
 use ml_cone::laws::{bound_overlaps, rivals_overlap};
 use ml_conflict::evaluate;
@@ -27,14 +28,13 @@ pub fn settle<L: Ledger>(
     alloc: Global,
     roster: &Roster<'_>,
     moves: &Moves,
-    at: usize,
-    comes: bool,
+    edited: Edited,
     i: usize,
     steps: &mut Steps<L>,
 ) -> Result<Slot, AllocError>
     requires is_place { i < length roster.now }
-    requires ends { (d : Label) (j : ℕ) → Stands comes true at i j → IsEnd (slice_index_or (labels_in roster.now) j d) (ends (present_slots roster.now moves.now) j) }
-    ensures own { IfOk result (AreLeaving roster.now moves.now at comes i) }
+    requires ends { (d : Label) (j : ℕ) → Stands edited.comes true edited.at i j → IsEnd (slice_index_or (labels_in roster.now) j d) (ends (present_slots roster.now moves.now) j) }
+    ensures own { IfOk result (AreLeaving roster.now moves.now edited.at edited.comes i) }
     ensures spent { IfOk result (λ _. steps.new ≡ steps.old + 1) }
 {
     carried();
@@ -47,7 +47,14 @@ pub fn settle<L: Ledger>(
     bound_overlaps();
     let row = roster.row(i);
     let low = &row.label;
-    let places = gather(alloc, roster, moves, low, at, comes, i)?;
+    let sought = Sought {
+        roster,
+        moves,
+        low,
+        edited,
+        place: i,
+    };
+    let places = gather(alloc, &sought)?;
     let chosen = Chosen {
         low,
         roster,

@@ -4,6 +4,7 @@ ghost use Rattle.ml_repair.specs.Repair.{AreSuspects, IsWokenBy};
 ghost use Rattle.ml_repair.specs.Touched.{IsRivalBefore};
 ghost use Rattle.ml_store.specs.Rows.{labels_in};
 
+use crate::gather::ascending;
 use crate::roster::Roster;
 use ml_cone::Label;
 use ml_cone::laws::rivals_share;
@@ -53,7 +54,8 @@ fn wake_among(roster: &Roster<'_>, places: &[u32], i: usize, waits: &mut Vec<boo
     }
 }
 
-/// The later rivals of the label at `i` wait from now on.
+/// The later rivals of the label at `i` wait from now on. A label that is found in several bands is judged
+/// once.
 ///
 /// # Errors
 /// Want of memory.
@@ -70,7 +72,7 @@ pub fn wake(
         IsTrue (slice_index_or waits.new.items k false) ↔ (IsTrue (slice_index_or waits.old.items k false) ⊎ IsRivalBefore (labels_in roster.now) i k)) }
 {
     let row = roster.row(i);
-    let places = suspects(alloc, roster, &row.label)?;
-    wake_among(roster, places.as_slice(), i, waits);
+    let places = ascending(suspects(alloc, roster, &row.label)?);
+    wake_among(roster, &places, i, waits);
     Ok(())
 }

@@ -6,7 +6,7 @@ use Rattle.std.proofs.lemmas.List.{take_all}
 use Rattle.std.proofs.lemmas.Nat.{mul-le}
 use mir.Syntax.{w128}
 use Rattle.ml_ratio.specs.World.{IsInWorld}
-use Rattle.ml_ratio.proofs.Floors.{size_le}
+use Rattle.ml_ratio.proofs.lemmas.Rounding.{size_le}
 use Rattle.ml_river.specs.declared.class.RiverClass.{RiverClass}
 use Rattle.ml_river.specs.Chain.{width, edge}
 

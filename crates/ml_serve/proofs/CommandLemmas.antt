@@ -1,10 +1,9 @@
 -- What the command printed, and the connections that it served.
-use Rattle.std.proofs.Common.{◌≡◌, ℕ, ◌<◌, ◌≤◌, ◌⊎◌, inl, inr, List, [], ◌∷◌, ◌++◌, length, take, flat_map, codes, Option, refl, sym, ap, ◌∙◌, append-nil, arith}
+use Rattle.std.proofs.Common.{◌≡◌, ℕ, ◌<◌, ◌≤◌, ◌⊎◌, inl, inr, true, false, List, [], ◌∷◌, ◌++◌, length, take, flat_map, codes, Option, refl, sym, ap, ◌∙◌, append-nil, arith}
 use Rattle.std.proofs.lemmas.List.{length-append, take-append-le}
 use Rattle.ml_io.specs.declared.link.Link.{Link}
-use Rattle.ml_io.specs.Causes.{Appends, AppendsPart}
+use Rattle.ml_io.specs.Causes.{one_more, Appends, AppendsPart}
 use Rattle.ml_io.specs.Takes.{HasRunOut}
-use Rattle.ml_io.proofs.Pieces.{appends_twice}
 use Rattle.ml_watch.specs.Hearing.{Hearing}
 use Rattle.ml_http.specs.Connection.{IsCut}
 use Rattle.ml_http.specs.Link.{LinkState}
@@ -12,9 +11,10 @@ use Rattle.ml_http.specs.Step.{LinkAnswer}
 use Rattle.ml_serve.specs.Session.{Visit, HasServed}
 use Rattle.ml_serve.specs.Visit.{IsVisit}
 use Rattle.ml_serve.specs.Headline.{Headline}
-use Rattle.ml_serve.specs.Printed.{served_line, AreDone, AreOfFault, AreFirst, IsFaultSaid, IsEndOfServing}
+use Rattle.ml_serve.specs.Printed.{served_line, AreDone, AreOfFault, AreFirst, IsFaultSaid, DoorSaid, IsCalm, HasFailed, IsEndOfServing}
 use Rattle.ml_serve.specs.declared.serve_end.ServeEnd.{ServeEnd}
 use Rattle.ml_serve.specs.declared.serve_end.ServeEnd.TheVariants.{Done, WriteFault, DoorFault}
+use Rattle.ml_serve.proofs.Called.{PutTwice, NothingHeard, HeardTwice}
 use Rattle.ml_serve.proofs.VisitLemmas.{hears_follow}
 
 appends_so : (w w' : Option (List ℕ)) (p q : List ℕ) → p ≡ q → Appends w w' p → Appends w w' q
@@ -29,50 +29,54 @@ two_lines a b = ap (λ t. a ++ t) (append-nil b)
 cut_first : (w w' : Option (List ℕ)) (a : List ℕ) → AppendsPart w w' a → IsCut w w' (a ∷ [])
 cut_first w w' a part = record { front = []; last = a; parts = refl; size = part.0; short = part.1; wrote = part.2 }
 
-cut_second : (w w' w'' : Option (List ℕ)) (a b : List ℕ) → Appends w w' a → AppendsPart w' w'' b → IsCut w w'' (a ∷ b ∷ [])
-cut_second w w' w'' a b first part = record {
-  front = a ∷ [];
-  last = b;
-  parts = refl;
-  size = part.0;
-  short = part.1;
-  wrote = appends_so w w'' (a ++ take part.0 b) (flat_map (λ text. text) (a ∷ []) ++ take part.0 b) (ap (λ t. t ++ take part.0 b) (sym (one_line a))) (appends_twice w w' w'' a (take part.0 b) first part.2);
-}
+module _ (twice : PutTwice ℕ) where
+  cut_second : (w w' w'' : Option (List ℕ)) (a b : List ℕ) → Appends w w' a → AppendsPart w' w'' b → IsCut w w'' (a ∷ b ∷ [])
+  cut_second w w' w'' a b first part = record {
+    front = a ∷ [];
+    last = b;
+    parts = refl;
+    size = part.0;
+    short = part.1;
+    wrote = appends_so w w'' (a ++ take part.0 b) (flat_map (λ text. text) (a ∷ []) ++ take part.0 b) (ap (λ t. t ++ take part.0 b) (sym (one_line a))) (twice w w' w'' a (take part.0 b) first part.2);
+  }
 
-pub end_done : {X : Type 0} (count n : ℕ) (c : Option (List X)) (w w' w'' : Option (List ℕ)) → n ≤ count → (n ≡ count) ⊎ HasRunOut c → Appends w w' (codes "ready\n") → Appends w' w'' (served_line n) → IsEndOfServing count n c w w'' Done
-end_done count n c w w' w'' few enough ready line = (
-  codes "ready\n" ∷ served_line n ∷ [],
-  record { few = few; enough = enough; due = refl },
-  appends_so w w'' (codes "ready\n" ++ served_line n) (flat_map (λ line. line) (codes "ready\n" ∷ served_line n ∷ [])) (sym (two_lines (codes "ready\n") (served_line n))) (appends_twice w w' w'' (codes "ready\n") (served_line n) ready line),
-)
+  pub end_done : {X : Type 0} (count n : ℕ) (door : DoorSaid X) (w w' w'' : Option (List ℕ)) → IsCalm door → n ≤ count → (n ≡ count) ⊎ HasRunOut door.coming_after → Appends w w' (codes "ready\n") → Appends w' w'' (served_line n) → IsEndOfServing count n door w w'' Done
+  end_done count n door w w' w'' calm few enough ready line = (
+    codes "ready\n" ∷ served_line n ∷ [],
+    record { few = few; enough = enough; due = refl },
+    calm,
+    appends_so w w'' (codes "ready\n" ++ served_line n) (flat_map (λ line. line) (codes "ready\n" ∷ served_line n ∷ [])) (sym (two_lines (codes "ready\n") (served_line n))) (twice w w' w'' (codes "ready\n") (served_line n) ready line),
+  )
 
-pub end_cut : {X : Type 0} (count n : ℕ) (c : Option (List X)) (w w' w'' : Option (List ℕ)) → n ≤ count → (n ≡ count) ⊎ HasRunOut c → Appends w w' (codes "ready\n") → AppendsPart w' w'' (served_line n) → IsEndOfServing count n c w w'' WriteFault
-end_cut count n c w w' w'' few enough ready part =
-    (codes "ready\n" ∷ served_line n ∷ [], inl (record { few = few; enough = enough; due = refl }), cut_second w w' w'' (codes "ready\n") (served_line n) ready part)
+  pub end_cut : {X : Type 0} (count n : ℕ) (door : DoorSaid X) (w w' w'' : Option (List ℕ)) → IsCalm door → n ≤ count → (n ≡ count) ⊎ HasRunOut door.coming_after → Appends w w' (codes "ready\n") → AppendsPart w' w'' (served_line n) → IsEndOfServing count n door w w'' WriteFault
+  end_cut count n door w w' w'' calm few enough ready part =
+      (codes "ready\n" ∷ served_line n ∷ [], inl (inl (record { few = few; enough = enough; due = refl }), calm), cut_second w w' w'' (codes "ready\n") (served_line n) ready part)
 
-pub end_first : {X : Type 0} (count : ℕ) (c : Option (List X)) (w w' : Option (List ℕ)) → AppendsPart w w' (codes "ready\n") → IsEndOfServing count 0 c w w' WriteFault
-end_first count c w w' part = (codes "ready\n" ∷ [], inr (inr (refl, refl)), cut_first w w' (codes "ready\n") part)
+  pub end_fault_later : {X : Type 0} (count n : ℕ) (door : DoorSaid X) (w w' w'' : Option (List ℕ)) (status : ServeEnd) → door.listens ≡ true → door.faults_after ≡ one_more door.faults → n < count → Appends w w' (codes "ready\n") → IsFaultSaid w' w'' status → IsEndOfServing count n door w w'' status
+  end_fault_later count n door w w' w'' Done listens failed few ready said = absurd said
+  end_fault_later count n door w w' w'' DoorFault listens failed few ready said =
+      (codes "ready\n" ∷ codes "door fault\n" ∷ [], (rw listens (few, refl), failed), twice w w' w'' (codes "ready\n") (codes "door fault\n") ready said)
+  end_fault_later count n door w w' w'' WriteFault listens failed few ready said =
+      (codes "ready\n" ∷ codes "door fault\n" ∷ [], inr (rw listens (few, refl), failed), cut_second w w' w'' (codes "ready\n") (codes "door fault\n") ready said)
 
-pub end_fault : {X : Type 0} (count : ℕ) (c : Option (List X)) (w w' : Option (List ℕ)) (status : ServeEnd) → IsFaultSaid w w' status → IsEndOfServing count 0 c w w' status
-end_fault count c w w' Done said = absurd said
-end_fault count c w w' DoorFault said = (codes "door fault\n" ∷ [], inl (refl, refl), said)
-end_fault count c w w' WriteFault said = (codes "door fault\n" ∷ [], inr (inl (inl (refl, refl))), cut_first w w' (codes "door fault\n") said)
+pub end_first : {X : Type 0} (count : ℕ) (door : DoorSaid X) (w w' : Option (List ℕ)) → IsCalm door → AppendsPart w w' (codes "ready\n") → IsEndOfServing count 0 door w w' WriteFault
+end_first count door w w' calm part = (codes "ready\n" ∷ [], inl (inr (refl, refl), calm), cut_first w w' (codes "ready\n") part)
 
-pub end_fault_later : {X : Type 0} (count n : ℕ) (c : Option (List X)) (w w' w'' : Option (List ℕ)) (status : ServeEnd) → n < count → Appends w w' (codes "ready\n") → IsFaultSaid w' w'' status → IsEndOfServing count n c w w'' status
-end_fault_later count n c w w' w'' Done few ready said = absurd said
-end_fault_later count n c w w' w'' DoorFault few ready said = (codes "ready\n" ∷ codes "door fault\n" ∷ [], inr (few, refl), appends_twice w w' w'' (codes "ready\n") (codes "door fault\n") ready said)
-end_fault_later count n c w w' w'' WriteFault few ready said = (codes "ready\n" ∷ codes "door fault\n" ∷ [], inr (inl (inr (few, refl))), cut_second w w' w'' (codes "ready\n") (codes "door fault\n") ready said)
+pub end_fault : {X : Type 0} (count : ℕ) (door : DoorSaid X) (w w' : Option (List ℕ)) (status : ServeEnd) → door.listens ≡ false → door.faults_after ≡ one_more door.faults → IsFaultSaid w w' status → IsEndOfServing count 0 door w w' status
+end_fault count door w w' Done deaf failed said = absurd said
+end_fault count door w w' DoorFault deaf failed said = (codes "door fault\n" ∷ [], (rw deaf (refl, refl), failed), said)
+end_fault count door w w' WriteFault deaf failed said = (codes "door fault\n" ∷ [], inr (rw deaf (refl, refl), failed), cut_first w w' (codes "door fault\n") said)
 
 -- the same from equal lists
 pub served_from : {S I O A : Type 0} (one : S → Visit I O A → S → Type 0) (n : ℕ) (b c c' a d d' : Option (List (Link I O))) (old new : S) → c ≡ b → d ≡ a → HasServed one n c c' d d' old new → HasServed one n b c' a d' old new
 served_from one n b c c' a d d' old new same same_done served = rw (sym same, sym same_done) served
 
 -- the connections served, and the end of the command
-pub headline_of : {W I O : Type 0} (hearing : W → Hearing) (left : I → Option (List ℕ)) (read_faults : I → ℕ) (written : O → Option (List ℕ)) (write_faults : O → ℕ) (old new : LinkState W) (c c' d d' : Option (List (Link I O))) (count n : ℕ) (w w' : Option (List ℕ)) (status : ServeEnd) →
-    HasServed (IsVisit hearing left read_faults written write_faults) n c c' d d' old new → IsEndOfServing count n c' w w' status →
-    (visits : List (Visit I O LinkAnswer)) × Headline (IsVisit hearing left read_faults written write_faults) (λ s. s.crowd) hearing old new c c' d d' visits × IsEndOfServing count (length visits) c' w w' status
-headline_of hearing left read_faults written write_faults old new c c' d d' count n w w' status served end = (
+pub headline_of : {W I O : Type 0} (hearing : W → Hearing) → NothingHeard hearing → HeardTwice hearing → (left : I → Option (List ℕ)) (read_faults : I → ℕ) (written : O → Option (List ℕ)) (write_faults : O → ℕ) (old new : LinkState W) (c c' d d' : Option (List (Link I O))) (count n : ℕ) (door : DoorSaid (Link I O)) (w w' : Option (List ℕ)) (status : ServeEnd) →
+    HasServed (IsVisit hearing left read_faults written write_faults) n c c' d d' old new → IsEndOfServing count n door w w' status →
+    (visits : List (Visit I O LinkAnswer)) × Headline (IsVisit hearing left read_faults written write_faults) (λ s. s.crowd) hearing old new c c' d d' visits × IsEndOfServing count (length visits) door w w' status
+headline_of hearing none twice left read_faults written write_faults old new c c' d d' count n door w w' status served end = (
   served.visits,
-  record { came = served.came; gone = served.gone; replies = served.states; hears = hears_follow hearing left read_faults written write_faults old new served.visits served.states },
+  record { came = served.came; gone = served.gone; replies = served.states; hears = hears_follow hearing none twice left read_faults written write_faults old new served.visits served.states },
   rw served.number end,
 )

@@ -1,3 +1,4 @@
-pub mod CommandLemmas
-pub mod SessionLemmas
-pub mod VisitLemmas
+mod Called
+mod CommandLemmas
+mod SessionLemmas
+mod VisitLemmas

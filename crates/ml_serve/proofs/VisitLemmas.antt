@@ -4,7 +4,6 @@ use Rattle.ml_io.specs.declared.link.Link.{Link}
 use Rattle.ml_io.specs.Causes.{Appends}
 use Rattle.ml_io.specs.Takes.{Takes}
 use Rattle.ml_watch.specs.Hearing.{Hearing, AllHear}
-use Rattle.ml_watch.proofs.Hearings.{all_hear_nothing, all_hear_twice}
 use Rattle.ml_http.specs.declared.connection_end.ConnEnd.{ConnEnd}
 use Rattle.ml_http.specs.Connection.{HasEndCause}
 use Rattle.ml_http.specs.Link.{LinkState, IsLinkServed}
@@ -12,6 +11,7 @@ use Rattle.ml_http.specs.Step.{LinkAnswer}
 use Rattle.ml_serve.specs.Session.{Visit, Follow, HasServed}
 use Rattle.ml_serve.specs.Visit.{IsVisit}
 use Rattle.ml_serve.specs.Headline.{changes_in}
+use Rattle.ml_serve.proofs.Called.{NothingHeard, HeardTwice}
 use Rattle.ml_serve.proofs.SessionLemmas.{served_one}
 
 pub served_link : {W I O : Type 0} (hearing : W → Hearing) (left : I → Option (List ℕ)) (read_faults : I → ℕ) (written : O → Option (List ℕ)) (write_faults : O → ℕ) (old new : LinkState W) (came gone : Link I O) (end : ConnEnd) (c c' d d' : Option (List (Link I O))) →
@@ -23,10 +23,10 @@ served_link hearing left read_faults written write_faults old new came gone end 
     served_one (IsVisit hearing left read_faults written write_faults) (record { came = came; gone = gone; exchange = served.served.exchange; end = end }) c c' d d' old new comes goes
     (record { served = served; exchange = refl; cause = cause })
 
-pub hears_follow : {W I O : Type 0} (hearing : W → Hearing) (left : I → Option (List ℕ)) (read_faults : I → ℕ) (written : O → Option (List ℕ)) (write_faults : O → ℕ) (old new : LinkState W) (visits : List (Visit I O LinkAnswer)) →
+pub hears_follow : {W I O : Type 0} (hearing : W → Hearing) → NothingHeard hearing → HeardTwice hearing → (left : I → Option (List ℕ)) (read_faults : I → ℕ) (written : O → Option (List ℕ)) (write_faults : O → ℕ) (old new : LinkState W) (visits : List (Visit I O LinkAnswer)) →
     Follow (IsVisit hearing left read_faults written write_faults) old visits new → AllHear hearing (flat_map changes_in visits) old.crowd new.crowd
-hears_follow hearing left read_faults written write_faults old new [] follow = rw (ap (λ s. s.crowd) follow) (all_hear_nothing hearing old.crowd)
-hears_follow hearing left read_faults written write_faults old new (visit ∷ visits) follow =
-    all_hear_twice hearing (changes_in visit) (flat_map changes_in visits) old.crowd follow.0.crowd new.crowd
+hears_follow hearing none twice left read_faults written write_faults old new [] follow = rw (ap (λ s. s.crowd) follow) (none old.crowd)
+hears_follow hearing none twice left read_faults written write_faults old new (visit ∷ visits) follow =
+    twice (changes_in visit) (flat_map changes_in visits) old.crowd follow.0.crowd new.crowd
     (rw follow.1.exchange follow.1.served.hears)
-    (hears_follow hearing left read_faults written write_faults follow.0 new visits follow.2)
+    (hears_follow hearing none twice left read_faults written write_faults follow.0 new visits follow.2)

@@ -1,10 +1,9 @@
 //! Listens, serves, and says so.
 ghost use Rattle.std.specs.Prelude.{◌≡◌, ◌≤◌, List, Some, None, false, length};
-ghost use Rattle.ml_io.specs.Causes.{Rose};
 ghost use Rattle.ml_http.specs.Link.{AreTexts, lent};
 ghost use Rattle.ml_http.specs.Step.{LinkAnswer};
 ghost use Rattle.ml_serve.specs.Headline.{Headline};
-ghost use Rattle.ml_serve.specs.Printed.{IsEndOfServing, IsFaultSaid, HasServeCause};
+ghost use Rattle.ml_serve.specs.Printed.{IsEndOfServing, IsFaultSaid, HasServeCause, prints_after};
 ghost use Rattle.ml_serve.specs.Session.{Visit};
 ghost use Rattle.ml_serve.specs.Visit.{IsVisit};
 
@@ -12,9 +11,11 @@ use crate::line::put_served;
 use crate::links::serve_links;
 use crate::serve_end::ServeEnd;
 use ml_editor::Editor;
-use ml_io::{Door, Sink, put_all};
+use ml_io::laws::{append_nothing, append_twice, take_nothing};
+use ml_io::{Door, Link, Sink, put_all};
 use ml_ratio::Steps;
 use ml_tile::Tiles;
+use ml_watch::laws::{hear_nothing, hear_twice};
 use ml_watch::{Crowd, Watcher};
 use std::alloc::Global;
 use std::sync::ledger::Ledger;
@@ -40,12 +41,19 @@ pub fn serve<K: Sink, D: Door, W: Watcher, L: Ledger>(
         × Headline (IsVisit W.hearing D.In.left D.In.faults D.Out.written D.Out.faults) (λ s. s.crowd) W.hearing
         (lent editor.old crowd.old tiles.old steps.old) (lent editor.new crowd.new tiles.new steps.new)
         (D.coming door.old) (D.coming door.new) (D.served door.old) (D.served door.new) visits
-        × IsEndOfServing count (length visits) (D.coming door.new) (K.written out.old) (K.written out.new) result }
+        × IsEndOfServing count (length visits)
+        (record { listens = D.listens door.new; coming_after = D.coming door.new; faults = D.faults door.old; faults_after = D.faults door.new })
+        (K.written out.old) (K.written out.new) result }
+    ensures texts { AreTexts editor.new.state tiles.new.tiles }
     ensures out { D.is_out door.new ≡ false }
-    ensures unready { D.listens door.new ≡ false → IsFaultSaid (K.written out.old) (K.written out.new) result }
     ensures port { D.at_port door.new ≡ Some port }
     ensures cause { HasServeCause (D.faults door.old) (D.faults door.new) (K.faults out.old) (K.faults out.new) result }
 {
+    take_nothing::<Link<D::In, D::Out>>();
+    append_nothing::<Link<D::In, D::Out>>();
+    append_twice::<u8>();
+    hear_nothing::<W>();
+    hear_twice::<W>();
     match door.listen(port) {
         Ok(()) => {}
         Err(_) => return say_fault(out),
@@ -67,7 +75,7 @@ pub fn serve<K: Sink, D: Door, W: Watcher, L: Ledger>(
 fn say_fault<K: Sink>(out: &mut K) -> ServeEnd
     ensures said { IsFaultSaid (K.written out.old) (K.written out.new) result }
     ensures later { K.faults out.old ≤ K.faults out.new }
-    ensures cause { result ≡ ServeEnd.WriteFault → Rose (K.faults out.old) (K.faults out.new) }
+    ensures writes { K.faults out.new ≡ prints_after result (K.faults out.old) }
 {
     match put_all(out, b"door fault\n") {
         Ok(()) => ServeEnd::DoorFault,

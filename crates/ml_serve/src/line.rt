@@ -3,6 +3,7 @@ ghost use Rattle.std.specs.Prelude.{OnOk, OnErr};
 ghost use Rattle.ml_io.specs.Causes.{HasCause, Appends, AppendsPart};
 ghost use Rattle.ml_serve.specs.Printed.{served_line};
 
+use ml_io::laws::{append_part_after, append_twice, part_of_more};
 use ml_io::{Failed, Sink, put_all, put_number};
 
 /// Writes how many connections were served. It takes no memory.
@@ -15,6 +16,9 @@ pub(crate) fn put_served<K: Sink>(sink: &mut K, number: u64) -> Result<(), Faile
     ensures err { OnErr result (AppendsPart (K.written sink.old) (K.written sink.new) (served_line number)) }
     ensures cause { HasCause (K.faults sink.old) (K.faults sink.new) result }
 {
+    append_twice::<u8>();
+    append_part_after();
+    part_of_more();
     match put_all(sink, b"served ") {
         Ok(()) => {}
         Err(_) => return Err(Failed),

@@ -8,7 +8,8 @@ ghost use Rattle.ml_serve.specs.Visit.{IsVisit};
 
 use ml_editor::Editor;
 use ml_http::serve_link;
-use ml_io::{Door, Failed};
+use ml_io::laws::{append_nothing, append_twice, take_nothing, take_twice};
+use ml_io::{Door, Failed, Link};
 use ml_ratio::Steps;
 use ml_tile::Tiles;
 use ml_watch::{Crowd, Watcher};
@@ -49,6 +50,10 @@ pub fn serve_links<D: Door, W: Watcher, L: Ledger>(
     ensures port { D.at_port door.new ≡ D.at_port door.old }
     ensures cause { HasCause (D.faults door.old) (D.faults door.new) result }
 {
+    take_nothing::<Link<D::In, D::Out>>();
+    take_twice::<Link<D::In, D::Out>>();
+    append_nothing::<Link<D::In, D::Out>>();
+    append_twice::<Link<D::In, D::Out>>();
     let mut served = 0;
     'links: while served < count {
         match serve_next(alloc, editor, door, crowd, tiles, steps) {
@@ -82,6 +87,8 @@ fn serve_next<D: Door, W: Watcher, L: Ledger>(
     ensures port { D.at_port door.new ≡ D.at_port door.old }
     ensures cause { HasCause (D.faults door.old) (D.faults door.new) result }
 {
+    take_nothing::<Link<D::In, D::Out>>();
+    append_nothing::<Link<D::In, D::Out>>();
     match door.next() {
         Ok(Some(link)) => {
             let mut link = link;

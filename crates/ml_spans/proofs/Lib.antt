@@ -1,12 +1,15 @@
-pub mod Lists
-pub mod Entries
-pub mod Greatest
-pub mod Forks
-pub mod Found
-pub mod Rising
-pub mod Depth
-pub mod Members
-pub mod Placed
-pub mod Raised
-pub mod Results
-pub mod Wanted
+mod Lists
+mod Entries
+mod Greatest
+mod Forks
+mod Found
+mod Rising
+mod Depth
+mod Digits
+mod Members
+mod Placed
+mod Raised
+mod Replaced
+mod Results
+mod Sorted
+mod Wanted

@@ -1,5 +1,5 @@
 -- Where an entry stands in the list of a tree, from where it stands to the entry of the top node.
-use Rattle.std.proofs.Common.{◌≡◌, ℕ, List, [], ◌∷◌, ◌++◌, Option, Some, None, MatchOption, Box, refl, sym, ap, ◌∙◌, subst}
+use Rattle.std.proofs.Common.{◌≡◌, ℕ, Bool, true, false, List, [], ◌∷◌, ◌++◌, map, Option, Some, None, MatchBool, MatchOption, Box, refl, sym, ap, ◌∙◌, subst}
 use Rattle.std.specs.List.{AllByRecursion}
 use Rattle.std.specs.Ordering.{ordering_reverse}
 use Rattle.std.specs.Option.{IsSome}
@@ -8,7 +8,8 @@ use Rattle.std.specs.declared.alloc.Global.{Global}
 use Rattle.std.specs.declared.cmp.Ordering.{Ordering}
 use Rattle.std.specs.declared.cmp.Ordering.TheVariants.{Less, Equal, Greater}
 use Rattle.ml_spans.specs.Key.{IsExact}
-use Rattle.ml_spans.specs.Order.{IsRising, IsNew, IsAdded}
+use Rattle.ml_spans.specs.Order.{IsRising, IsNew, IsReplaced}
+use Rattle.ml_ratio.specs.Lists.{IsAdded}
 use Rattle.ml_spans.specs.Sound.{entries, entries_in, IsOpened}
 use Rattle.ml_spans.specs.declared.entry.Entry.{Entry}
 use Rattle.ml_spans.specs.declared.shape.Content.{Content}
@@ -16,7 +17,7 @@ use Rattle.ml_spans.specs.declared.shape.Node.{Node}
 use Rattle.ml_spans.specs.declared.shape.Tree.{Tree}
 use Rattle.ml_spans.specs.declared.shape.Tree.TheVariants.{Fork}
 use Rattle.ml_spans.proofs.Lists.{all_append, all_front, all_back, all_weaker}
-use Rattle.ml_spans.proofs.Rising.{IsAround, around, apart, above_apart, rises_left, rises_right, added_left, added_right}
+use Rattle.ml_spans.proofs.Rising.{IsAround, around, apart, above_apart, rises_left, rises_right, added_left, added_right, replaced_left, replaced_right}
 
 -- the list `all` has one element between `left` and `right`, to which x stands as `place` says
 pub record IsPlaced {A : Type 0} (order : A → A → Ordering) (x : A) (place : Ordering) (all left held right : List A) : Type 0 where
@@ -106,3 +107,27 @@ module _ {A : Type 0} {order : A → A → Ordering} (o : IsTotalOrder order) {x
   take_middle exact result e is =
       let same : x ≡ p.middle = exact x p.middle (p.stands ∙ e) in
       record { before = left; after = right; was = is; is = p.parts ∙ ap (λ (y : A). left ++ (y ∷ right)) (sym same) }
+
+  pub set_left : (y : A) (there : Bool) (new result : List A) → place ≡ Less → IsRising order all → MatchBool there (IsReplaced x y left new) ((new ≡ left) × IsNew order x left) → result ≡ new ++ (held ++ right) →
+      MatchBool there (IsReplaced x y all result) ((result ≡ all) × IsNew order x all)
+  set_left y false new result e s h is = (is ∙ ap (λ (l : List A). l ++ (held ++ right)) h.0 ∙ ap (λ (m : List A). left ++ (m ++ right)) p.holds ∙ sym p.parts, new_from_left e s h.1)
+  set_left y true new result e s h is =
+      let back : result ≡ new ++ (p.middle ∷ right) = is ∙ ap (λ (m : List A). new ++ (m ++ right)) p.holds in
+      rw (p.parts, back) (replaced_left (p.middle ∷ right) h)
+
+  pub set_right : (y : A) (there : Bool) (new result : List A) → place ≡ Greater → IsRising order all → MatchBool there (IsReplaced x y right new) ((new ≡ right) × IsNew order x right) → result ≡ left ++ (held ++ new) →
+      MatchBool there (IsReplaced x y all result) ((result ≡ all) × IsNew order x all)
+  set_right y false new result e s h is = (is ∙ ap (λ (l : List A). left ++ (held ++ l)) h.0 ∙ ap (λ (m : List A). left ++ (m ++ right)) p.holds ∙ sym p.parts, new_from_right e s h.1)
+  set_right y true new result e s h is =
+      let back : result ≡ left ++ (p.middle ∷ new) = is ∙ ap (λ (m : List A). left ++ (m ++ new)) p.holds in
+      rw (p.parts, back) (replaced_right left (replaced_right (p.middle ∷ []) h))
+
+  pub set_middle : IsExact order → (change : A → A) (result : List A) → place ≡ Equal → result ≡ left ++ (map change held ++ right) → IsReplaced x (change x) all result
+  set_middle exact change result e is =
+      let same : x ≡ p.middle = exact x p.middle (p.stands ∙ e) in
+      record {
+        before = left;
+        after = right;
+        was = p.parts ∙ ap (λ (y : A). left ++ (y ∷ right)) (sym same);
+        is = is ∙ ap (λ (h : List A). left ++ (map change h ++ right)) p.holds ∙ ap (λ (y : A). left ++ (change y ∷ right)) (sym same);
+      }

@@ -2,7 +2,8 @@
 use Rattle.std.proofs.Common.{◌≡◌, List, [], ◌∷◌, ◌++◌, inl, inr, Option, Some, None, MatchOption, refl, sym, subst}
 use Rattle.std.specs.Cmp.{IsTotalOrder, upto}
 use Rattle.std.specs.declared.cmp.Ordering.{Ordering}
-use Rattle.ml_spans.specs.Order.{IsUpTo, IsNew, IsAdded}
+use Rattle.ml_spans.specs.Order.{IsUpTo, IsNew}
+use Rattle.ml_ratio.specs.Lists.{IsAdded}
 use Rattle.ml_spans.specs.Sound.{HasEnd, IsGreatest, HoldsGreatest, HoldsGreatestBut, HoldsGreatestUnless}
 use Rattle.ml_spans.specs.declared.entry.Entry.{Entry}
 use Rattle.ml_spans.specs.declared.shape.Content.{Content}

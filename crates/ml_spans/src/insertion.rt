@@ -1,6 +1,7 @@
 //! An entry put into a tree.
 ghost use Rattle.std.specs.Prelude.{◌≡◌, ℕ, ◌+◌, ◌≤◌, ◌^◌, ◌∷◌, []};
-ghost use Rattle.ml_spans.specs.Order.{entry_order, IsRising, IsNew, IsAdded};
+ghost use Rattle.ml_spans.specs.Order.{entry_order, IsRising, IsNew};
+ghost use Rattle.ml_ratio.specs.Lists.{IsAdded};
 ghost use Rattle.ml_spans.specs.Sound.{entries, depth, IsSound};
 
 use crate::change::grow;

@@ -3,26 +3,28 @@
 //!
 //! - [`key`]: values that can be keys, ends and values of an index;
 //! - [`entry`]: one entry, and the order of entries;
-//! - [`span_tree`]: the index itself ([`SpanTree`]);
-//! - [`laws`]: what a change or a search says of single entries.
+//! - [`span_tree`]: the index itself ([`SpanTree`]).
 //!
 //! Within: [`shape`] has the nodes of the tree, [`ends`] their greatest ends, [`node`] one node over
-//! two sides, [`balance`] the turns that keep sides almost as high as one another; [`insertion`] and
-//! [`removal`] change a tree by one entry, [`query`] and [`search`] look through it.
+//! two sides, [`balance`] the turns that keep sides almost as high as one another; [`bulk`] makes a
+//! tree of many entries, which [`sorting`] puts in order; [`insertion`] and [`removal`] change it by
+//! one entry, [`moving`] gives an entry another end, [`query`] and [`search`] look through it.
 #![tactic(auto)]
 
 mod balance;
+mod bulk;
 mod change;
 mod ends;
 pub mod entry;
 mod insertion;
 pub mod key;
-pub mod laws;
+mod moving;
 mod node;
 mod query;
 mod removal;
 mod search;
 mod shape;
+pub mod sorting;
 pub mod span_tree;
 
 pub use entry::Entry;

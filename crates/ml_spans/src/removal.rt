@@ -1,7 +1,8 @@
 //! An entry taken out of a tree.
 ghost use Rattle.std.specs.Prelude.{◌≡◌, ℕ, ◌+◌, ◌≤◌, ◌^◌, ◌++◌, max, MatchOption};
 ghost use Rattle.std.specs.Option.{IsSome};
-ghost use Rattle.ml_spans.specs.Order.{entry_order, IsRising, IsNew, IsAdded};
+ghost use Rattle.ml_spans.specs.Order.{entry_order, IsRising, IsNew};
+ghost use Rattle.ml_ratio.specs.Lists.{IsAdded};
 ghost use Rattle.ml_spans.specs.Sound.{entries, entries_of, entries_in, depth, depth_of, IsSound, IsSoundNode, AreNear};
 
 use crate::balance::balanced;

@@ -1,12 +1,15 @@
 //! The index: a balanced tree of entries, and spare nodes for those to come.
-ghost use Rattle.std.specs.Prelude.{◌≡◌, ◌≢◌, ℕ, ◌+◌, ◌*◌, ◌^◌, ◌<◌, ◌≤◌, ◌++◌, ◌↔◌, [], length, vec_len, vec_capacity, OnOk, OnErr, MatchBool, IsTrue, Contains, if◌then◌else◌, max};
-ghost use Rattle.ml_spans.specs.Order.{entry_order, IsRising, IsAdded};
-ghost use Rattle.ml_spans.specs.Search.{is_in_range, is_stabbed, values_where, IsPart};
+ghost use Rattle.std.specs.Prelude.{◌≡◌, ◌≢◌, ℕ, ◌+◌, ◌*◌, ◌^◌, ◌<◌, ◌≤◌, ◌++◌, ◌↔◌, ◌⊎◌, [], length, vec_len, vec_capacity, IfOk, OnOk, OnErr, MatchBool, IsTrue, Contains, if◌then◌else◌, max};
+ghost use Rattle.ml_spans.specs.Order.{entry_order, IsRising};
+ghost use Rattle.ml_spans.specs.Search.{is_in_range, is_stabbed, values_where, IsPart, IsValueOf, HasPassing};
 ghost use Rattle.ml_spans.specs.Spans.{entry_of};
+ghost use Rattle.ml_spans.specs.declared.entry.Entry.{Entry as AnEntry};
 
+use crate::bulk::tree_of;
 use crate::entry::Entry;
 use crate::insertion::put;
 use crate::key::Key;
+use crate::moving::set_in;
 use crate::node::height_of;
 use crate::query::Query;
 use crate::removal::take;
@@ -55,6 +58,30 @@ impl<K: Key, E: Key, V: Key> SpanTree<K, E, V> {
         }
     }
 
+    /// The index of these entries, which stand in order without repeats, with no spare nodes. It is as
+    /// low as an index of so many entries can be.
+    ///
+    /// # Errors
+    /// Want of memory.
+    pub fn of_sorted(
+        alloc: Global,
+        sorted: &[Entry<K, E, V>],
+    ) -> Result<SpanTree<K, E, V>, AllocError>
+        requires rising { IsRising (entry_order K.order E.order V.order) sorted.now }
+        ensures entries { IfOk result (λ tree. tree.entries ≡ sorted.now) }
+        ensures spare { IfOk result (λ tree. tree.spare ≡ 0) }
+        ensures low { (digits : ℕ) → length sorted.now < 2 ^ digits → IfOk result (λ tree. tree.height ≤ digits) }
+    {
+        let root = tree_of(alloc, sorted)?;
+        let mut spares = Vec::new(alloc);
+        spares.reserve(sorted.len())?;
+        Ok(SpanTree {
+            root,
+            spares,
+            count: sorted.len(),
+        })
+    }
+
     /// How many entries there are. They are in order, without repeats.
     pub fn len(&self) -> usize
         ensures count { result ≡ length self.now.entries }
@@ -101,7 +128,7 @@ impl<K: Key, E: Key, V: Key> SpanTree<K, E, V> {
     pub fn insert(&mut self, key: K, end: E, value: V)
         requires spare { 0 < self.old.spare }
         requires new { ¬ (Contains self.old.entries (entry_of key end value)) }
-        ensures added { IsAdded (entry_of key end value) self.old.entries self.new.entries }
+        ensures members { (e : AnEntry K E V) → Contains self.new.entries e ↔ (Contains self.old.entries e ⊎ (e ≡ entry_of key end value)) }
         ensures rising { IsRising (entry_order K.order E.order V.order) self.new.entries }
         ensures spare { self.new.spare + 1 ≡ self.old.spare }
     {
@@ -117,10 +144,8 @@ impl<K: Key, E: Key, V: Key> SpanTree<K, E, V> {
     /// and cannot fail.
     pub fn remove(&mut self, key: &K, end: &E, value: &V) -> bool
         ensures there { IsTrue result ↔ Contains self.old.entries (entry_of key.now end.now value.now) }
-        ensures removed { MatchBool result
-            (IsAdded (entry_of key.now end.now value.now) self.new.entries self.old.entries)
-            (self.new.entries ≡ self.old.entries) }
-        ensures gone { ¬ (Contains self.new.entries (entry_of key.now end.now value.now)) }
+        ensures members { (e : AnEntry K E V) → Contains self.new.entries e
+            ↔ (Contains self.old.entries e × (¬ (e ≡ entry_of key.now end.now value.now))) }
         ensures rising { IsRising (entry_order K.order E.order V.order) self.new.entries }
         ensures spare { self.new.spare ≡ self.old.spare + (if result then 1 else 0) }
     {
@@ -142,6 +167,29 @@ impl<K: Key, E: Key, V: Key> SpanTree<K, E, V> {
         }
     }
 
+    /// Gives an entry another end in its place, where it is there: true exactly then. No other entry may
+    /// have its key, its value and an end to which the new one stands otherwise than the old one. It takes
+    /// no memory and cannot fail.
+    pub fn set_end(&mut self, key: &K, end: &E, value: &V, to: &E) -> bool
+        requires place { (other : E) → Contains self.old.entries (entry_of key.now other value.now) →
+            (other ≡ end.now) ⊎ (E.order to.now other ≡ E.order end.now other) }
+        ensures there { IsTrue result ↔ Contains self.old.entries (entry_of key.now end.now value.now) }
+        ensures members { MatchBool result
+            ((e : AnEntry K E V) → Contains self.new.entries e
+            ↔ ((Contains self.old.entries e × (¬ (e ≡ entry_of key.now end.now value.now))) ⊎ (e ≡ entry_of key.now to.now value.now)))
+            (self.new.entries ≡ self.old.entries) }
+        ensures rising { IsRising (entry_order K.order E.order V.order) self.new.entries }
+        ensures spare { self.new.spare ≡ self.old.spare }
+        ensures height { self.new.height ≡ self.old.height }
+    {
+        let entry = Entry {
+            key: *key,
+            end: *end,
+            value: *value,
+        };
+        set_in(&mut self.root, &entry, to)
+    }
+
     /// Appends the values of the entries with a key in the closed range and an end of at least `at`, in
     /// the order of the entries. Parts of the tree without such an end are passed over.
     ///
@@ -150,6 +198,8 @@ impl<K: Key, E: Key, V: Key> SpanTree<K, E, V> {
     pub fn stab(&self, from: &K, to: &K, at: &E, out: &mut Seq<V>) -> Result<(), AllocError>
         ensures ok { OnOk result (out.new ≡ out.old
             ++ values_where (is_stabbed K.order E.order from.now to.now at.now) self.now.entries) }
+        ensures members { OnOk result ((v : V) → Contains out.new v
+            ↔ (Contains out.old v ⊎ IsValueOf (is_stabbed K.order E.order from.now to.now at.now) self.now.entries v)) }
         ensures err { OnErr result (IsPart out.old out.new
             (values_where (is_stabbed K.order E.order from.now to.now at.now) self.now.entries)) }
     {
@@ -165,8 +215,7 @@ impl<K: Key, E: Key, V: Key> SpanTree<K, E, V> {
     /// [`SpanTree::stab`] would give anything. Parts of the tree without such an end are passed over,
     /// and it stops at the first one found.
     pub fn is_stabbed(&self, from: &K, to: &K, at: &E) -> bool
-        ensures { IsTrue result
-            ↔ (values_where (is_stabbed K.order E.order from.now to.now at.now) self.now.entries ≢ []) }
+        ensures { IsTrue result ↔ HasPassing (is_stabbed K.order E.order from.now to.now at.now) self.now.entries }
     {
         let at = Some(*at);
         let query = Query {
@@ -184,6 +233,8 @@ impl<K: Key, E: Key, V: Key> SpanTree<K, E, V> {
     pub fn range(&self, from: &K, to: &K, out: &mut Seq<V>) -> Result<(), AllocError>
         ensures ok { OnOk result (out.new ≡ out.old
             ++ values_where (is_in_range K.order from.now to.now) self.now.entries) }
+        ensures members { OnOk result ((v : V) → Contains out.new v
+            ↔ (Contains out.old v ⊎ IsValueOf (is_in_range K.order from.now to.now) self.now.entries v)) }
         ensures err { OnErr result (IsPart out.old out.new
             (values_where (is_in_range K.order from.now to.now) self.now.entries)) }
     {

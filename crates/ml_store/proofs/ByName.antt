@@ -15,9 +15,9 @@ use Rattle.std.proofs.lemmas.List.{get_or-map, length-map}
 use Rattle.std.proofs.lemmas.List.Edits.{length-remove, get_or-remove_below, get_or-remove_above}
 use Rattle.std.proofs.lemmas.List.Elements.{Contains-get_or}
 use Rattle.std.proofs.lemmas.List.Quantifiers.{all_pairs_remove}
-use Rattle.ml_spans.specs.Order.{IsAdded}
+use Rattle.ml_ratio.specs.Lists.{IsAdded}
 use Rattle.ml_store.specs.Names.{Name, AreByName, IsIdBefore, IsIdPlace, HaveId}
-use Rattle.ml_store.proofs.Lists.{map_insert, map_remove, contained, added_has, added_only, added_insert, added_remove, all_pairs_insert}
+use Rattle.ml_ratio.proofs.lemmas.Lists.{all_pairs_insert, map_insert, map_remove, added_has, added_insert, added_only, added_remove, contained}
 
 -- ---- ids
 

@@ -23,9 +23,9 @@ use Rattle.ml_store.specs.Rows.{HaveOwnNumbers, IsLive}
 use Rattle.ml_store.specs.Search.{IsFoundIn, IsNumberWith, Gathers, AreOverlapping, NoneOverlaps, AreNearNumbers}
 use Rattle.ml_store.specs.Store.{IsIndex, IsEntryIn, AreWithin}
 use Rattle.ml_store.specs.declared.row.Row.{Row}
-use Rattle.ml_store.proofs.Lists.{added_remove}
 use Rattle.ml_store.proofs.Fresh.{fresh_removed}
 use Rattle.ml_store.proofs.Index.{index_its, entry_number}
+use Rattle.ml_ratio.proofs.lemmas.Lists.{added_remove}
 
 pub on_ok : {A E : Type 0} (r : Result A E) (P Q : Type 0) → (P → Q) → OnOk r P → OnOk r Q
 on_ok (Ok a) P Q f h = f h

@@ -6,10 +6,10 @@ use Rattle.ml_cone.specs.declared.slot.Slot.{Slot}
 use Rattle.ml_store.specs.Rows.{numbers_in, IsFresh, HaveOwnNumbers}
 use Rattle.ml_store.specs.Table.{with_slot}
 use Rattle.ml_store.specs.declared.row.Row.{Row}
-use Rattle.ml_store.proofs.Different.{different_insert, different_remove, removed_gone}
-use Rattle.ml_store.proofs.Lists.{contains_map, map_insert, map_remove}
+use Rattle.ml_store.proofs.Different.{different_remove}
 use Rattle.ml_store.proofs.Naming.{number_read}
 use Rattle.ml_store.proofs.Tables.{numbers-with_slot}
+use Rattle.ml_ratio.proofs.lemmas.Lists.{contains_map, different_insert, map_insert, map_remove, removed_gone}
 
 pub not_fresh : (rows : List Row) (n : ℕ) (r : Row) → IsFresh n rows → Contains rows r → ¬ (r.number ≡ n)
 not_fresh rows n r fresh there e = fresh (subst (Contains (numbers_in rows)) e (contains_map (λ (s : Row). s.number) rows r there))
@@ -17,7 +17,7 @@ not_fresh rows n r fresh there e = fresh (subst (Contains (numbers_in rows)) e (
 pub fresh_removed : (rows : List Row) (at : ℕ) (r : Row) → HaveOwnNumbers rows → at < length rows → r ≡ get_or rows at r → IsFresh r.number (remove rows at)
 fresh_removed rows at r differ lt read there =
     let n = length-map rows (λ (s : Row). s.number) in
-    removed_gone (numbers_in rows) at (omega arith) differ (rw (← map_remove (λ (s : Row). s.number) rows at, number_read rows at r lt read) there)
+    removed_gone (numbers_in rows) at 0 (omega arith) differ (rw (← map_remove (λ (s : Row). s.number) rows at, number_read rows at r lt read) there)
 
 pub differ_removed : (rows : List Row) (at : ℕ) → HaveOwnNumbers rows → at < length rows → HaveOwnNumbers (remove rows at)
 differ_removed rows at differ lt =

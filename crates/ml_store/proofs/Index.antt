@@ -3,12 +3,12 @@ use Rattle.std.proofs.Common.{◌≡◌, ℕ, List, Contains, ◌⊎◌, inl, in
 use Rattle.std.specs.Prelude.{◌↔◌}
 use Rattle.std.proofs.lemmas.Bool.{cases_eq}
 use Rattle.ml_grid.specs.Entry.{Entry}
-use Rattle.ml_spans.specs.Order.{IsAdded}
+use Rattle.ml_ratio.specs.Lists.{IsAdded}
 use Rattle.ml_store.specs.Rows.{IsFresh}
 use Rattle.ml_store.specs.Store.{Pair, IsPairBy, IsIndex, IsEntryIn, IsPairIn}
 use Rattle.ml_store.specs.declared.row.Row.{Row}
 use Rattle.ml_store.proofs.Fresh.{not_fresh}
-use Rattle.ml_store.proofs.Lists.{contained, added_has, added_only}
+use Rattle.ml_ratio.proofs.lemmas.Lists.{added_has, added_only, contained}
 
 module _ {X : Type 0} (number_of : X → ℕ) (Q : Row → X → Type 0) (own : (r : Row) (x : X) → Q r x → number_of x ≡ r.number) where
   -- nothing in the index has a number that no row has
@@ -98,6 +98,19 @@ module _ {X : Type 0} (number_of : X → ℕ) (n : ℕ) (P Q : X → Type 0) (ol
     λ h. elim h [
       | inl stays ↦ (came x).1 (inl ((went x).1 (stays.0, λ p. stays.1 ((its x).1 p).1)))
       | inr comes ↦ (came x).1 (inr comes)
+    ],
+  )
+
+  -- at once
+  pub moved_as : (new : List X) → ((x : X) → Contains new x ↔ ((Contains old x × (¬ (P x))) ⊎ Q x)) → (x : X) → Contains new x ↔ ((Contains old x × (¬ (number_of x ≡ n))) ⊎ Q x)
+  moved_as new moved x = (
+    λ c. elim ((moved x).0 c) [
+      | inl stays ↦ inl (stays.0, λ e. stays.1 ((its x).0 (stays.0, e)))
+      | inr comes ↦ inr comes
+    ],
+    λ h. elim h [
+      | inl stays ↦ (moved x).1 (inl (stays.0, λ p. stays.1 ((its x).1 p).1))
+      | inr comes ↦ (moved x).1 (inr comes)
     ],
   )
 

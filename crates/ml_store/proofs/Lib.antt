@@ -1,10 +1,10 @@
-pub mod Different
-pub mod Orders
-pub mod Lists
-pub mod ByName
-pub mod Naming
-pub mod Tables
-pub mod Fresh
-pub mod Index
-pub mod Finding
-pub mod Within
+mod Different
+mod Orders
+mod Lists
+mod ByName
+mod Naming
+mod Tables
+mod Fresh
+mod Index
+mod Finding
+mod Within

@@ -1,78 +1,12 @@
--- Lists and their elements, as one comes, goes or is mapped.
+-- Lists and their elements, as one comes or goes.
 use Rattle.std.proofs.Common.{◌≡◌, ℕ, zero, suc, ◌+◌, ◌<◌, ◌≤◌, List, [], ◌∷◌, ◌++◌, length, get_or, set, take, drop, map, Contains, ◌⊎◌, inl, inr, refl, sym, ap, ◌∙◌, subst, arith}
 use Rattle.std.specs.Prelude.{insert, remove, All, AllPairs, ◌↔◌}
 use Rattle.std.proofs.lemmas.Bool.{cases_lt, cases_eq}
-use Rattle.std.proofs.lemmas.List.{take-append-drop, get_or_default, get_or-map, length-map}
+use Rattle.std.proofs.lemmas.List.{take-append-drop, get_or_default, set_split}
 use Rattle.std.proofs.lemmas.List.Edits.{length-insert, get_or-insert_below, get_or-insert_at, get_or-insert_above}
 use Rattle.std.proofs.lemmas.List.Elements.{Contains-append_left, Contains-append_right, Contains-append_cases, All-contains, All-from_recursion, All-contains_itself, All-weaker}
-use Rattle.ml_spans.specs.Order.{IsAdded}
-use Rattle.ml_store.proofs.Different.{above}
-
--- ---- mapped lists
-
-pub contains_map : {A B : Type 0} (f : A → B) (xs : List A) (x : A) → Contains xs x → Contains (map f xs) (f x)
-contains_map f xs x there =
-    let many = length-map xs f in
-    (there.0, rw many there.1, get_or-map f xs there.0 x (f x) there.1 ∙ ap f there.2)
-
-map_contains_at : {A B : Type 0} (f : A → B) (xs : List A) (y : B) (k : ℕ) → k < length (map f xs) → get_or (map f xs) k y ≡ y → (x : A) × Contains xs x × (f x ≡ y)
-map_contains_at f [] y k lt e = absurd (omega arith)
-map_contains_at f (x ∷ xs) y zero lt e = (x, (0, omega arith, refl), e)
-map_contains_at f (x ∷ xs) y (suc k) lt e =
-    let rest = map_contains_at f xs y k (omega arith) e in
-    let many : rest.1.0 < length xs = rest.1.1 in
-    (rest.0, (suc rest.1.0, omega arith, rest.1.2), rest.2)
-
-pub map_contains : {A B : Type 0} (f : A → B) (xs : List A) (y : B) → Contains (map f xs) y → (x : A) × Contains xs x × (f x ≡ y)
-map_contains f xs y there = map_contains_at f xs y there.0 there.1 there.2
-
-pub map_insert : {X Y : Type 0} (f : X → Y) (xs : List X) (i : ℕ) (y : X) → map f (insert xs i y) ≡ insert (map f xs) i (f y)
-map_insert f [] zero y = refl
-map_insert f [] (suc i) y = refl
-map_insert f (x ∷ xs) zero y = refl
-map_insert f (x ∷ xs) (suc i) y = ap (λ ys. f x ∷ ys) (map_insert f xs i y)
-
-pub map_remove : {X Y : Type 0} (f : X → Y) (xs : List X) (i : ℕ) → map f (remove xs i) ≡ remove (map f xs) i
-map_remove f [] zero = refl
-map_remove f [] (suc i) = refl
-map_remove f (x ∷ xs) zero = refl
-map_remove f (x ∷ xs) (suc i) = ap (λ ys. f x ∷ ys) (map_remove f xs i)
-
-pub map_map : {X Y Z : Type 0} (f : X → Y) (g : Y → Z) (xs : List X) → map g (map f xs) ≡ map (λ x. g (f x)) xs
-map_map f g [] = refl
-map_map f g (x ∷ xs) = ap (λ ys. g (f x) ∷ ys) (map_map f g xs)
-
--- ---- a list with one element more
-
-contains_cases : {A : Type 0} (x y : A) (xs : List A) → Contains (x ∷ xs) y → (x ≡ y) ⊎ Contains xs y
-contains_cases x y xs c =
-    elim (Contains-append_cases (x ∷ []) xs y c) [
-      | inl one ↦ inl (All-contains (λ z. x ≡ z) (x ∷ []) y (All-from_recursion (λ z. x ≡ z) (x ∷ []) (refl, tt)) one)
-      | inr rest ↦ inr rest
-    ]
-
-pub contained : {A : Type 0} {x : A} {xs ys : List A} → IsAdded x xs ys → Contains ys x
-contained {A} {x} {xs} {ys} a =
-    let here : Contains (x ∷ a.after) x = (0, omega arith, refl) in
-    subst (λ (l : List A). Contains l x) (sym a.is) (Contains-append_right a.before (x ∷ a.after) x here)
-
--- the longer list has the new element and those of the shorter one, and no other
-pub added_has : {A : Type 0} {x : A} {xs ys : List A} → IsAdded x xs ys → (y : A) → Contains xs y → Contains ys y
-added_has {A} {x} a y c =
-    subst (λ (l : List A). Contains l y) (sym a.is) (elim (Contains-append_cases a.before a.after y (subst (λ (l : List A). Contains l y) a.was c)) [
-      | inl left ↦ Contains-append_left a.before (x ∷ a.after) y left
-      | inr right ↦ Contains-append_right a.before (x ∷ a.after) y (Contains-append_right (x ∷ []) a.after y right)
-    ])
-
-pub added_only : {A : Type 0} {x : A} {xs ys : List A} → IsAdded x xs ys → (y : A) → Contains ys y → (x ≡ y) ⊎ Contains xs y
-added_only {A} {x} {xs} a y c =
-    elim (Contains-append_cases a.before (x ∷ a.after) y (subst (λ (l : List A). Contains l y) a.is c)) [
-      | inl left ↦ inr (subst (λ (l : List A). Contains l y) (sym a.was) (Contains-append_left a.before a.after y left))
-      | inr right ↦ elim (contains_cases x y a.after right) [
-        | inl same ↦ inl same
-        | inr later ↦ inr (subst (λ (l : List A). Contains l y) (sym a.was) (Contains-append_right a.before a.after y later))
-      ]
-    ]
+use Rattle.ml_ratio.specs.Lists.{IsAdded}
+use Rattle.ml_ratio.proofs.lemmas.Lists.{added_has, added_only}
 
 -- what is true of each element of the longer list is true of the shorter one's, and of the new one
 pub all_shorter : {A : Type 0} (P : A → Type 0) {x : A} {xs ys : List A} → IsAdded x xs ys → All P ys → All P xs
@@ -86,84 +20,6 @@ all_longer {A} P {x} {xs} {ys} a p h =
       | inr old ↦ All-contains P xs y h old
     ]) ys (All-contains_itself ys)
 
--- ---- edits at a place
-
-pub added_insert : {A : Type 0} (xs : List A) (i : ℕ) (y : A) → IsAdded y xs (insert xs i y)
-added_insert xs i y = record { before = take i xs; after = drop i xs; was = sym (take-append-drop i xs); is = refl }
-
-split_at : {A : Type 0} (xs : List A) (i : ℕ) (y : A) → i < length xs → y ≡ get_or xs i y → xs ≡ take i xs ++ (y ∷ drop (suc i) xs)
-split_at [] i y lt e = absurd (omega arith)
-split_at (x ∷ xs) zero y lt e = ap (λ z. z ∷ xs) (sym e)
-split_at (x ∷ xs) (suc i) y lt e = ap (λ zs. x ∷ zs) (split_at xs i y (omega arith) e)
-
-pub added_remove : {A : Type 0} (xs : List A) (i : ℕ) (y : A) → i < length xs → y ≡ get_or xs i y → IsAdded y (remove xs i) xs
-added_remove xs i y lt e = record { before = take i xs; after = drop (suc i) xs; was = refl; is = split_at xs i y lt e }
-
-set_at : {A : Type 0} (xs : List A) (i : ℕ) (y : A) → i < length xs → set xs i y ≡ take i xs ++ (y ∷ drop (suc i) xs)
-set_at [] i y lt = absurd (omega arith)
-set_at (x ∷ xs) zero y lt = refl
-set_at (x ∷ xs) (suc i) y lt = ap (λ zs. x ∷ zs) (set_at xs i y (omega arith))
-
-pub added_set : {A : Type 0} (xs : List A) (i : ℕ) (y : A) → i < length xs → IsAdded y (remove xs i) (set xs i y)
-added_set xs i y lt = record { before = take i xs; after = drop (suc i) xs; was = refl; is = set_at xs i y lt }
-
 -- a place read twice
 pub read_again : {A : Type 0} (xs : List A) (i : ℕ) (x y : A) → i < length xs → x ≡ get_or xs i x → y ≡ get_or xs i y → x ≡ y
 read_again xs i x y lt e f = e ∙ get_or_default xs i x y lt ∙ sym f
-
--- an element that stands between those that it may follow and those that it may precede
-pub all_pairs_insert : {A : Type 0} (R : A → A → Type 0) (xs : List A) (at : ℕ) (x : A) → at ≤ length xs →
-    ((k : ℕ) (d : A) → k < at → R (get_or xs k d) x) → ((k : ℕ) (d : A) → at ≤ k → k < length xs → R x (get_or xs k d)) → AllPairs R xs → AllPairs R (insert xs at x)
-all_pairs_insert {A} R xs at x le before after pairs i j d less lt =
-    let n = length-insert xs at x le in
-    elim (cases_lt j at) [
-      | inl low ↦ rw (get_or-insert_below xs at x d i (omega arith) le, get_or-insert_below xs at x d j low le) (pairs i j d less (omega arith))
-      | inr high ↦ elim (cases_eq j at) [
-        | inl here ↦
-            let f : get_or (insert xs at x) j d ≡ x = ap (λ k. get_or (insert xs at x) k d) here ∙ get_or-insert_at xs at x d le in
-            rw (f, get_or-insert_below xs at x d i (omega arith) le) (before i d (omega arith))
-        | inr beyond ↦
-            let strict : at < j = (let no : j ≡ at → ⊥ = beyond in omega arith) in
-            let p = above j at strict in
-            let q : j ≡ p.0 + 1 = p.1 in
-            let w : at ≤ p.0 = p.2 in
-            let f : get_or (insert xs at x) j d ≡ get_or xs p.0 d = ap (λ k. get_or (insert xs at x) k d) q ∙ get_or-insert_above xs at x d p.0 w le in
-            elim (cases_lt i at) [
-              | inl low ↦ rw (f, get_or-insert_below xs at x d i low le) (pairs i p.0 d (omega arith) (omega arith))
-              | inr up ↦ elim (cases_eq i at) [
-                | inl same ↦
-                    let e : get_or (insert xs at x) i d ≡ x = ap (λ k. get_or (insert xs at x) k d) same ∙ get_or-insert_at xs at x d le in
-                    rw (e, f) (after p.0 d w (omega arith))
-                | inr past ↦
-                    let more : at < i = (let no : i ≡ at → ⊥ = past in omega arith) in
-                    let r = above i at more in
-                    let s : i ≡ r.0 + 1 = r.1 in
-                    let e : get_or (insert xs at x) i d ≡ get_or xs r.0 d = ap (λ k. get_or (insert xs at x) k d) s ∙ get_or-insert_above xs at x d r.0 r.2 le in
-                    rw (e, f) (pairs r.0 p.0 d (omega arith) (omega arith))
-              ]
-            ]
-      ]
-    ]
-
--- ---- membership after one element came or went
-
-pub comes_in : {A : Type 0} {x : A} {before after : List A} → IsAdded x before after → (y : A) → Contains after y ↔ (Contains before y ⊎ (y ≡ x))
-comes_in {A} {x} {before} {after} a y = (
-  λ c. elim (added_only a y c) [
-    | inl same ↦ inr (sym same)
-    | inr old ↦ inl old
-  ],
-  λ h. elim h [
-    | inl old ↦ added_has a y old
-    | inr same ↦ subst (Contains after) (sym same) (contained a)
-  ],
-)
-
-pub goes_out : {A : Type 0} {x : A} {before after : List A} → IsAdded x after before → ¬ (Contains after x) → (y : A) → Contains after y ↔ (Contains before y × (¬ (y ≡ x)))
-goes_out {A} {x} {before} {after} a gone y = (
-  λ c. (added_has a y c, λ e. gone (subst (Contains after) e c)),
-  λ h. elim (added_only a y h.0) [
-    | inl same ↦ absurd (h.1 (sym same))
-    | inr old ↦ old
-  ],
-)

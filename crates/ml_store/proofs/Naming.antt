@@ -8,12 +8,12 @@ use Rattle.ml_store.specs.Boxes.{unboxed}
 use Rattle.ml_store.specs.declared.row.Row.{Row}
 use Rattle.std.specs.declared.alloc.Global.{Global}
 use Rattle.std.specs.Prelude.{Box, box_value}
-use Rattle.ml_store.proofs.Different.{same_place, removed_gone}
-use Rattle.ml_store.proofs.Lists.{contains_map, map_contains, map_map, map_remove}
 use Rattle.ml_store.proofs.ByName.{AreUnique}
+use Rattle.ml_ratio.proofs.lemmas.Lists.{contains_map, map_contains, map_remove, removed_gone, same_place}
+use Rattle.std.proofs.lemmas.Simd.{map-map}
 
 pub number_of_names : (rows : List Row) → map (λ (x : Name). x.number) (names_in rows) ≡ numbers_in rows
-number_of_names rows = map_map name_of (λ (x : Name). x.number) rows
+number_of_names rows = map-map (λ (x : Name). x.number) name_of rows
 
 -- the row that has a name's number has its id
 pub same_name : (rows : List Row) (at : ℕ) (r : Row) (name : Name) → HaveOwnNumbers rows → at < length rows → r ≡ get_or rows at r → r.number ≡ name.number → Contains (names_in rows) name → name_of r ≡ name
@@ -27,7 +27,7 @@ same_name rows at r name differ lt read same there =
     let a : get_or (numbers_in rows) at 0 ≡ r.number = get_or-map (λ (t : Row). t.number) rows at r 0 lt ∙ ap (λ (t : Row). t.number) (sym read) in
     let b : get_or (numbers_in rows) k 0 ≡ s.number = get_or-map (λ (t : Row). t.number) rows k s 0 in' ∙ ap (λ (t : Row). t.number) is in
     let n : s.number ≡ name.number = ap (λ (x : Name). x.number) some.2 in
-    let e : at ≡ k = same_place (numbers_in rows) at k differ (omega arith) (omega arith) (a ∙ same ∙ sym n ∙ sym b) in
+    let e : at ≡ k = same_place (numbers_in rows) at k 0 differ (omega arith) (omega arith) (a ∙ same ∙ sym n ∙ sym b) in
     let q : r ≡ s = read ∙ ap (λ i. get_or rows i r) e ∙ get_or_default rows k r s in' ∙ is in
     ap name_of q ∙ some.2
 
@@ -68,5 +68,5 @@ name_gone rows at d differ lt there =
     let many = length-map names (λ (x : Name). x.number) in
     let e = number_of_names rows in
     let number : get_or (numbers_in rows) at 0 ≡ (get_or names at d).number = ap (λ ns. get_or ns at 0) (sym e) ∙ get_or-map (λ (x : Name). x.number) names at d 0 lt in
-    let gone = removed_gone (numbers_in rows) at (let m = ap length e in omega arith) differ in
+    let gone = removed_gone (numbers_in rows) at 0 (let m = ap length e in omega arith) differ in
     gone (rw (number, ← e, ← map_remove (λ (x : Name). x.number) names at) (contains_map (λ (x : Name). x.number) (remove names at) (get_or names at d) there))

@@ -8,7 +8,12 @@ use Rattle.std.proofs.lemmas.List.Edits.{length-insert, get_or-insert_below, get
 use Rattle.std.proofs.lemmas.List.Sorted.{IsPermutation-remove, IsPermutation-insert, IsPermutation-trans, All-permutation, Contains-permutation}
 use Rattle.ml_store.specs.Rows.{AreDifferent}
 use Rattle.ml_store.specs.Numbers.{ArePlacedBut, AreOrdered, IsAt}
-use Rattle.ml_store.proofs.Different.{above, same_place, different_insert, different_remove, removed_gone}
+use Rattle.ml_store.proofs.Different.{different_remove}
+use Rattle.ml_ratio.proofs.lemmas.Lists.{different_insert, removed_gone, same_place}
+
+-- a place beyond another is one more than some place
+above : (k at : ℕ) → at < k → (m : ℕ) × (k ≡ m + 1) × (at ≤ m)
+above k at h = (k - 1, omega arith, omega arith)
 
 -- one more place is written
 pub placed_more : (order places : List ℕ) (k to : ℕ) → length order ≡ 32768 → length places ≡ 32768 → All (λ n. n < 32768) order → AreDifferent order → k < to → to ≤ 32768 →
@@ -19,7 +24,7 @@ placed_more order places k to many_order many_places low differ lt le placed j i
           let small : get_or order k 0 < 32768 = low k 0 (omega arith) in
           rw here (get_or-set_same places (get_or order k 0) k 0 (omega arith))
       | inr other ↦
-          let apart : get_or order j 0 ≢ get_or order k 0 = (λ e. other (same_place order j k differ (omega arith) (omega arith) e)) in
+          let apart : get_or order j 0 ≢ get_or order k 0 = (λ e. other (same_place order j k 0 differ (omega arith) (omega arith) e)) in
           let no : j ≢ k = other in
           rw (get_or-set_other places (get_or order k 0) (get_or order j 0) k 0 apart) (placed j in' (λ h. let m = but h in omega arith))
     ]
@@ -48,7 +53,7 @@ permutation_shifted order from to lt =
 pub different_shifted : (order : List ℕ) (from to : ℕ) → from < length order → to < length order → AreDifferent order → AreDifferent (shifted order from to)
 different_shifted order from to a b differ =
     let n = length-remove order from a in
-    different_insert (remove order from) to (get_or order from 0) (omega arith) (removed_gone order from a differ) (different_remove order from a differ)
+    different_insert (remove order from) to (get_or order from 0) (omega arith) (removed_gone order from 0 a differ) (different_remove order from a differ)
 
 -- the place of a number has the number
 pub place_back : (order places : List ℕ) (used n : ℕ) → AreOrdered order places used → n < 32768 → (get_or places n 0 < 32768) × (get_or order (get_or places n 0) 0 ≡ n)

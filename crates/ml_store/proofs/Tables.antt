@@ -4,14 +4,14 @@ use Rattle.std.specs.Prelude.{insert, remove, Box, box_value, Option, Some, None
 use Rattle.ml_store.specs.Numbers.{IsAt}
 use Rattle.std.specs.declared.alloc.Global.{Global}
 use Rattle.std.proofs.lemmas.List.{get_or-map, length-map, map-set}
-use Rattle.ml_spans.specs.Order.{IsAdded}
+use Rattle.ml_ratio.specs.Lists.{IsAdded}
 use Rattle.ml_cone.specs.declared.slot.Slot.{Slot}
 use Rattle.ml_store.specs.Boxes.{unboxed}
 use Rattle.ml_store.specs.Rows.{numbers_in, labels_in, HasId, IsFresh, IsNumberOf}
 use Rattle.ml_store.specs.Names.{Name, name_of, names_in, AreByName, HaveId}
 use Rattle.ml_store.specs.Table.{IsTable, IsRowAt, with_slot, slot_at}
 use Rattle.ml_store.specs.declared.row.Row.{Row}
-use Rattle.ml_store.proofs.Lists.{map_insert, map_remove, contains_map, map_contains, added_insert}
+use Rattle.ml_ratio.proofs.lemmas.Lists.{contains_map, map_contains, map_insert, map_remove, added_insert}
 
 pub table_in : (rows : List Row) (numbers ids ids' : List ℕ) (at : ℕ) (r : Row) → IsTable rows numbers ids →
     ((names : List Name) → IsAdded (name_of r) (names_in rows) names → AreByName names ids') → IsTable (insert rows at r) (insert numbers at r.number) ids'

@@ -9,7 +9,8 @@ use Rattle.ml_cone.specs.declared.slot.Slot.{Slot}
 use Rattle.ml_store.specs.Store.{AreWithin}
 use Rattle.ml_store.specs.Table.{with_slot}
 use Rattle.ml_store.specs.declared.row.Row.{Row}
-use Rattle.ml_store.proofs.Lists.{added_insert, added_remove, all_longer, all_shorter}
+use Rattle.ml_store.proofs.Lists.{all_longer, all_shorter}
+use Rattle.ml_ratio.proofs.lemmas.Lists.{added_insert, added_remove}
 
 pub within_inserted : (o next : Outline) (rows : List Row) (at : ℕ) (row : Row) → IsWithin next row.label → ((a : Label) → IsWithin o a → IsWithin next a) → AreWithin o rows → AreWithin next (insert rows at row)
 within_inserted o next rows at row new kept within =

@@ -1,7 +1,7 @@
 //! Numbers of labels in byte order of their ids.
 ghost use Rattle.std.specs.Prelude.{ℕ, ◌≡◌, ◌≢◌, ◌+◌, ◌<◌, ◌≤◌, ◌↔◌, IsTrue, MatchOption, Contains, List, length, remove, slice_index_or, vec_len};
 ghost use Rattle.std.specs.Vec.{vec_capacity};
-ghost use Rattle.ml_spans.specs.Order.{IsAdded};
+ghost use Rattle.ml_ratio.specs.Lists.{IsAdded};
 ghost use Rattle.ml_store.specs.Rows.{numbers_in};
 ghost use Rattle.ml_store.specs.Names.{Name, names_in, AreByName, IsIdBefore, IsIdPlace, HaveId};
 ghost use Rattle.ml_store.specs.Boxes.{unboxed};

@@ -1,5 +1,5 @@
 //! Which label blocks which.
-ghost use Rattle.std.specs.Prelude.{◌≡◌, ◌+◌, ◌≤◌, ◌⊎◌, ◌↔◌, Contains};
+ghost use Rattle.std.specs.Prelude.{◌≡◌, ◌≢◌, ◌+◌, ◌≤◌, ◌⊎◌, ◌↔◌, Contains, MatchBool};
 ghost use Rattle.ml_spans.specs.Spans.{entry_of};
 ghost use Rattle.ml_store.specs.Pairs.{pair_count};
 ghost use Rattle.ml_store.specs.Store.{Pair, IsPairBy};
@@ -54,13 +54,26 @@ pub fn put_pair(pairs: &mut Pairs, number: u32, blocker: Option<u32>)
     }
 }
 
-/// The pair of a label and its blocker goes, and that with its new blocker comes.
+// Whether the blockers are the same, or there is none either time.
+fn are_same(from: Option<u32>, to: Option<u32>) -> bool
+    ensures { MatchBool result (from ≡ to) (from ≢ to) }
+{
+    match (from, to) {
+        (Some(b), Some(c)) => b == c,
+        (None, None) => true,
+        _ => false,
+    }
+}
+
+/// The pair of a label and its blocker goes, and that with its new blocker comes, if that is another one.
 pub fn change_pair(pairs: &mut Pairs, number: u32, from: Option<u32>, to: Option<u32>)
     requires its { (p : Pair) → (Contains pairs.old.entries p × (p.value ≡ number)) ↔ IsPairBy number from p }
     requires room { pair_count to ≤ pairs.old.spare + pair_count from }
     ensures pairs { (p : Pair) → Contains pairs.new.entries p ↔ ((Contains pairs.old.entries p × (¬ (p.value ≡ number))) ⊎ IsPairBy number to p) }
     ensures spare { pairs.new.spare + pair_count to ≡ pairs.old.spare + pair_count from }
 {
-    take_pair(pairs, number, from);
-    put_pair(pairs, number, to);
+    if !are_same(from, to) {
+        take_pair(pairs, number, from);
+        put_pair(pairs, number, to);
+    }
 }

@@ -1,11 +1,12 @@
 //! The live labels with the grid and the index of blockers, which always agree.
-ghost use Rattle.std.specs.Prelude.{ℕ, ◌≡◌, ◌+◌, ◌<◌, ◌≤◌, [], List, length, insert, remove, All, Contains, IsTrue, OnOk, IfOk, MatchOption, HoldsAt, ◌⊎◌, ◌↔◌};
+ghost use Rattle.std.specs.Prelude.{ℕ, ◌≡◌, ◌+◌, ◌<◌, ◌≤◌, [], List, length, insert, remove, All, Contains, IsTrue, OnOk, IfOk, MatchOption, HoldsAt, slice_index_or, ◌⊎◌, ◌↔◌};
 ghost use Rattle.ml_ratio.specs.Fraction.{value_of};
 ghost use Rattle.ml_cone.specs.Choice.{IsEnd, ActiveUntil};
 ghost use Rattle.ml_cone.specs.Shown.{IsInView};
 ghost use Rattle.ml_grid.specs.Count.{entry_count};
 ghost use Rattle.ml_store.specs.Pairs.{pair_count};
-ghost use Rattle.ml_store.specs.Rows.{numbers_in, labels_in, IsLive, IsFresh, HasId, HaveOwnNumbers, IsNumberOf};
+ghost use Rattle.ml_cone.specs.declared.label.Label.{Label};
+ghost use Rattle.ml_store.specs.Rows.{numbers_in, number_at, labels_in, IsLive, IsFresh, HasId, HaveOwnNumbers, IsNumberOf};
 ghost use Rattle.ml_store.specs.Search.{IsFoundIn, IsNumberWith, Gathers, AreOverlapping, NoneOverlaps, AreNearNumbers};
 ghost use Rattle.ml_grid.specs.Entry.{IsFree, Adds, Drops, AreEntriesOf};
 ghost use Rattle.ml_store.specs.Store.{IsStored, AreWithin, IsIndex, IsEntryIn, IsPairIn, Pair};
@@ -247,10 +248,13 @@ impl Store {
         self.table.len()
     }
 
-    /// The row at a place.
+    /// The row at a place, which has its number, its label and its slot.
     pub fn row(&self, at: usize) -> &Row
         requires { at < length self.now.rows }
-        ensures { HoldsAt (λ r. r ≡ result.now) self.now.rows at }
+        ensures row { HoldsAt (λ r. r ≡ result.now) self.now.rows at }
+        ensures number { number_at self.now.rows at ≡ result.now.number }
+        ensures label { (d : Label) → slice_index_or (labels_in self.now.rows) at d ≡ result.now.label }
+        ensures slot { slot_at self.now.rows at ≡ result.now.slot }
     {
         self.table.row(at)
     }

@@ -4,6 +4,7 @@ mod Characters
 mod ClassLemmas
 mod ClassesLemmas
 mod FontLemmas
+mod OneStyle
 mod Refusals
 mod Searching
 mod StyleLemmas

@@ -9,8 +9,8 @@
 //! - [`sample`]: a style to begin with;
 //! - [`laws`]: laws over the definitions alone.
 //!
-//! The reader goes from the outside in: [`reader`], [`style_table`], [`font_table`], [`class_table`],
-//! and what a TOML table holds at a key, [`table`].
+//! The reader goes from the outside in: [`reader`], [`style_table`], [`font_table`], [`class_table`] with
+//! `parts`, `class_part`, `class_field` and `field`, and what a TOML table holds at a key, [`table`].
 #![tactic(auto)]
 
 pub mod advance;

@@ -6,7 +6,7 @@ use crate::cases::{
     told_of_pair, word,
 };
 use ml_cone::{Label, Slot};
-use ml_conflict::{RivalList, are_rivals, evaluate, first_block, interval};
+use ml_conflict::{RivalList, are_rivals, evaluate, first_block, interval, limit_up_to};
 use ml_ratio::lines::parts_of;
 use ml_ratio::{Ratio, Steps};
 use std::alloc::Global;
@@ -125,6 +125,39 @@ impl OfPair for Limits {
 #[test]
 fn a_limit_is_where_overlap_begins_in_both_ranges(rt: HostRuntime) {
     hold::<Limits>(&rt, rt.alloc())
+}
+
+/// A label, an earlier one, until where that is active and a bound, and the limit that it sets up to there.
+struct Bounded;
+
+impl Table for Bounded {
+    const LINES: &'static str = "\
+100 0 0 1000 0 1 -5,-5,5,5 | 0 0 0 1000 0 1 10,-5,30,5 | 1000 1000 => 20/7
+100 0 0 1000 0 1 -5,-5,5,5 | 0 0 0 1000 0 1 10,-5,30,5 | 1000 20/7 => 20/7
+100 0 0 1000 0 1 -5,-5,5,5 | 0 0 0 1000 0 1 10,-5,30,5 | 1000 2 => -
+100 0 0 1000 0 1 -5,-5,5,5 | 0 0 0 1000 0 1 10,-5,30,5 | 20/7 1000 => -
+100 0 10 1000 0 1 -5,-5,5,5 | 0 0 0 1000 0 1 10,-5,30,5 | 1000 10 => 10/1
+400 0 0 1000 0 1 -10,-5,10,5 | 0 0 0 1000 0 1 -10,-5,10,5 | 1000 20 => 20/1
+400 0 0 1000 0 1 -10,-5,10,5 | 0 0 0 1000 0 1 -10,-5,10,5 | 1000 1999/100 => -
+400 0 0 20 0 1 -10,-5,10,5 | 0 0 0 1000 0 1 -10,-5,10,5 | 1000 1000 => -
+4000000 0 0 1000 0 1 -10,-5,10,5 | 0 0 0 1000 0 1 -10,-5,10,5 | 1000 1000 => -";
+
+    fn told(rt: &impl Abort, alloc: Global, input: &str) -> String {
+        told_of_pair::<Bounded>(rt, alloc, input)
+    }
+}
+
+impl OfPair for Bounded {
+    fn told_of(rt: &impl Abort, alloc: Global, low: &Label, high: &Label, rest: &str) -> String {
+        let (until, bound) = rest.split_once(" ").expect(rt, "two scales");
+        let (until, bound) = (fraction(rt, until), fraction(rt, bound));
+        ratio_told(rt, alloc, limit_up_to(low, high, &until, &bound))
+    }
+}
+
+#[test]
+fn a_limit_above_the_bound_is_none(rt: HostRuntime) {
+    hold::<Bounded>(&rt, rt.alloc())
 }
 
 /// Two labels, and whether they are rivals.

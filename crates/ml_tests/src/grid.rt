@@ -106,7 +106,9 @@ fn found(numbers: &[u32]) -> &'static str {
 }
 
 /// What a search in the window of a view tells of a grid with one label, and what is left of the grid.
-fn window_told(rt: &impl Abort, alloc: Global, label: &Label, span: &Span, view: &View) -> String {
+fn window_told(rt: &impl Abort, alloc: Global, label: &Label, span: &Span, view: &View) -> String
+    requires { span.now.min ≡ label.now.min }
+{
     let mut grid = Grid::new(alloc);
     let room = Grid::entries(label, span);
     grid.reserve(room).expect(rt, "memory");

@@ -1,6 +1,9 @@
 //! The index over small numbers, as many keys as memory counts in, and fractions as ends.
+ghost use Rattle.std.specs.Prelude.{◌≡◌};
+
 use ml_ratio::{Ratio, Seq};
-use ml_spans::{Key, SpanTree};
+use ml_spans::sorting::in_order;
+use ml_spans::{Entry, Key, SpanTree};
 use std::alloc::Global;
 use std::process::Abort;
 
@@ -123,4 +126,51 @@ fn values_of_fractions(rt: &impl Abort, alloc: Global) -> Seq<u32> {
 fn ends_may_be_fractions(rt: HostRuntime) {
     let found = values_of_fractions(&rt, rt.alloc());
     assert!(rt; found.as_slice() == [3, 7, 3].as_slice());
+}
+
+/// An entry of these tests.
+fn entry(key: u8) -> Entry<u8, u32, u64>
+    ensures { result ≡ record { key = key; end = 7; value = 10 } }
+{
+    Entry {
+        key,
+        end: 7,
+        value: 10,
+    }
+}
+
+/// An index made at once of three entries.
+fn at_once(rt: &impl Abort, alloc: Global) -> SpanTree<u8, u32, u64> {
+    let sorted = [entry(1), entry(4), entry(5)];
+    SpanTree::of_sorted(alloc, &sorted).expect(rt, "memory")
+}
+
+/// How many spans of the keys 1 to 5 have this end.
+fn count_at(rt: &impl Abort, alloc: Global, tree: &SpanTree<u8, u32, u64>, at: u32) -> usize {
+    let mut found = Seq::new(alloc);
+    tree.stab(&1, &5, &at, &mut found).expect(rt, "memory");
+    found.len()
+}
+
+#[test]
+fn an_index_is_made_at_once(rt: HostRuntime) {
+    let tree = at_once(&rt, rt.alloc());
+    assert!(rt; tree.len() == 3 && tree.height() == 2 && tree.spare() == 0);
+    assert!(rt;
+        count_at(&rt, rt.alloc(), &tree, 7) == 3 && count_at(&rt, rt.alloc(), &tree, 8) == 0
+    );
+}
+
+/// The key at a place of a list of entries.
+fn key_at(rt: &impl Abort, entries: &[Entry<u8, u32, u64>], place: usize) -> u8 {
+    entries.get(place).expect(rt, "an entry").key
+}
+
+#[test]
+fn entries_are_put_in_order(rt: HostRuntime) {
+    let entries = vec![in rt.alloc(); entry(3), entry(1), entry(2)].expect(&rt, "memory");
+    let sorted = in_order(entries);
+    for place in 0..3 {
+        assert!(rt; key_at(&rt, sorted.as_slice(), place) == place as u8 + 1);
+    }
 }

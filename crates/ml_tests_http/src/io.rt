@@ -224,3 +224,29 @@ fn a_tcp_door_serves_a_stream(rt: HostRuntime) {
     let text = io::read_to_string(rt.alloc(), client).expect(&rt, "a text");
     assert_eq!(rt; text.as_str(), "abc");
 }
+
+#[test]
+fn a_tcp_door_listens_on_the_loopback_address_alone(rt: HostRuntime) {
+    let (_door, port) = tcp_door(&rt).expect(&rt, "a free port");
+    let elsewhere = std::net::Ipv4Addr::new(127, 0, 0, 2);
+    assert!(rt; TcpStream::connect(&rt, (elsewhere, port)).is_err());
+}
+
+#[test]
+fn a_reply_arrives_before_bytes_that_nobody_reads(rt: HostRuntime) {
+    let (mut door, port) = tcp_door(&rt).expect(&rt, "a free port");
+    let mut client = TcpStream::connect(&rt, (std::net::Ipv4Addr::LOCALHOST, port)).expect(
+        &rt,
+        "a connection",
+    );
+    let bytes = vec![in rt.alloc(); b'a'; 20000].expect(&rt, "memory");
+    client
+        .write_all(bytes.as_slice())
+        .expect(&rt, "bytes that are sent");
+    client
+        .shutdown(Shutdown::Write)
+        .expect(&rt, "an end that is sent");
+    assert_eq!(rt; echo(&mut door), b'+');
+    let text = io::read_to_string(rt.alloc(), client).expect(&rt, "a text");
+    assert_eq!(rt; text.as_str(), "aaa");
+}

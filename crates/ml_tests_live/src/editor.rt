@@ -109,7 +109,9 @@ add - 5 0 3 ab => - {"error":"Duplicate","id":"5"}
 put - 5 0 3 ab => 1 {"changes":[{"after":["0/1","1000/1"],"before":null,"id":"5"}],"rev":1}
 del - 7 => 0 {"changes":[],"rev":2}
 add - A 0 2 ab => 1 {"changes":[{"after":["0/1","0/1"],"before":null,"id":"A"}],"rev":3}
-rev - - => {"features":32768,"labels":2,"rev":3}"#;
+rev - - => {"features":32768,"labels":2,"rev":3}
+style - 5 => 0 {"changes":[{"after":["0/1","1000/1"],"before":["0/1","1000/1"],"id":"5"},{"after":["0/1","0/1"],"before":["0/1","0/1"],"id":"A"}],"rev":4}
+rev - - => {"features":32768,"labels":2,"rev":4}"#;
 
 /// A style with this margin, or the text itself.
 fn style_of(rt: &impl Abort, alloc: Global, words: &str) -> String {
@@ -502,5 +504,5 @@ fn heard(rt: &impl Abort, alloc: Global) -> Option<u64> {
 
 #[test]
 fn a_map_is_edited(rt: HostRuntime) {
-    assert!(rt; heard(&rt, rt.alloc()) == Some(31));
+    assert!(rt; heard(&rt, rt.alloc()) == Some(33));
 }

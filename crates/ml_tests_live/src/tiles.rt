@@ -178,6 +178,30 @@ impl Table for Rows {
     }
 }
 
+/// A number of tiles, each kept after the one before it, and how many are held then.
+struct Held;
+
+impl Table for Held {
+    const LINES: &'static str = "\
+0 => 0
+1 => 1
+255 => 255
+256 => 256
+257 => 256
+300 => 256";
+
+    fn told(rt: &impl Abort, alloc: Global, input: &str) -> String {
+        let count = input.parse::<i64>().ok().expect(rt, "a number");
+        let tiles = row_of_tiles(rt, alloc, count);
+        tiles.len().to_string(alloc).expect(rt, "memory")
+    }
+}
+
+#[test]
+fn at_most_256_tiles_are_held(rt: HostRuntime) {
+    hold::<Held>(&rt, rt.alloc())
+}
+
 #[test]
 fn the_oldest_of_too_many_tiles_goes(rt: HostRuntime) {
     hold::<Rows>(&rt, rt.alloc())

@@ -4,7 +4,7 @@ use Rattle.std.proofs.Math.Nat.{pow-le-pow_right}
 use Rattle.std.proofs.lemmas.Int.{ints, by_lt_z}
 use Rattle.std.proofs.lemmas.Nat.{pow_pos}
 use borrow.Author.Differences.{up, down, sum_is_lem}
-use Rattle.ml_ratio.proofs.Floors.{scaled_le}
+use Rattle.ml_ratio.proofs.lemmas.Rounding.{scaled_le}
 use Rattle.ml_ratio.specs.Fraction.{value_of}
 use Rattle.ml_ratio.specs.Lowest.{IsLowest}
 use Rattle.ml_ratio.specs.declared.ratio.Ratio.{Ratio}

@@ -5,14 +5,15 @@ use Rattle.std.specs.List.{IsDistinct}
 use Rattle.std.specs.Map.{keys_of, lookup, lookup_entry, remove_entry}
 use Rattle.std.proofs.lemmas.Bool.{false≢true}
 use Rattle.std.proofs.lemmas.Map.Keys.{IsDistinct-head, IsDistinct-tail}
-use Rattle.lru.specs.LruCache.{LruCache, last_entry, promoted, put_entries}
+use Rattle.std.proofs.lemmas.Map.Made.{AllPairs-from_IsDistinct}
+use Rattle.lru.specs.LruCache.{LruCache, IsValid, last_entry, promoted, put_entries}
 use Rattle.lru.proofs.CallerLemmas.{Contains-lookup, Contains-lookup_entry}
 use Rattle.lru.proofs.Matching.{none_found}
 use Rattle.lru.proofs.Pairs.{cut_end, last_of_push, lookup-lookup_entry}
 use Rattle.lru.proofs.Splits.{all_at, Contains-head, Contains-tail, Contains-middle}
-use Rattle.ml_tile.specs.Cache.{HeldTile, IsHeld, ComesFirst}
+use Rattle.ml_tile.specs.Cache.{HeldTile, IsHeld, ComesFirst, AreFewTiles}
 use Rattle.ml_tile.specs.declared.key.TileKey.{TileKey}
-use Rattle.ml_tile.proofs.Keys.{same_key, key_of_same, same_itself}
+use Rattle.ml_tile.proofs.Keys.{same_key, key_of_same, same_decides, same_itself}
 
 pub look_by : (key : TileKey) (es : List HeldTile) (o : Option (List ℕ)) → lookup (same_key key) es ≡ o → MatchBool (is_some o) (IsHeld key es) (¬ (IsHeld key es))
 look_by key es (Some v) h = let c = Contains-lookup (same_key key) es v h in (v, subst (λ k. Contains es (k, v)) (sym (key_of_same key c.0 c.2)) c.1)
@@ -32,6 +33,13 @@ absent key es h = absent_by key es (lookup_entry (same_key key) es) h refl
 -- a tile that is not held goes first, and the last one of a full cache goes
 pub put_new : (c : LruCache TileKey (List ℕ)) (key : TileKey) (body : List ℕ) → ¬ (IsHeld key c.entries) → c.cap ≡ 256 → put_entries same_key c key body ≡ take 256 ((key, body) ∷ c.entries)
 put_new c key body h cap = rw (absent key c.entries h, cap) refl
+
+-- so the cache holds each tile once, and no more than it may
+pub few_tiles : (c : LruCache TileKey (List ℕ)) → IsValid same_key c → c.cap ≡ 256 → AreFewTiles c.entries
+few_tiles c h most = record {
+  once = AllPairs-from_IsDistinct same_decides (keys_of c.entries) h.0;
+  few = let few = h.1 in omega arith;
+}
 
 ends_by : (es : List HeldTile) (o : Option HeldTile) → last_entry es ≡ o → MatchOption o (es ≡ []) (λ last. (front : List HeldTile) × (es ≡ front ++ last ∷ []))
 ends_by [] None h = refl

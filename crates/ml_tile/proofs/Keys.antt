@@ -1,5 +1,5 @@
 -- Keys are the same where their numbers are.
-use Rattle.std.proofs.Common.{◌≡◌, ◌≤◌, Bool, true, refl}
+use Rattle.std.proofs.Common.{◌≡◌, ◌≤◌, Bool, true, refl, subst}
 use Rattle.std.specs.Bool.{Decides}
 use Rattle.std.proofs.lemmas.Bool.Decides.{Decides-and, Decides-eqb, Decides-int_eq}
 use Rattle.std.proofs.Props.{props}
@@ -32,3 +32,7 @@ key_of_same a b h = let p = (decides a b).0 h in by_parts a b p.0 p.1.0 p.1.1
 
 pub same_itself : (a : TileKey) → same_key a a ≡ true
 same_itself a = (decides a a).1 (refl, (refl, refl))
+
+-- equality of keys tells whether they are the same
+pub same_decides : (a b : TileKey) → Decides (same_key a b) (a ≡ b)
+same_decides a b = (key_of_same a b, λ e. subst (λ k. same_key a k ≡ true) e (same_itself a))

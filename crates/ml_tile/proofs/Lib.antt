@@ -1,6 +1,6 @@
-pub mod Areas
-pub mod Held
-pub mod Keys
-pub mod Middles
-pub mod Turning
-pub mod Views
+mod Areas
+mod Held
+mod Keys
+mod Middles
+mod Turning
+mod Views

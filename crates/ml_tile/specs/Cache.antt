@@ -1,5 +1,6 @@
 -- What contracts see of held tiles.
-use Rattle.std.specs.Prelude.{ℕ, ◌+◌, ◌-◌, ◌^◌, ◌≡◌, ◌⊎◌, ◌≤◌, ◌<◌, min, List, [], ◌∷◌, ◌++◌, take, length, Option, MatchOption, Contains}
+use Rattle.std.specs.Prelude.{ℕ, ◌+◌, ◌-◌, ◌^◌, ◌≡◌, ◌≢◌, ◌⊎◌, ◌≤◌, ◌<◌, min, List, [], ◌∷◌, ◌++◌, take, length, Option, MatchOption, Contains, AllPairs}
+use Rattle.std.specs.Map.{keys_of}
 use Rattle.ml_ratio.specs.Fraction.{value_of}
 use Rattle.ml_cone.specs.declared.label.Label.{Label}
 use Rattle.ml_cone.specs.declared.slot.Span.{Span}
@@ -18,6 +19,11 @@ pub record Cache : Type 0 where
   pub tiles : List HeldTile
   pub hits : ℕ
   pub skips : ℕ
+
+-- each tile is held once, and at most 256 are held
+pub record AreFewTiles (tiles : List HeldTile) : Type 0 where
+  pub once : AllPairs (λ a b. a ≢ b) (keys_of tiles)
+  pub few : length tiles ≤ 256
 
 -- one more, up to 2^64 - 1
 abbrev pub one_more : ℕ → ℕ

@@ -92,7 +92,7 @@ fn middle(z: u8, i: i64) -> i64
 
 /// Whether there are tiles of depth `z`, which is at most 21, in column `i`: the middle of the column is
 /// in the world. The same holds of rows.
-pub fn has_column(z: u8, i: i64) -> bool
+pub(crate) fn has_column(z: u8, i: i64) -> bool
     requires { z ≤ 21 }
     ensures { IsTrue result ↔ IsInWorld (middle z i) }
 {

@@ -12,6 +12,6 @@ pub mod laws;
 pub mod tiles;
 pub mod words;
 
-pub use key::{TileKey, has_column};
+pub use key::TileKey;
 pub use tiles::Tiles;
 pub use words::read_tile;

@@ -41,7 +41,7 @@ impl Model for Tiles {
 }
 
 impl Tiles {
-    ghost use Rattle.ml_tile.specs.Cache.{IsHeld, IsHit, ShowsIn, Loses, one_more};
+    ghost use Rattle.ml_tile.specs.Cache.{IsHeld, IsHit, ShowsIn, Loses, AreFewTiles, one_more};
     ghost use Rattle.ml_tile.specs.Ends.{EndsFound};
 
     /// No tiles.
@@ -56,6 +56,14 @@ impl Tiles {
             hits: 0,
             skips: 0,
         })
+    }
+
+    /// How many tiles are held: whatever was done to them, each is there once, and at most 256 are.
+    pub fn len(&self) -> usize
+        ensures count { result ≡ length self.now.tiles }
+        ensures holds { AreFewTiles self.now.tiles }
+    {
+        self.held.len()
     }
 
     /// How often a tile that was asked for was held.

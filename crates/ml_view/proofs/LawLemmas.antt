@@ -4,7 +4,7 @@ use Rattle.std.specs.Prelude.{Contains}
 use Rattle.std.proofs.lemmas.Bool.{cases_order}
 use Rattle.std.proofs.lemmas.List.{get_or_default}
 use Rattle.ml_ratio.specs.Fraction.{Fraction, value_of, IsAtMost, IsSame}
-use Rattle.ml_ratio.proofs.Fractions.{at_most_trans, at_most_less}
+use Rattle.ml_ratio.proofs.lemmas.Fractions.{at_most_trans, at_most_less}
 use Rattle.ml_cone.specs.Choice.{Choice, ActiveUntil, Allows, IsConflictFree}
 use Rattle.ml_cone.specs.Overlap.{BoxesOverlap, Overlap}
 use Rattle.ml_cone.specs.Shown.{IsInView, IsShown, AreShown}

@@ -1,3 +1,4 @@
-pub mod Showing
-pub mod Scales
-pub mod LawLemmas
+mod Showing
+mod Scales
+mod LawLemmas
+mod Stretching

@@ -3,8 +3,8 @@ use Rattle.std.proofs.Common.{ℕ, ◌*◌, ◌^◌, ◌<◌, List, Some, arith,
 use Rattle.ml_ratio.specs.Fraction.{Fraction, value_of, IsLess, IsSame}
 use Rattle.ml_ratio.specs.Ratio.{ReadsRatio}
 use Rattle.ml_ratio.specs.declared.ratio.Ratio.{Ratio}
-use Rattle.ml_ratio.proofs.Fractions.{less_at_most, at_most_less}
-use Rattle.ml_ratio.proofs.Reading.{ratio_same}
+use Rattle.ml_ratio.proofs.lemmas.Fractions.{less_at_most, at_most_less}
+use Rattle.ml_ratio.proofs.lemmas.Numerals.{ratio_same}
 use Rattle.ml_view.specs.Words.{IsScaleWord}
 
 -- 0 and 2^28

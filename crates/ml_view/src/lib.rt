@@ -2,8 +2,8 @@
 //!
 //! - [`words`]: a view from five words ([`read_view`]);
 //! - [`filter`]: the places of the shown labels, by a look at every label ([`shown`]);
-//! - [`laws`]: that no two shown labels overlap, and that a map that is moved and not zoomed changes
-//!   labels at the window's edge alone.
+//! - [`laws`]: that no two shown labels overlap, that a map that is moved and not zoomed changes labels at
+//!   the window's edge alone, and when names stay apart where a map is drawn stretched.
 #![tactic(auto)]
 
 pub mod filter;

@@ -1,5 +1,5 @@
-pub mod Told
-pub mod Hearings
-pub mod Putting
-pub mod Sorting
-pub mod Spellings
+mod Told
+mod Hearings
+mod Putting
+mod Sorting
+mod Spellings

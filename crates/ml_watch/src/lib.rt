@@ -1,7 +1,8 @@
 //! Watchers, who are told what each edit of a map changes in the active ranges of its labels.
 //!
 //! - [`change`]: what an edit changes of one label; `sorted`: the order in which changes are told
-//!   ([`by_id`]); `line`: the line that says it; [`id`]: an id as it stands in a line, and read back;
+//!   ([`by_id`]); `line`: the line that says it, and `held`:
+//!   its bytes until they are given away; [`id`]: an id as it stands in a line, and read back;
 //! - [`watcher`]: one who is told changes ([`Watcher`]); [`crowd`]: watchers, each in its place
 //!   ([`Crowd`]);
 //! - [`mem_watcher`], [`line_watcher`]: a watcher in memory, and one that writes lines into a sink;
@@ -10,6 +11,7 @@
 
 pub mod change;
 pub mod crowd;
+mod held;
 pub mod id;
 pub mod laws;
 mod line;

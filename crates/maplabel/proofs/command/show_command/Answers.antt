@@ -1,5 +1,6 @@
 use Rattle.std.proofs.Common.{string_bytes}
-use Rattle.maplabel.proofs.FormLemmas.{first_item, no_show}
+use Rattle.maplabel.proofs.CommandLemmas.{no_show}
+use Rattle.maplabel.proofs.WordLemmas.{first_item}
 use Rattle.maplabel.proofs.command.show_command.Goals as goal
 
 pub returns-in-None : goal.returns-in-None

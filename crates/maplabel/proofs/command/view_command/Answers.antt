@@ -1,5 +1,6 @@
 use Rattle.std.proofs.Common.{string_bytes}
-use Rattle.maplabel.proofs.FormLemmas.{two_items, no_show_map}
+use Rattle.maplabel.proofs.CommandLemmas.{no_show_map}
+use Rattle.maplabel.proofs.WordLemmas.{two_items}
 use Rattle.maplabel.proofs.command.view_command.Goals as goal
 
 pub returns-in-None : goal.returns-in-None

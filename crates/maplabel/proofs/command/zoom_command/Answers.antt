@@ -1,5 +1,6 @@
 use Rattle.std.proofs.Common.{string_bytes}
-use Rattle.maplabel.proofs.FormLemmas.{two_items, no_zoom}
+use Rattle.maplabel.proofs.CommandLemmas.{no_zoom}
+use Rattle.maplabel.proofs.WordLemmas.{two_items}
 use Rattle.maplabel.proofs.command.zoom_command.Goals as goal
 
 pub returns-in-None : goal.returns-in-None

@@ -14,5 +14,5 @@ pub returns-clause-followed : goal.returns-clause-followed
 returns-clause-followed g c =
     rw c.halted-in-Err-print_held.ensures (
     halted_late g.W.Watcher.hearing c.args.states _ _ _ _ (g.K.Sink.written c.offer_all.new.out) _ _ (g.K.Sink.faults c.offer_all.new.out) _ c.in-Ok.all c.in-Err-print_held.halt
-    (rw c.new-follower.ensures at c.in-Ok.ensures.offered) c.offer_all.ensures.later c.in-Err-print_held.ensures.printed
+    (rw c.new-follower.ensures at c.in-Ok.ensures.offered) c.in-Err-print_held.ensures.printed
     )

@@ -5,7 +5,7 @@ use Rattle.maplabel.proofs.following.offer.Goals as goal
 pub returns-in-Ok-put_all-clause-turn : goal.returns-in-Ok-put_all-clause-turn
 returns-in-Ok-put_all-clause-turn g c =
     let answered = c.in-Ok.ensures.answered in
-    (offered c.in-Ok.answer answered.0, answered.1, rw c.deref.ensures.value at c.in-Ok-put_all.ensures.ok, refl)
+    (offered c.in-Ok.answer answered.0, answered.1, rw c.deref.ensures.value at c.in-Ok-put_all.ensures.ok, refl, c.in-Ok-put_all.ensures.cause.fine)
 
 pub returns-clause-turn : goal.returns-clause-turn
 returns-clause-turn g c =

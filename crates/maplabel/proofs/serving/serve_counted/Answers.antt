@@ -10,9 +10,9 @@ returns-clause-served g c =
       visits = served.0;
       end = c.serve-end.result;
       headline = served.1;
-      ends = served.2;
-      unready = c.serve-end.ensures.unready;
+      printed = served.2;
       cause = c.serve-end.ensures.cause;
+      at_port = c.serve-end.ensures.port;
       crowd_is = refl;
       status_is = c.status_of_serving.ensures;
     }

@@ -1,27 +1,39 @@
-use Rattle.std.proofs.Common.{◌≡◌, arith}
-use Rattle.ml_cert.proofs.Dues.{Known, pair_of, due_free, due_above, due_more, due_kept, clash_at}
+use Rattle.std.proofs.Common.{◌≡◌, ◌<◌, length, get_or, arith, subst, sym, ◌∙◌}
+use Rattle.std.specs.Prelude.{IfSome}
+use Rattle.std.proofs.lemmas.List.{get_or_default}
+use Rattle.ml_cone.specs.declared.label.Label.{Label}
+use Rattle.ml_cert.specs.Anchors.{IsAnchorOf}
+use Rattle.ml_cert.proofs.Dues.{Known, pair_of, due_none, due_more, due_kept, clash_at}
 use Rattle.ml_cert.proofs.judge.blocker_due.Goals as goal
-use Rattle.ml_cert.proofs.judge.blocker_due.Goals.{in-Some+else-is_less+then-is_none+then-not-is_less, in-Some+else-is_less+else-is_none, else-is_none-via-then-is_none+else-not-is_less, else-is_none-via-else-is_none, in_default}
+use Rattle.ml_cert.proofs.judge.blocker_due.Goals.{in-Some+else-is_less+then-is_none, in-Some+else-is_less+else-is_none, in_default}
 
 pub loop-j-preserved : goal.loop-j-preserved
 loop-j-preserved c =
-    let known : Known = record { smaller = c.smaller_ends.ensures; same = c.same_limits.ensures; limits = c.blocking.ensures.limits; blocks = c.blocking.ensures.blocks } in
+    let known : Known = record { smaller = c.smaller_ends.ensures; same = c.same_limits.ensures; allowed = c.allowed_up_to.ensures; limits = c.blocking.ensures.limits; blocks = c.blocking.ensures.blocks } in
     let pair = pair_of c.args.labels.now c.args.slots.now c.args.i c.loop-j.j c.index-labels-i.result c.index-labels-j.result c.index-slots-i.result c.index-slots-j.result (omega arith) c.requires.at c.requires.lengths c.index-labels-i.is c.index-labels-j.is c.requires.end in
-    elim c.match-first_block.branch [
-      | in-Some+else-is_less+then-is_none+then-not-is_less w ↦
-          rw w.due-is (due_more known pair c.loop-j.invariant w.in-Some.ensures.some.0 w.in-Some.ensures.some.1 (omega (arith, w.if-is_less.ensures, w.if-not-is_less.ensures)) w.if-is_none.ensures)
-      | in-Some+else-is_less+else-is_none w ↦ elim w.else-is_none.branch [
-        | else-is_none-via-then-is_none+else-not-is_less x ↦ rw w.due-is (due_above known pair c.loop-j.invariant w.in-Some.ensures.some.0 x.if-not-is_less.ensures)
-        | else-is_none-via-else-is_none x ↦ rw w.due-is (due_kept known pair c.loop-j.invariant w.in-Some.ensures.some.0 w.if-is_less.ensures x.if-is_none.ensures)
-      ]
-      | in_default w ↦ rw w.due-is (due_free known pair c.loop-j.invariant w.in_default.ensures.none)
+    elim c.match-limit_near.branch [
+      | in-Some+else-is_less+then-is_none w ↦
+          rw w.due-is (due_more known pair c.loop-j.invariant w.in-Some.ensures.some w.in-Some.ensures.below.0 (omega (arith, w.if-is_less.ensures, w.in-Some.ensures.below.1)) w.if-is_none.ensures)
+      | in-Some+else-is_less+else-is_none w ↦ rw w.due-is (due_kept known pair c.loop-j.invariant w.in-Some.ensures.some w.if-is_less.ensures w.if-is_none.ensures)
+      | in_default w ↦ rw w.due-is (due_none known pair c.loop-j.invariant w.in_default.ensures.none)
     ]
 
 pub returns-then-is_less : goal.returns-then-is_less
 returns-then-is_less c =
-    let known : Known = record { smaller = c.smaller_ends.ensures; same = c.same_limits.ensures; limits = c.blocking.ensures.limits; blocks = c.blocking.ensures.blocks } in
+    let known : Known = record { smaller = c.smaller_ends.ensures; same = c.same_limits.ensures; allowed = c.allowed_up_to.ensures; limits = c.blocking.ensures.limits; blocks = c.blocking.ensures.blocks } in
     let pair = pair_of c.args.labels.now c.args.slots.now c.args.i c.loop-j.j c.index-labels-i.result c.index-labels-j.result c.index-slots-i.result c.index-slots-j.result (omega arith) c.requires.at c.requires.lengths c.index-labels-i.is c.index-labels-j.is c.requires.end in
-    clash_at known pair c.loop-j.invariant c.in-Some.limit c.in-Some.ensures.some.0 c.if-is_less.ensures
+    clash_at known pair c.loop-j.invariant c.in-Some.limit c.in-Some.ensures.some c.if-is_less.ensures
 
 pub returns : goal.returns
 returns c = let last : c.loop-j.j ≡ c.args.i = omega arith in rw last at c.loop-j.invariant
+
+pub limit_near-requires : goal.limit_near-requires
+limit_near-requires c =
+    let labels = c.args.labels.now in
+    let a : Label = c.index-labels-i.result in
+    let b : Label = c.index-labels-j.result in
+    let there : c.loop-j.j < length labels = (let at = c.requires.at in omega arith) in
+    let given = c.anchor_at-anchor.ensures c.args.i a c.requires.at in
+    let high : b ≡ get_or labels c.loop-j.j a = c.index-labels-j.is ∙ get_or_default labels c.loop-j.j b a there in
+    subst (λ (x : Label). IfSome c.anchor_at-anchor.result (IsAnchorOf x b)) (sym c.index-labels-i.is)
+    (subst (λ (y : Label). IfSome c.anchor_at-anchor.result (IsAnchorOf (get_or labels c.args.i a) y)) (sym high) given)

@@ -1,10 +1,14 @@
 use Rattle.std.proofs.Common.{arith}
 use Rattle.ml_ratio.specs.Fraction.{value_of, IsSame, IsLess, IsAtMost}
-use Rattle.ml_ratio.proofs.Fractions.{at_most_less, less_at_most, at_most_trans}
+use Rattle.ml_ratio.proofs.lemmas.Fractions.{at_most_less, less_at_most, at_most_trans}
 use Rattle.ml_conflict.specs.Quotient.{worth}
 use Rattle.ml_conflict.proofs.Greedy.{Allows-smaller}
-use Rattle.ml_conflict.proofs.Limits.{limit_same, none_of_allowed, none_of_above}
+use Rattle.ml_conflict.proofs.Limits.{limit_same, none_of_allowed, none_of_above, none_of_clear}
 use Rattle.ml_conflict.proofs.block.limit_up_to.Goals as goal
+
+pub returns-then-are_clear-clause-none : goal.returns-then-are_clear-clause-none
+returns-then-are_clear-clause-none c =
+    none_of_clear c.args.low.now c.args.high.now (value_of c.args.until.now) (value_of c.args.bound.now) (rw (c.num.ensures, c.den.ensures) at c.if-are_clear.ensures)
 
 pub returns-then-not-is_less-clause-none : goal.returns-then-not-is_less-clause-none
 returns-then-not-is_less-clause-none c =

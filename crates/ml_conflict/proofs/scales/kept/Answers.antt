@@ -1,7 +1,7 @@
 use Rattle.std.proofs.Common.{arith}
 use Rattle.ml_ratio.specs.Fraction.{IsLess}
 use Rattle.ml_conflict.specs.Quotient.{worth}
-use Rattle.ml_ratio.proofs.Fractions.{less_trans}
+use Rattle.ml_ratio.proofs.lemmas.Fractions.{less_trans}
 use Rattle.ml_conflict.proofs.scales.kept.Goals as goal
 
 pub returns-else-is_less-clause-same : goal.returns-else-is_less-clause-same

@@ -1,6 +1,6 @@
 use Rattle.std.proofs.Common.{inl, inr}
 use Rattle.ml_ratio.specs.Fraction.{value_of}
-use Rattle.ml_ratio.proofs.Fractions.{less_at_most, less_trans}
+use Rattle.ml_ratio.proofs.lemmas.Fractions.{less_at_most, less_trans}
 use Rattle.ml_flight.proofs.stay.later.Goals as goal
 
 pub returns-then-is_less-clause-below : goal.returns-then-is_less-clause-below

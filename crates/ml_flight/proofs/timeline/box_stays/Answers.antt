@@ -2,7 +2,7 @@ use Rattle.std.proofs.Common.{◌≡◌, ◌+◌, ◌≤◌, ◌∷◌, ◌++◌
 use Rattle.ml_flight.specs.Shown.{BoxInWindow, IsInWindow}
 use Rattle.ml_cone.specs.declared.label.BoxPx.{BoxPx}
 use Rattle.ml_flight.specs.declared.stay.Stay.{Stay}
-use Rattle.ml_flight.proofs.Anys.{any_whole, any_of_whole}
+use Rattle.ml_ratio.proofs.lemmas.Anys.{any_whole, any_of_whole}
 use Rattle.ml_flight.proofs.Boxes.{Pieces, pieces_more, pieces_same}
 use Rattle.ml_flight.proofs.timeline.box_stays.Goals as goal
 use Rattle.ml_flight.proofs.timeline.box_stays.Goals.{in-Some-box_stay+in_ok-push, in_default-box_stay}

@@ -10,7 +10,7 @@ use Rattle.ml_flight.specs.Window.{IsViewThrough}
 use Rattle.ml_flight.specs.Stay.{HoldsScale, HaveScale, BeginsBy, AreApart, begin_of}
 use Rattle.ml_flight.specs.Stays.{AreMaximal}
 use Rattle.ml_flight.specs.declared.stay.Stay.{Stay}
-use Rattle.ml_flight.proofs.Anys.{any_permutation}
+use Rattle.ml_ratio.proofs.lemmas.Anys.{any_permutation}
 use Rattle.ml_flight.proofs.Convex.{one_stay}
 use Rattle.ml_flight.proofs.Maximal.{apart_maximal}
 use Rattle.ml_flight.proofs.Results.{ok_both}

@@ -1,5 +1,5 @@
 use Rattle.ml_ratio.specs.Fraction.{value_of}
-use Rattle.ml_ratio.proofs.Fractions.{scale_above}
+use Rattle.ml_ratio.proofs.lemmas.Fractions.{scale_above}
 use Rattle.ml_gaps.proofs.block.block_pair.Goals as goal
 
 pub returns-in-Some : goal.returns-in-Some

@@ -1,6 +1,11 @@
 use Rattle.std.proofs.Common.{◌≡◌, []}
+use Rattle.ml_gaps.specs.Near.{AreNears}
 use Rattle.ml_gaps.proofs.Choosing.{Chosen}
 use Rattle.ml_gaps.proofs.choice.gaps.Given as goal
 
 abbrev pub invariant-loop-label : goal.invariant-loop-label
-invariant-loop-label l = Chosen l.labels l.label-index l.gaps × (l.pieces.items ≡ [])
+invariant-loop-label l = record {
+  chosen : Chosen l.labels l.label-index l.gaps;
+  empty : l.pieces.items ≡ [];
+  nears : AreNears l.labels l.gaps l.nears.items;
+}

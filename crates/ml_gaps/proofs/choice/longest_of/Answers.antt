@@ -6,7 +6,7 @@ use Rattle.ml_ratio.specs.Fraction.{Fraction, value_of, IsAtMost}
 use Rattle.ml_ratio.specs.RatioOrder.{ratio_cmp}
 use Rattle.ml_gaps.specs.Piece.{HoldsScale, HaveScale}
 use Rattle.ml_gaps.specs.declared.piece.Piece.{Piece}
-use Rattle.ml_gaps.proofs.Anys.{any_permutation}
+use Rattle.ml_ratio.proofs.lemmas.Anys.{any_permutation}
 use Rattle.ml_gaps.proofs.Choosing.{sorted_pieces, begin_within, longest_like}
 use Rattle.ml_gaps.proofs.choice.longest_of.Goals as goal
 

@@ -1,6 +1,6 @@
 use Rattle.std.proofs.Common.{arith}
 use Rattle.ml_ratio.specs.Fraction.{value_of}
-use Rattle.ml_ratio.proofs.Fractions.{below_both, below_both_turned}
+use Rattle.ml_ratio.proofs.lemmas.Fractions.{below_both, below_both_turned}
 use Rattle.ml_gaps.proofs.piece.smaller.Goals as goal
 
 pub returns-then-is_less : goal.returns-then-is_less

@@ -12,7 +12,10 @@ loop-band-preserved c = record {
   few = let m = c.loop-band.invariant.few in let k = c.entries_in-count.ensures.few in omega arith;
 }
 
-pub returns : goal.returns
-returns c =
+pub returns-clause-count : goal.returns-clause-count
+returns-clause-count c =
     let e = c.loop-band.invariant.counted in
     e ∙ ap (entries_below c.args.label.now) (omega arith) ∙ count_all c.args.label.now
+
+pub returns-clause-few : goal.returns-clause-few
+returns-clause-few c = let m = c.loop-band.invariant.few in omega arith

@@ -4,17 +4,16 @@ use Rattle.ml_spans.specs.Search.{is_in_range}
 use Rattle.ml_grid.specs.Cell.{cell_cmp}
 use Rattle.ml_grid.specs.Entry.{Entry}
 use Rattle.ml_grid.specs.Column.{IsInColumn}
-use Rattle.ml_grid.proofs.Finds.{Picks, finds_picked, column_tests, on_ok}
+use Rattle.ml_grid.proofs.Finds.{finds_tested, column_tests, on_ok}
 use Rattle.ml_grid.proofs.find.find_column.Goals as goal
 
 pub returns : goal.returns
 returns c =
     let ends = c.column_ends.ensures in
     let test : Entry → Bool = is_in_range cell_cmp c.column_ends.result.0 c.column_ends.result.1 in
-    let picks : Picks test c.args.tree.now.entries = (c.value_found.ensures test c.args.tree.now.entries, c.found_value.ensures test c.args.tree.now.entries) in
     record {
       ok = on_ok c.range.result _ _
-          (finds_picked test
-          (IsInColumn c.args.cells.now c.args.x) c.args.tree.now.entries c.args.found.now c.range.new.out picks (λ e. rw (ends.first, ends.last, to_z-of_z w64 c.args.x c.ranges.x) (column_tests c.args.cells.now c.args.x e)))
-          c.range.ensures.ok;
+          (finds_tested test
+          (IsInColumn c.args.cells.now c.args.x) c.args.tree.now.entries c.args.found.now c.range.new.out (λ e. rw (ends.first, ends.last, to_z-of_z w64 c.args.x c.ranges.x) (column_tests c.args.cells.now c.args.x e)))
+          c.range.ensures.members;
     }

@@ -5,17 +5,16 @@ use Rattle.ml_spans.specs.Search.{is_stabbed}
 use Rattle.ml_grid.specs.Cell.{cell_cmp}
 use Rattle.ml_grid.specs.Entry.{Entry}
 use Rattle.ml_grid.specs.Column.{IsInColumnFrom}
-use Rattle.ml_grid.proofs.Finds.{Picks, finds_picked, column_from_tests, on_ok}
+use Rattle.ml_grid.proofs.Finds.{finds_tested, column_from_tests, on_ok}
 use Rattle.ml_grid.proofs.find.find_column_from.Goals as goal
 
 pub returns : goal.returns
 returns c =
     let ends = c.column_ends.ensures in
     let test : Entry → Bool = is_stabbed cell_cmp ratio_cmp c.column_ends.result.0 c.column_ends.result.1 c.args.scale.now in
-    let picks : Picks test c.args.tree.now.entries = (c.value_found.ensures test c.args.tree.now.entries, c.found_value.ensures test c.args.tree.now.entries) in
     record {
       ok = on_ok c.stab.result _ _
-          (finds_picked test
-          (IsInColumnFrom c.args.cells.now c.args.x c.args.scale.now) c.args.tree.now.entries c.args.found.now c.stab.new.out picks (λ e. rw (ends.first, ends.last, to_z-of_z w64 c.args.x c.ranges.x) (column_from_tests c.args.cells.now c.args.x c.args.scale.now e)))
-          c.stab.ensures.ok;
+          (finds_tested test
+          (IsInColumnFrom c.args.cells.now c.args.x c.args.scale.now) c.args.tree.now.entries c.args.found.now c.stab.new.out (λ e. rw (ends.first, ends.last, to_z-of_z w64 c.args.x c.ranges.x) (column_from_tests c.args.cells.now c.args.x c.args.scale.now e)))
+          c.stab.ensures.members;
     }

@@ -1,12 +1,15 @@
-use Rattle.std.proofs.Common.{◌≡◌, ◌∙◌, ap, refl, ◌*◌, ◌/◌, ◌<◌, rules, arith, FitsSigned, w64, ℤ, pos, ◌+ℤ◌, ◌-ℤ◌, ◌*ℤ◌, to_z, of_z}
+use Rattle.std.proofs.Common.{◌≡◌, ℕ, ◌∙◌, ap, refl, ◌*◌, ◌/◌, ◌<◌, rules, arith, FitsSigned, w64, ℤ, pos, ◌+ℤ◌, ◌-ℤ◌, ◌*ℤ◌, to_z, of_z}
 use Rattle.std.specs.Int.{int_div_euclid}
 use Rattle.std.proofs.lemmas.Int.{to_z-of_z}
-use Rattle.std.proofs.lemmas.Nat.{mul-lt}
+use Rattle.std.proofs.lemmas.Nat.{mul-lt, pow_pos}
 use Rattle.ml_ratio.specs.Fraction.{value_of}
 use Rattle.ml_cone.specs.Cells.{cell_side}
-use Rattle.ml_cone.proofs.Hulls.{side_pos}
 use Rattle.ml_grid.proofs.Windows.{window_columns, window_few}
 use Rattle.ml_grid.proofs.window.columns_in.Goals as goal
+
+-- a cell has a side
+side_pos : (k : ℕ) → 0 < cell_side k
+side_pos k = omega (arith, pow_pos k)
 
 -- the floor that was computed, from its parts
 floor_back : (r m h s : ℤ) (c d : ℤ) (k : ℤ) → FitsSigned w64 r → FitsSigned w64 m → FitsSigned w64 h → FitsSigned w64 s → m ≡ c → h ≡ d → s ≡ k →

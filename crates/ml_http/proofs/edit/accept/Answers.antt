@@ -19,7 +19,7 @@ returns-clause-ok g c =
         state = c.commit.ensures.step;
         before = rows;
         after = rows_after ready.work rows;
-        rows_before = record { labels = c.rev-before.ensures.holds.labels; settled = c.rev-before.ensures.holds.settled };
+        rows_before = record { labels = c.commit.ensures.stood.labels; settled = c.commit.ensures.stood.settled };
         rows_after = record { labels = subst (λ s. AreLabelsOf s.style s.features (labels_in (rows_after ready.work rows))) (sym c.commit.ensures.step) of_state.labels; settled = of_state.settled };
         changes = of_state.changes;
         cost = of_state.cost;

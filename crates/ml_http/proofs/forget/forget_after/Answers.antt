@@ -5,7 +5,7 @@ use Rattle.std.proofs.lemmas.Bool.{false≢true}
 use Rattle.ml_cone.specs.declared.label.Label.{Label}
 use Rattle.ml_repair.specs.Edit.{IsEdited}
 use Rattle.ml_store.specs.Rows.{labels_in}
-use Rattle.ml_store.proofs.ByName.{ids_decide}
+use Rattle.std.proofs.lemmas.Slice.Eq.{bytes_eq-Decides}
 use Rattle.ml_editor.specs.Editing.{IsLabelWith, rows_after}
 use Rattle.ml_http.proofs.Dropping.{forgotten, other_label}
 use Rattle.ml_http.proofs.forget.forget_after.Goals.{then-eq, else-eq}
@@ -25,11 +25,11 @@ returns c =
     let L : Option Label → Type 0 = λ l. IsLabelWith (labels_in after) l own in
     let with_id : IsLabelWith (labels_in after) (option_copied c.if-eq.label) own = elim c.if-eq.branch [
       | then-eq w ↦
-          let same : own ≡ id = (ids_decide own id).0 (sym c.eq.ensures ∙ w.if-eq.true) in
+          let same : own ≡ id = (bytes_eq-Decides own id).0 (sym c.eq.ensures ∙ w.if-eq.true) in
           subst L (sym (ap option_copied w.label-is ∙ w.edited-label.ensures)) (subst (λ (i : List ℕ). IsLabelWith (labels_in after) come i) (sym same) came)
       | else-eq w ↦
-          let differ : own ≢ id = λ e. false≢true (sym w.if-eq.false ∙ c.eq.ensures ∙ (ids_decide own id).1 e) in
+          let differ : own ≢ id = λ e. false≢true (sym w.if-eq.false ∙ c.eq.ensures ∙ (bytes_eq-Decides own id).1 e) in
           subst L (sym (ap option_copied w.label-is))
-          (other_label (labels_in rows) (labels_in after) id own come (option_copied w.label_with-label.result) edited came differ w.label_with-label.ensures)
+          (other_label (labels_in rows) (labels_in after) id own come (option_copied w.label_with-label.result) edited came differ w.label_with-label.ensures.label)
     ] in
     forgotten c.one_label_an_id.ensures after c.requires.of_state.settled own (option_copied c.if-eq.label) c.args.change.now.after _ _ c.requires.told with_id c.forget_label.ensures

@@ -1,12 +1,12 @@
 use Rattle.std.proofs.Common.{List, Contains, sym, ap, ◌∙◌, subst}
 use Rattle.ml_cone.specs.declared.label.Label.{Label}
 use Rattle.ml_store.specs.Rows.{labels_in}
-use Rattle.ml_store.proofs.Lists.{contains_map}
+use Rattle.ml_ratio.proofs.lemmas.Lists.{contains_map}
 use Rattle.ml_http.proofs.forget.label_with.Goals as goal
 
-pub returns-in-Some : goal.returns-in-Some
-returns-in-Some c =
-    let there = c.in-Some.ensures in
+pub returns-in-Some-clause-label : goal.returns-in-Some-clause-label
+returns-in-Some-clause-label c =
+    let there = c.in-Some.ensures.number in
     let rows = c.args.editor.now.engine.rows in
     let is = c.label_at.ensures there.0 there.1 there.3 in
     let P : Label → Type 0 = λ l. Contains (labels_in rows) l in

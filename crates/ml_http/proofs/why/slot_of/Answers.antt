@@ -13,7 +13,7 @@ returns c =
     IfOk-weaker c.slot_json.result _ _
     (λ text is. (
       c.args.editor.now.engine.rows,
-      record { labels = c.rev-rev.ensures.holds.labels; settled = c.rev-rev.ensures.holds.settled },
+      record { labels = c.slot_at-slot.ensures.holds.labels; settled = c.slot_at-slot.ensures.holds.settled },
       (
         row,
         c.requires.1,

@@ -1,6 +1,7 @@
 use Rattle.std.proofs.Common.{sym, ◌∙◌, ap}
 use Rattle.std.specs.Result.{result_ok}
-use Rattle.ml_ratio.proofs.Numbers.{parse_up_to, up_to_some, up_to_none}
+use Rattle.ml_ratio.proofs.lemmas.Numerals.{up_to_some}
+use Rattle.ml_ratio.proofs.Numbers.{parse_up_to, up_to_none}
 use Rattle.ml_ratio.proofs.number.read_up_to.Goals as goal
 
 pub returns-then-is_up_to : goal.returns-then-is_up_to

@@ -2,7 +2,6 @@ use Rattle.std.proofs.Common.{◌≡◌, ◌∙◌, ◌<◌, arith, get_or, leng
 use Rattle.ml_store.specs.declared.row.Row.{Row}
 use Rattle.ml_repair.specs.Moves.{numbers_of}
 use Rattle.ml_repair.specs.declared.edit.Moved.{Moved}
-use Rattle.ml_store.proofs.Naming.{number_read}
 use Rattle.std.proofs.lemmas.List.{get_or-map}
 use Rattle.ml_repair.proofs.Noting.{noted_fresh, noted_more, noted_all}
 use Rattle.ml_repair.proofs.changes.stay_changes.Goals as goal
@@ -22,7 +21,7 @@ loop-m-preserved c =
       | in-Some+in_ok-push_moved-in-Some w ↦
           let r : Row = w.row.result.now in
           rw w.out-is (noted_more rows moved k c.loop-m.out.items c.loop-m.invariant m r w.push_moved.new.out.items c.as_slice-moved.ensures.differ lt read c.len-many.ensures.numbered.differ c.requires
-          (w.in-Some.at, w.in-Some.ensures.0, w.row.ensures r) (sym (number_read rows w.in-Some.at r w.in-Some.ensures.0 (sym (w.row.ensures r))) ∙ w.in-Some.ensures.1) w.in_ok-push_moved-in-Some.ensures)
+          (w.in-Some.at, w.in-Some.ensures.0, w.row.ensures.row r) (sym (w.row.ensures.number) ∙ w.in-Some.ensures.1) w.in_ok-push_moved-in-Some.ensures)
       | in-None w ↦
           let number : get_or (numbers_of moved) k 0 ≡ m.number = get_or-map (λ (x : Moved). x.number) moved k m 0 lt ∙ ap (λ (x : Moved). x.number) read in
           rw w.out-is (noted_fresh rows moved k c.loop-m.out.items c.loop-m.invariant (rw number w.in-None.ensures))

@@ -3,23 +3,22 @@ use Rattle.std.proofs.lemmas.Bool.{false≢true}
 use Rattle.ml_ratio.specs.Fraction.{value_of}
 use Rattle.ml_cone.specs.declared.label.Label.{Label}
 use Rattle.ml_cone.specs.declared.slot.Slot.{Slot}
-use Rattle.ml_repair.proofs.NearRosters.{label_read}
 use Rattle.ml_repair.proofs.Gathering.{sifted_apart, sifted_idle, sifted_limit}
 use Rattle.ml_repair.proofs.gather.sift_one.Goals as goal
 
 pub returns-else-stands : goal.returns-else-stands
-returns-else-stands c = sifted_apart c.args.roster.now c.args.moves.now c.args.low.now c.args.at c.args.comes c.args.i c.args.place c.args.bound c.args.out.now (λ s. let e = c.stands.ensures.1 s in absurd (let no = c.if-stands.false in false≢true (sym no ∙ e)))
+returns-else-stands c = sifted_apart c.args.sought.now.roster.now c.args.sought.now.moves.now c.args.sought.now.low.now c.args.sought.now.edited.at c.args.sought.now.edited.comes c.args.sought.now.place c.args.place c.args.bound c.args.out.now (λ s. let e = c.stands.ensures.1 s in absurd (let no = c.if-stands.false in false≢true (sym no ∙ e)))
 
 pub returns-in_ok-push-in-Some : goal.returns-in_ok-push-in-Some
 returns-in_ok-push-in-Some c =
     let r = c.row-row.result.now in
     let until = ap (λ (s : Slot). value_of s.until) c.present_slot.ensures in
-    sifted_limit c.args.roster.now c.args.moves.now c.args.low.now c.args.at c.args.comes c.args.i c.args.place c.args.bound c.in-Some.limit c.args.out.now c.push.new.self (c.stands.ensures.0 c.if-stands.true)
-    (λ (d : Label). rw (label_read c.args.roster.now c.args.place r d c.requires (sym (c.row-row.ensures r)), ← until) c.in-Some.ensures.some) c.in-Some.ensures.below.1 c.in_ok-push-in-Some.ensures.ok
+    sifted_limit c.args.sought.now.roster.now c.args.sought.now.moves.now c.args.sought.now.low.now c.args.sought.now.edited.at c.args.sought.now.edited.comes c.args.sought.now.place c.args.place c.args.bound c.in-Some.limit c.args.out.now c.push.new.self (c.stands.ensures.0 c.if-stands.true)
+    (λ (d : Label). rw (c.row-row.ensures.label d, ← until) c.in-Some.ensures.some) c.in-Some.ensures.below.1 c.in_ok-push-in-Some.ensures.ok
 
 pub returns-in-None : goal.returns-in-None
 returns-in-None c =
     let r = c.row-row.result.now in
     let until = ap (λ (s : Slot). value_of s.until) c.present_slot.ensures in
-    sifted_idle c.args.roster.now c.args.moves.now c.args.low.now c.args.at c.args.comes c.args.i c.args.place c.args.bound c.args.out.now
-    (λ (d : Label). rw (label_read c.args.roster.now c.args.place r d c.requires (sym (c.row-row.ensures r)), ← until) c.in-None.ensures.none)
+    sifted_idle c.args.sought.now.roster.now c.args.sought.now.moves.now c.args.sought.now.low.now c.args.sought.now.edited.at c.args.sought.now.edited.comes c.args.sought.now.place c.args.place c.args.bound c.args.out.now
+    (λ (d : Label). rw (c.row-row.ensures.label d, ← until) c.in-None.ensures.none)

@@ -10,7 +10,7 @@ use Rattle.ml_repair.specs.Placed.{IsPlaceFor}
 use Rattle.ml_repair.specs.Plan.{planned_rows}
 use Rattle.ml_repair.specs.declared.edit.LabelEdit.TheVariants.{Add}
 use Rattle.ml_repair.proofs.Changing.{change_same, edited_change, ranged}
-use Rattle.ml_repair.proofs.Plans.{start_settled, in_state, in_labels, in_changes, in_cost, span_same}
+use Rattle.ml_repair.proofs.Plans.{start_settled, in_plan, span_same}
 use Rattle.ml_repair.proofs.planning.plan_in.Goals as goal
 
 pub place_for-at-requires : goal.place_for-at-requires
@@ -31,28 +31,8 @@ edit_changes-requires-clause-own g c =
     let id : c.in_ok-copy.field-0 ≡ c.args.label.order.id = c.in_ok-copy.ensures ∙ c.id.ensures ∙ ap (λ (l : Label). l.order.id) label in
     rw (c.left-roster.ensures, id) c.requires.new_id
 
-pub returns-clause-of_state : goal.returns-clause-of_state
-returns-clause-of_state g c =
-    let rows = c.args.store.now.rows in
-    let row : Row = c.pass_in.new.row in
-    let label : row.label ≡ c.args.label = c.pass_in.ensures.label ∙ c.row_for-row.ensures.label in
-    let number : row.number ≡ c.free-number.result = c.pass_in.ensures.number ∙ c.row_for-row.ensures.number in
-    let is_row : c.in_ok-row.row.value ≡ row = c.in_ok-row.ensures.ok in
-    let place : IsPlaceFor (labels_in rows) row.label.order c.place_for-at.result = rw (label, ← c.order.ensures) (rw c.left-roster.ensures at c.place_for-at.ensures) in
-    in_state rows c.place_for-at.result row c.in_ok-row.row c.into_vec.result.items c.in_ok-changes.changes c.in_ok-evaluated.evaluated c.requires.settled (rw label c.requires.new_id) c.requires.few (rw number c.free-number.ensures.free) (rw number c.free-number.ensures.low) place (rw c.into_vec.ensures.moved c.in_ok-evaluated.ensures.after) (rw c.into_vec.ensures.moved c.in_ok-evaluated.ensures.kept) is_row
-
-pub returns-clause-labels : goal.returns-clause-labels
-returns-clause-labels g c =
-    let rows = c.args.store.now.rows in
-    let row : Row = c.pass_in.new.row in
-    let label : row.label ≡ c.args.label = c.pass_in.ensures.label ∙ c.row_for-row.ensures.label in
-    let number : row.number ≡ c.free-number.result = c.pass_in.ensures.number ∙ c.row_for-row.ensures.number in
-    let is_row : c.in_ok-row.row.value ≡ row = c.in_ok-row.ensures.ok in
-    let place : IsPlaceFor (labels_in rows) row.label.order c.place_for-at.result = rw (label, ← c.order.ensures) (rw c.left-roster.ensures at c.place_for-at.ensures) in
-    subst (λ (l : Label). IsEdited l.order.id (Some l) (labels_in rows) (labels_in (planned_rows (record { edit = Add c.in_ok-row.row; moved = c.into_vec.result.items; changes = c.in_ok-changes.changes; evaluated = c.in_ok-evaluated.evaluated }) rows))) label (in_labels rows c.place_for-at.result row c.in_ok-row.row c.into_vec.result.items c.in_ok-changes.changes c.in_ok-evaluated.evaluated c.requires.settled (rw label c.requires.new_id) c.requires.few (rw number c.free-number.ensures.free) (rw number c.free-number.ensures.low) place (rw c.into_vec.ensures.moved c.in_ok-evaluated.ensures.after) (rw c.into_vec.ensures.moved c.in_ok-evaluated.ensures.kept) is_row)
-
-pub returns-clause-changes : goal.returns-clause-changes
-returns-clause-changes g c =
+pub returns : goal.returns
+returns g c =
     let rows = c.args.store.now.rows in
     let row : Row = c.pass_in.new.row in
     let label : row.label ≡ c.args.label = c.pass_in.ensures.label ∙ c.row_for-row.ensures.label in
@@ -61,15 +41,8 @@ returns-clause-changes g c =
     let place : IsPlaceFor (labels_in rows) row.label.order c.place_for-at.result = rw (label, ← c.order.ensures) (rw c.left-roster.ensures at c.place_for-at.ensures) in
     let edited : Change = record { id = c.in_ok-copy.field-0; before = None; after = Some c.span_of.result } in
     let id : c.in_ok-copy.field-0 ≡ row.label.order.id = c.in_ok-copy.ensures ∙ c.id.ensures in
-    let is : edited ≡ edited_change row.label.order.id None (Some (ranged row)) = change_same edited (edited_change row.label.order.id None (Some (ranged row))) id refl (ap (λ (x : Span). Some x) (span_same row c.span_of.result c.span_of.ensures.min c.span_of.ensures.until)) in
-    in_changes rows c.place_for-at.result row c.in_ok-row.row c.into_vec.result.items c.in_ok-changes.changes c.in_ok-evaluated.evaluated c.requires.settled (rw label c.requires.new_id) c.requires.few (rw number c.free-number.ensures.free) (rw number c.free-number.ensures.low) place (rw c.into_vec.ensures.moved c.in_ok-evaluated.ensures.after) (rw c.into_vec.ensures.moved c.in_ok-evaluated.ensures.kept) is_row edited is c.in_ok-changes.ensures.ascending (rw c.into_vec.ensures.moved (rw c.left-roster.ensures at c.in_ok-changes.ensures.same))
-
-pub returns-clause-cost : goal.returns-clause-cost
-returns-clause-cost g c =
-    let rows = c.args.store.now.rows in
-    let row : Row = c.pass_in.new.row in
-    let label : row.label ≡ c.args.label = c.pass_in.ensures.label ∙ c.row_for-row.ensures.label in
-    let number : row.number ≡ c.free-number.result = c.pass_in.ensures.number ∙ c.row_for-row.ensures.number in
-    let is_row : c.in_ok-row.row.value ≡ row = c.in_ok-row.ensures.ok in
-    let place : IsPlaceFor (labels_in rows) row.label.order c.place_for-at.result = rw (label, ← c.order.ensures) (rw c.left-roster.ensures at c.place_for-at.ensures) in
-    subst (λ (l : Label). IsCost (labels_in rows) (labels_in (planned_rows (record { edit = Add c.in_ok-row.row; moved = c.into_vec.result.items; changes = c.in_ok-changes.changes; evaluated = c.in_ok-evaluated.evaluated }) rows)) l.order.id c.in_ok-evaluated.evaluated) label (in_cost rows c.place_for-at.result row c.in_ok-row.row c.into_vec.result.items c.in_ok-changes.changes c.in_ok-evaluated.evaluated c.requires.settled (rw label c.requires.new_id) c.requires.few (rw number c.free-number.ensures.free) (rw number c.free-number.ensures.low) place (rw c.into_vec.ensures.moved c.in_ok-evaluated.ensures.after) (rw c.into_vec.ensures.moved c.in_ok-evaluated.ensures.kept) is_row c.in_ok-evaluated.ensures.touched)
+    let is : edited ≡ edited_change row.label.order.id None (Some (ranged row)) =
+    change_same edited (edited_change row.label.order.id None (Some (ranged row))) id refl (ap (λ (x : Span). Some x) (span_same row c.span_of.result c.span_of.ensures.min c.span_of.ensures.until)) in
+    in_plan rows c.place_for-at.result row c.in_ok-row.row c.into_vec.result.items c.in_ok-changes.changes c.in_ok-evaluated.evaluated c.requires.settled (rw label c.requires.new_id) c.requires.few
+    (rw number c.free-number.ensures.free) (rw number c.free-number.ensures.low) place (rw c.into_vec.ensures.moved c.in_ok-evaluated.ensures.after) (rw c.into_vec.ensures.moved c.in_ok-evaluated.ensures.kept) is_row
+    edited c.args.label _ _ is c.in_ok-changes.ensures.ascending (rw c.into_vec.ensures.moved (rw c.left-roster.ensures at c.in_ok-changes.ensures.same)) c.in_ok-evaluated.ensures.touched label c.in_ok-evaluated.ensures.spent

@@ -4,13 +4,12 @@ use Rattle.std.proofs.lemmas.List.Edits.{length-remove}
 use Rattle.ml_cone.specs.declared.label.Label.{Label}
 use Rattle.ml_store.specs.Rows.{labels_in, number_at}
 use Rattle.ml_store.specs.declared.row.Row.{Row}
-use Rattle.ml_store.proofs.Naming.{number_read}
 use Rattle.ml_repair.specs.Cost.{IsCost}
 use Rattle.ml_repair.specs.Edit.{IsEdited}
 use Rattle.ml_repair.specs.Placed.{IsPlaceFor}
 use Rattle.ml_repair.specs.Plan.{planned_rows, slot_for}
 use Rattle.ml_repair.specs.declared.edit.LabelEdit.TheVariants.{Replace}
-use Rattle.ml_repair.proofs.Plans.{start_settled, instead_state, instead_labels, instead_changes, instead_cost, up_removed, number_gone, number_low, between_own}
+use Rattle.ml_repair.proofs.Plans.{start_settled, instead_plan, spent_both, up_removed, number_gone, number_low, between_own}
 use Rattle.ml_repair.proofs.Shapes.{left_no_id}
 use Rattle.ml_repair.proofs.planning.plan_instead.Goals as goal
 
@@ -31,24 +30,24 @@ pass_in-requires-clause-few g c =
 
 pub pass_in-requires-clause-fresh : goal.pass_in-requires-clause-fresh
 pass_in-requires-clause-fresh g c =
-    rw c.row_for-row.ensures.number (number_gone c.args.store.now.rows c.place_of_id-at.result c.row-old.result.now c.requires.settled c.place_of_id-at.ensures.place (sym (c.row-old.ensures c.row-old.result.now)))
+    rw c.row_for-row.ensures.number (number_gone c.args.store.now.rows c.place_of_id-at.result c.row-old.result.now c.requires.settled c.place_of_id-at.ensures.place (sym (c.row-old.ensures.row c.row-old.result.now)))
 
 pub pass_in-requires-clause-low : goal.pass_in-requires-clause-low
 pass_in-requires-clause-low g c =
-    rw c.row_for-row.ensures.number (number_low c.args.store.now.rows c.place_of_id-at.result c.row-old.result.now c.requires.settled c.place_of_id-at.ensures.place (sym (c.row-old.ensures c.row-old.result.now)))
+    rw c.row_for-row.ensures.number (number_low c.args.store.now.rows c.place_of_id-at.result c.row-old.result.now c.requires.settled c.place_of_id-at.ensures.place (sym (c.row-old.ensures.row c.row-old.result.now)))
 
 pub pass_in-requires-clause-kept : goal.pass_in-requires-clause-kept
 pass_in-requires-clause-kept g c own =
     let old = c.row-old.result.now in
     let number : c.row_for-row.result.number ≡ number_at c.args.store.now.rows c.place_of_id-at.result =
-    c.row_for-row.ensures.number ∙ sym (number_read c.args.store.now.rows c.place_of_id-at.result old c.place_of_id-at.ensures.place (sym (c.row-old.ensures old))) in
+    c.row_for-row.ensures.number ∙ sym (c.row-old.ensures.number) in
     rw number (c.in_ok-gone.ensures.kept own ∙ ap (slot_for (number_at c.args.store.now.rows c.place_of_id-at.result) own) c.in_ok-moves.ensures)
 
 pub change_between-requires : goal.change_between-requires
 change_between-requires g c =
     let old = c.row-old.result.now in
     let label : c.pass_in.new.row.label ≡ c.args.label = c.pass_in.ensures.label ∙ c.row_for-row.ensures.label in
-    ap (λ (t : Row). t.label.order.id) (sym (c.row-old.ensures old)) ∙ c.place_of_id-at.ensures.here old ∙ c.id.ensures ∙ ap (λ (l : Label). l.order.id) (sym label)
+    ap (λ (t : Row). t.label.order.id) (sym (c.row-old.ensures.row old)) ∙ c.place_of_id-at.ensures.here old ∙ c.id.ensures ∙ ap (λ (l : Label). l.order.id) (sym label)
 
 pub edit_changes-requires-clause-up : goal.edit_changes-requires-clause-up
 edit_changes-requires-clause-up g c = rw c.left-roster.ensures (up_removed c.args.store.now.rows c.place_of_id-at.result c.requires.settled c.place_of_id-at.ensures.place)
@@ -62,70 +61,22 @@ edit_changes-requires-clause-own g c =
     (between_own c.row-old.result.now c.pass_in.new.row c.in_ok-edited.edited (labels_in (remove rows c.place_of_id-at.result)) c.in_ok-edited.ensures
     (rw id at (left_no_id rows c.place_of_id-at.result c.id.result.now c.requires.settled.in_order c.place_of_id-at.ensures.place c.place_of_id-at.ensures.here)))
 
-pub returns-clause-of_state : goal.returns-clause-of_state
-returns-clause-of_state g c =
+pub returns : goal.returns
+returns g c =
     let rows = c.args.store.now.rows in
     let row : Row = c.pass_in.new.row in
     let at : ℕ = c.place_of_id-at.result in
     let to : ℕ = c.place_for-to.result in
     let old : Row = c.row-old.result.now in
     let lt : at < length rows = c.place_of_id-at.ensures.place in
-    let read = sym (c.row-old.ensures old) in
+    let read = sym (c.row-old.ensures.row old) in
     let label : row.label ≡ c.args.label = c.pass_in.ensures.label ∙ c.row_for-row.ensures.label in
     let number : row.number ≡ old.number = c.pass_in.ensures.number ∙ c.row_for-row.ensures.number in
     let is_row : c.in_ok-row.row.value ≡ row = c.in_ok-row.ensures.ok in
     let here : (d : Row) → (get_or rows at d).label.order.id ≡ row.label.order.id = λ d. c.place_of_id-at.ensures.here d ∙ c.id.ensures ∙ ap (λ (l : Label). l.order.id) (sym label) in
     let few : length (remove rows at) < 32768 = (let n = length-remove rows at lt in let few = c.requires.settled.few in omega arith) in
     let place : IsPlaceFor (labels_in (remove rows at)) row.label.order to = rw (label, ← c.order.ensures) (rw c.left-roster.ensures at c.place_for-to.ensures) in
-    instead_state rows at to row c.in_ok-row.row c.into_vec.result.items c.in_ok-changes.changes c.in_ok-gone.gone c.in_ok-come.come c.requires.settled lt here (rw label c.requires.live) few (rw number (number_gone rows at old c.requires.settled lt read)) (rw number (number_low rows at old c.requires.settled lt read)) place (rw c.into_vec.ensures.moved c.in_ok-come.ensures.after) (rw c.into_vec.ensures.moved c.in_ok-come.ensures.kept) is_row
-
-pub returns-clause-labels : goal.returns-clause-labels
-returns-clause-labels g c =
-    let rows = c.args.store.now.rows in
-    let row : Row = c.pass_in.new.row in
-    let at : ℕ = c.place_of_id-at.result in
-    let to : ℕ = c.place_for-to.result in
-    let old : Row = c.row-old.result.now in
-    let lt : at < length rows = c.place_of_id-at.ensures.place in
-    let read = sym (c.row-old.ensures old) in
-    let label : row.label ≡ c.args.label = c.pass_in.ensures.label ∙ c.row_for-row.ensures.label in
-    let number : row.number ≡ old.number = c.pass_in.ensures.number ∙ c.row_for-row.ensures.number in
-    let is_row : c.in_ok-row.row.value ≡ row = c.in_ok-row.ensures.ok in
-    let here : (d : Row) → (get_or rows at d).label.order.id ≡ row.label.order.id = λ d. c.place_of_id-at.ensures.here d ∙ c.id.ensures ∙ ap (λ (l : Label). l.order.id) (sym label) in
-    let few : length (remove rows at) < 32768 = (let n = length-remove rows at lt in let few = c.requires.settled.few in omega arith) in
-    let place : IsPlaceFor (labels_in (remove rows at)) row.label.order to = rw (label, ← c.order.ensures) (rw c.left-roster.ensures at c.place_for-to.ensures) in
-    subst (λ (l : Label). IsEdited l.order.id (Some l) (labels_in rows) (labels_in (planned_rows (record { edit = Replace c.in_ok-row.row; moved = c.into_vec.result.items; changes = c.in_ok-changes.changes; evaluated = c.in_ok-gone.gone + c.in_ok-come.come }) rows))) label (instead_labels rows at to row c.in_ok-row.row c.into_vec.result.items c.in_ok-changes.changes c.in_ok-gone.gone c.in_ok-come.come c.requires.settled lt here (rw label c.requires.live) few (rw number (number_gone rows at old c.requires.settled lt read)) (rw number (number_low rows at old c.requires.settled lt read)) place (rw c.into_vec.ensures.moved c.in_ok-come.ensures.after) (rw c.into_vec.ensures.moved c.in_ok-come.ensures.kept) is_row)
-
-pub returns-clause-changes : goal.returns-clause-changes
-returns-clause-changes g c =
-    let rows = c.args.store.now.rows in
-    let row : Row = c.pass_in.new.row in
-    let at : ℕ = c.place_of_id-at.result in
-    let to : ℕ = c.place_for-to.result in
-    let old : Row = c.row-old.result.now in
-    let lt : at < length rows = c.place_of_id-at.ensures.place in
-    let read = sym (c.row-old.ensures old) in
-    let label : row.label ≡ c.args.label = c.pass_in.ensures.label ∙ c.row_for-row.ensures.label in
-    let number : row.number ≡ old.number = c.pass_in.ensures.number ∙ c.row_for-row.ensures.number in
-    let is_row : c.in_ok-row.row.value ≡ row = c.in_ok-row.ensures.ok in
-    let here : (d : Row) → (get_or rows at d).label.order.id ≡ row.label.order.id = λ d. c.place_of_id-at.ensures.here d ∙ c.id.ensures ∙ ap (λ (l : Label). l.order.id) (sym label) in
-    let few : length (remove rows at) < 32768 = (let n = length-remove rows at lt in let few = c.requires.settled.few in omega arith) in
-    let place : IsPlaceFor (labels_in (remove rows at)) row.label.order to = rw (label, ← c.order.ensures) (rw c.left-roster.ensures at c.place_for-to.ensures) in
-    instead_changes rows at to row c.in_ok-row.row c.into_vec.result.items c.in_ok-changes.changes c.in_ok-gone.gone c.in_ok-come.come c.requires.settled lt here (rw label c.requires.live) few (rw number (number_gone rows at old c.requires.settled lt read)) (rw number (number_low rows at old c.requires.settled lt read)) place (rw c.into_vec.ensures.moved c.in_ok-come.ensures.after) (rw c.into_vec.ensures.moved c.in_ok-come.ensures.kept) is_row old (at, lt, c.row-old.ensures old) (ap (λ (t : Row). t.label.order.id) (sym (c.row-old.ensures old)) ∙ here old) c.in_ok-edited.edited c.in_ok-edited.ensures c.in_ok-changes.ensures.ascending (rw c.into_vec.ensures.moved (rw c.left-roster.ensures at c.in_ok-changes.ensures.same))
-
-pub returns-clause-cost : goal.returns-clause-cost
-returns-clause-cost g c =
-    let rows = c.args.store.now.rows in
-    let row : Row = c.pass_in.new.row in
-    let at : ℕ = c.place_of_id-at.result in
-    let to : ℕ = c.place_for-to.result in
-    let old : Row = c.row-old.result.now in
-    let lt : at < length rows = c.place_of_id-at.ensures.place in
-    let read = sym (c.row-old.ensures old) in
-    let label : row.label ≡ c.args.label = c.pass_in.ensures.label ∙ c.row_for-row.ensures.label in
-    let number : row.number ≡ old.number = c.pass_in.ensures.number ∙ c.row_for-row.ensures.number in
-    let is_row : c.in_ok-row.row.value ≡ row = c.in_ok-row.ensures.ok in
-    let here : (d : Row) → (get_or rows at d).label.order.id ≡ row.label.order.id = λ d. c.place_of_id-at.ensures.here d ∙ c.id.ensures ∙ ap (λ (l : Label). l.order.id) (sym label) in
-    let few : length (remove rows at) < 32768 = (let n = length-remove rows at lt in let few = c.requires.settled.few in omega arith) in
-    let place : IsPlaceFor (labels_in (remove rows at)) row.label.order to = rw (label, ← c.order.ensures) (rw c.left-roster.ensures at c.place_for-to.ensures) in
-    subst (λ (l : Label). IsCost (labels_in rows) (labels_in (planned_rows (record { edit = Replace c.in_ok-row.row; moved = c.into_vec.result.items; changes = c.in_ok-changes.changes; evaluated = c.in_ok-gone.gone + c.in_ok-come.come }) rows)) l.order.id (c.in_ok-gone.gone + c.in_ok-come.come)) label (instead_cost rows at to row c.in_ok-row.row c.into_vec.result.items c.in_ok-changes.changes c.in_ok-gone.gone c.in_ok-come.come c.requires.settled lt here (rw label c.requires.live) few (rw number (number_gone rows at old c.requires.settled lt read)) (rw number (number_low rows at old c.requires.settled lt read)) place (rw c.into_vec.ensures.moved c.in_ok-come.ensures.after) (rw c.into_vec.ensures.moved c.in_ok-come.ensures.kept) is_row c.in_ok-gone.ensures.touched c.in_ok-come.ensures.touched)
+    instead_plan rows at to row c.in_ok-row.row c.into_vec.result.items c.in_ok-changes.changes c.in_ok-gone.gone c.in_ok-come.come c.requires.settled lt here (rw label c.requires.live) few
+    (rw number (number_gone rows at old c.requires.settled lt read)) (rw number (number_low rows at old c.requires.settled lt read)) place (rw c.into_vec.ensures.moved c.in_ok-come.ensures.after) (rw c.into_vec.ensures.moved c.in_ok-come.ensures.kept) is_row
+    old c.in_ok-edited.edited c.args.label _ _ (at, lt, sym read) (ap (λ (t : Row). t.label.order.id) read ∙ here old) (λ d. ap (λ (t : Row). t.number) (c.row-old.ensures.row d) ∙ sym number) c.in_ok-edited.ensures c.in_ok-changes.ensures.ascending
+    (rw c.into_vec.ensures.moved (rw c.left-roster.ensures at c.in_ok-changes.ensures.same)) c.in_ok-gone.ensures.touched c.in_ok-come.ensures.touched label (spent_both _ _ _ _ _ c.in_ok-gone.ensures.spent c.in_ok-come.ensures.spent)

@@ -8,7 +8,7 @@ use Rattle.ml_repair.specs.Edit.{IsEdited}
 use Rattle.ml_repair.specs.Plan.{planned_rows}
 use Rattle.ml_repair.specs.declared.edit.LabelEdit.TheVariants.{Remove}
 use Rattle.ml_repair.proofs.Changing.{change_same, edited_change, ranged}
-use Rattle.ml_repair.proofs.Plans.{start_settled, out_state, out_labels, out_changes, out_cost, up_out, span_same}
+use Rattle.ml_repair.proofs.Plans.{start_settled, out_plan, up_out, span_same}
 use Rattle.ml_repair.proofs.Shapes.{left_no_id}
 use Rattle.ml_repair.proofs.planning.plan_out.Goals as goal
 
@@ -21,22 +21,8 @@ edit_changes-requires-clause-up g c = rw c.left-roster.ensures (up_out c.args.st
 pub edit_changes-requires-clause-own : goal.edit_changes-requires-clause-own
 edit_changes-requires-clause-own g c = rw (c.left-roster.ensures, c.in_ok-copy.ensures) (left_no_id c.args.store.now.rows c.place_of_id-at.result c.args.id.now c.requires.settled.in_order c.place_of_id-at.ensures.place c.place_of_id-at.ensures.here)
 
-pub returns-clause-of_state : goal.returns-clause-of_state
-returns-clause-of_state g c =
-    let rows = c.args.store.now.rows in
-    let id : List ℕ = c.in_ok-id.id in
-    let same : id ≡ c.args.id.now = c.in_ok-id.ensures in
-    out_state rows c.place_of_id-at.result id c.into_vec.result.items c.in_ok-changes.changes c.in_ok-evaluated.evaluated c.requires.settled c.place_of_id-at.ensures.place (rw same c.place_of_id-at.ensures.here) (rw same c.requires.live) (rw c.into_vec.ensures.moved c.in_ok-evaluated.ensures.after)
-
-pub returns-clause-labels : goal.returns-clause-labels
-returns-clause-labels g c =
-    let rows = c.args.store.now.rows in
-    let id : List ℕ = c.in_ok-id.id in
-    let same : id ≡ c.args.id.now = c.in_ok-id.ensures in
-    subst (λ (i : List ℕ). IsEdited i None (labels_in rows) (labels_in (planned_rows (record { edit = Remove c.in_ok-id.id; moved = c.into_vec.result.items; changes = c.in_ok-changes.changes; evaluated = c.in_ok-evaluated.evaluated }) rows))) same (out_labels rows c.place_of_id-at.result id c.into_vec.result.items c.in_ok-changes.changes c.in_ok-evaluated.evaluated c.requires.settled c.place_of_id-at.ensures.place (rw same c.place_of_id-at.ensures.here) (rw same c.requires.live) (rw c.into_vec.ensures.moved c.in_ok-evaluated.ensures.after))
-
-pub returns-clause-changes : goal.returns-clause-changes
-returns-clause-changes g c =
+pub returns : goal.returns
+returns g c =
     let rows = c.args.store.now.rows in
     let id : List ℕ = c.in_ok-id.id in
     let same : id ≡ c.args.id.now = c.in_ok-id.ensures in
@@ -45,12 +31,8 @@ returns-clause-changes g c =
     let lt = c.place_of_id-at.ensures.place in
     let edited : Change = record { id = c.in_ok-copy.field-0; before = Some c.span_of.result; after = None } in
     let its : c.in_ok-copy.field-0 ≡ id = c.in_ok-copy.ensures ∙ sym same in
-    let is : edited ≡ edited_change id (Some (ranged r)) None = change_same edited (edited_change id (Some (ranged r)) None) its (ap (λ (x : Span). Some x) (span_same r c.span_of.result c.span_of.ensures.min c.span_of.ensures.until)) refl in
-    out_changes rows c.place_of_id-at.result id c.into_vec.result.items c.in_ok-changes.changes c.in_ok-evaluated.evaluated c.requires.settled c.place_of_id-at.ensures.place (rw same c.place_of_id-at.ensures.here) (rw same c.requires.live) (rw c.into_vec.ensures.moved c.in_ok-evaluated.ensures.after) r (at, lt, c.row.ensures r) (ap (λ (t : Row). t.label.order.id) (sym (c.row.ensures r)) ∙ c.place_of_id-at.ensures.here r ∙ sym same) edited is c.in_ok-changes.ensures.ascending (rw c.into_vec.ensures.moved (rw c.left-roster.ensures at c.in_ok-changes.ensures.same))
-
-pub returns-clause-cost : goal.returns-clause-cost
-returns-clause-cost g c =
-    let rows = c.args.store.now.rows in
-    let id : List ℕ = c.in_ok-id.id in
-    let same : id ≡ c.args.id.now = c.in_ok-id.ensures in
-    subst (λ (i : List ℕ). IsCost (labels_in rows) (labels_in (planned_rows (record { edit = Remove c.in_ok-id.id; moved = c.into_vec.result.items; changes = c.in_ok-changes.changes; evaluated = c.in_ok-evaluated.evaluated }) rows)) i c.in_ok-evaluated.evaluated) same (out_cost rows c.place_of_id-at.result id c.into_vec.result.items c.in_ok-changes.changes c.in_ok-evaluated.evaluated c.requires.settled c.place_of_id-at.ensures.place (rw same c.place_of_id-at.ensures.here) (rw same c.requires.live) (rw c.into_vec.ensures.moved c.in_ok-evaluated.ensures.after) c.in_ok-evaluated.ensures.touched)
+    let is : edited ≡ edited_change id (Some (ranged r)) None =
+    change_same edited (edited_change id (Some (ranged r)) None) its (ap (λ (x : Span). Some x) (span_same r c.span_of.result c.span_of.ensures.min c.span_of.ensures.until)) refl in
+    out_plan rows at id c.into_vec.result.items c.in_ok-changes.changes c.in_ok-evaluated.evaluated c.requires.settled lt (rw same c.place_of_id-at.ensures.here) (rw same c.requires.live) (rw c.into_vec.ensures.moved c.in_ok-evaluated.ensures.after)
+    r edited c.args.id.now _ _ (at, lt, c.row.ensures.row r) (ap (λ (t : Row). t.label.order.id) (sym (c.row.ensures.row r)) ∙ c.place_of_id-at.ensures.here r ∙ sym same) is c.in_ok-changes.ensures.ascending
+    (rw c.into_vec.ensures.moved (rw c.left-roster.ensures at c.in_ok-changes.ensures.same)) c.in_ok-evaluated.ensures.touched same c.in_ok-evaluated.ensures.spent

@@ -8,7 +8,7 @@ use Rattle.ml_repair.proofs.read.all_numbers.Goals as goal
 pub loop-place-preserved : goal.loop-place-preserved
 loop-place-preserved c =
     let r = c.row.result.now in
-    number_more c.args.store.now.rows c.loop-place.place r c.loop-place.numbers c.push.new.self (omega arith) (sym (c.row.ensures r)) c.loop-place.invariant c.in_ok-push.ensures.ok
+    number_more c.args.store.now.rows c.loop-place.place r c.loop-place.numbers c.push.new.self (omega arith) (sym (c.row.ensures.row r)) c.loop-place.invariant c.in_ok-push.ensures.ok
 
 pub returns : goal.returns
 returns c =

@@ -1,6 +1,5 @@
 use Rattle.std.proofs.Common.{◌∙◌, sym}
 use Rattle.ml_store.specs.declared.row.Row.{Row}
-use Rattle.ml_store.proofs.Naming.{number_read}
 use Rattle.ml_repair.proofs.OneRow.{one_number}
 use Rattle.ml_repair.proofs.read.row_at.Goals as goal
 
@@ -9,4 +8,4 @@ returns c r there same =
     let rows = c.args.store.now.rows in
     let s : Row = c.row.result.now in
     let lt = c.in-Some.ensures.0 in
-    one_number rows s r (c.in-Some.at, lt, c.row.ensures s) there c.len-many.ensures.differ (sym (number_read rows c.in-Some.at s lt (sym (c.row.ensures s))) ∙ c.in-Some.ensures.1 ∙ sym same)
+    one_number rows s r (c.in-Some.at, lt, c.row.ensures.row s) there c.len-many.ensures.differ (sym (c.row.ensures.number) ∙ c.in-Some.ensures.1 ∙ sym same)

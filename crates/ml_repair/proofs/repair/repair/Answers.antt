@@ -4,13 +4,17 @@ use Rattle.std.proofs.lemmas.List.{get_or_read, get_or-replicate}
 use Rattle.std.proofs.lemmas.List.{length-map}
 use Rattle.ml_store.specs.Rows.{numbers_in, number_at, labels_in}
 use Rattle.ml_store.specs.declared.row.Row.{Row}
-use Rattle.ml_store.proofs.Different.{same_place}
 use Rattle.ml_repair.specs.Repair.{present_slots}
 use Rattle.ml_repair.proofs.Present.{length-labels, length-present}
 use Rattle.ml_repair.proofs.Repairing.{Repairing}
 use Rattle.ml_repair.proofs.RepairSteps.{repairing_start, repairing_ends, repairing_kept, repairing_moved, repairing_still, repaired_own, repaired_size, first_count}
 use Rattle.ml_repair.proofs.repair.repair.Goals as goal
-use Rattle.ml_repair.proofs.repair.repair.Goals.{then-comes, else-comes, then-index+in_ok-renew, else-index, then-branch+in_ok-wake-2, else-branch}
+use Rattle.ml_repair.proofs.repair.repair.Goals.{then-comes, else-comes, then-index+in_ok-renew, else-index, then-branch+in_ok-note, else-branch}
+use Rattle.ml_ratio.proofs.lemmas.Fractions.{same_trans}
+use Rattle.ml_ratio.proofs.lemmas.Lists.{same_place}
+use Rattle.ml_cone.specs.Slots.{IsOwnSlot, row, ends}
+use Rattle.ml_repair.specs.Repair.{Stands}
+use Rattle.ml_repair.proofs.KeptBlockers.{noted_start, noted_still, noted_more, end_kept, end_from, pushed_one}
 
 pub loop-i-init : goal.loop-i-init
 loop-i-init g c =
@@ -34,7 +38,9 @@ loop-i-init g c =
           one_wait = c.in_ok-wake.ensures.one_each;
           spent = rw (w.evaluated-is, w.if-comes.true) refl;
           few = rw w.evaluated-is (omega arith);
+          far = omega arith;
           kept = λ own. refl;
+          noted = noted_start c.args.at c.args.comes (ends old) c.in_ok-changed.changed.items c.in_ok-changed.ensures;
         },
       )
       | else-comes w ↦ (
@@ -44,7 +50,9 @@ loop-i-init g c =
           one_wait = c.in_ok-wake.ensures.one_each;
           spent = rw (w.evaluated-is, w.if-comes.false) refl;
           few = rw w.evaluated-is (omega arith);
+          far = omega arith;
           kept = λ own. refl;
+          noted = noted_start c.args.at c.args.comes (ends old) c.in_ok-changed.changed.items c.in_ok-changed.ensures;
         },
       )
     ]
@@ -55,6 +63,20 @@ renew-requires-clause-ends g c =
     let many = length-labels rows in
     repairing_ends c.rivals_or_free.ensures c.smaller_ends.ensures c.carried.ensures (number_at rows) (labels_in rows) (present_slots rows c.args.moves.now) c.args.at c.args.comes (omega arith) c.requires.was
     c.loop-i.i (present_slots rows c.loop-i.moves) (λ k. IsTrue (get_or c.loop-i.waits.items k false)) c.loop-i.evaluated c.loop-i.invariant.1.repairing (omega arith)
+
+pub renew-requires-clause-known : goal.renew-requires-clause-known
+renew-requires-clause-known g c =
+    let rows = c.args.roster.now in
+    let many = length-labels rows in
+    let so_far = c.loop-i.invariant.1.repairing in
+    let from = so_far.from in
+    record {
+      was = present_slots rows c.args.moves.now;
+      own = λ d.
+          subst (IsOwnSlot (row (number_at rows) (labels_in rows) (present_slots rows c.args.moves.now) d) (Stands c.args.comes false c.args.at c.loop-i.i) (get_or (labels_in rows) c.loop-i.i d)) (sym (so_far.rest c.loop-i.i (omega arith)))
+          (c.requires.was.own d c.loop-i.i (omega arith) (λ e. absurd (let f : c.loop-i.i ≡ c.args.at = e in omega arith)));
+      changed_are = rw c.deref.ensures.value c.loop-i.invariant.1.noted;
+    }
 
 pub loop-i-preserved : goal.loop-i-preserved
 loop-i-preserved g c =
@@ -77,20 +99,24 @@ loop-i-preserved g c =
           let len = length-present rows w.renew.new.moves in
           let spent = w.in_ok-renew.ensures.spent in
           let numbers = length-map rows (λ (r : Row). r.number) in
-          let apart : number_at rows c.args.at ≢ number_at rows c.loop-i.i = (λ e. let f = same_place (numbers_in rows) c.args.at c.loop-i.i c.len-many.ensures.numbered.differ (omega arith) (omega arith) e in let beyond = so_far.from in omega arith) in
+          let apart : number_at rows c.args.at ≢ number_at rows c.loop-i.i = (λ e. let f = same_place (numbers_in rows) c.args.at c.loop-i.i 0 c.len-many.ensures.numbered.differ (omega arith) (omega arith) e in let beyond = so_far.from in omega arith) in
           elim w.if-branch.branch [
-            | then-branch+in_ok-wake-2 w' ↦ (
+            | then-branch+in_ok-note w' ↦ (
               c.loop-i.invariant.0,
               record {
                 repairing = rw (w.moves-is, w.waits-is, w'.waits-is, w.evaluated-is)
                     (repairing_moved c.rivals_or_free.ensures c.smaller_ends.ensures c.carried.ensures (number_at rows) labels old c.args.at c.args.comes at_in c.requires.was c.loop-i.i slots
                     (λ k. IsTrue (get_or c.loop-i.waits.items k false)) c.loop-i.evaluated so_far next i_in (omega arith) w.in_ok-renew.ensures.others w.in_ok-renew.ensures.own waited
-                    (λ k. IsTrue (get_or w'.wake-then-branch.new.waits.items k false)) (rw w'.if-branch.true at w.in_ok-renew.ensures.moved)
-                    (λ k k_in lt. w'.in_ok-wake-2.ensures.woken k (omega arith)));
-                one_wait = rw (w.waits-is, w'.waits-is) w'.in_ok-wake-2.ensures.one_each;
+                    (λ k. IsTrue (get_or w'.note.new.waits.items k false)) (rw w'.if-branch.true at w.in_ok-renew.ensures.moved)
+                    (λ k k_in lt. w'.in_ok-note.ensures.woken k (omega arith)));
+                one_wait = rw (w.waits-is, w'.waits-is) w'.in_ok-note.ensures.one_each;
                 spent = rw (w.steps-is, w.evaluated-is) (omega arith);
                 few = rw w.evaluated-is (omega arith);
+                far = omega arith;
                 kept = rw w.moves-is (λ own. w.in_ok-renew.ensures.same (number_at rows c.args.at) own apart ∙ c.loop-i.invariant.1.kept own);
+                noted = rw (w.moves-is, w.changed-is, w'.changed-is)
+                    (noted_more c.args.at c.args.comes (ends old) (ends slots) (ends next) c.loop-i.i c.loop-i.changed.items w'.note.new.changed.items so_far.from c.loop-i.invariant.1.noted (λ k lt. end_kept slots next k (w.in_ok-renew.ensures.others k (λ e. omega arith)))
+                    (pushed_one c.loop-i.changed.items c.loop-i.i w'.note.new.changed.items w'.in_ok-note.ensures.noted) same_trans);
               },
             )
             | else-branch w' ↦ (
@@ -103,7 +129,11 @@ loop-i-preserved g c =
                 one_wait = rw (w.waits-is, w'.waits-is) one_wait;
                 spent = rw (w.steps-is, w.evaluated-is) (omega arith);
                 few = rw w.evaluated-is (omega arith);
+                far = omega arith;
                 kept = rw w.moves-is (λ own. w.in_ok-renew.ensures.same (number_at rows c.args.at) own apart ∙ c.loop-i.invariant.1.kept own);
+                noted = rw (w.moves-is, w.changed-is, w'.changed-is)
+                    (noted_still c.args.at c.args.comes (ends old) (ends slots) (ends next) c.loop-i.i c.loop-i.changed.items c.loop-i.invariant.1.noted (λ k lt. end_kept slots next k (w.in_ok-renew.ensures.others k (λ e. omega arith)))
+                    (end_from slots old c.loop-i.i (ends next c.loop-i.i) (so_far.rest c.loop-i.i (omega arith)) (rw w'.if-branch.false at w.in_ok-renew.ensures.moved)) same_trans);
               },
             )
           ]
@@ -117,7 +147,11 @@ loop-i-preserved g c =
               one_wait = rw w.waits-is one_wait;
               spent = rw (w.steps-is, w.evaluated-is) before;
               few = rw w.evaluated-is (omega arith);
+              far = omega arith;
               kept = rw w.moves-is c.loop-i.invariant.1.kept;
+              noted = rw (w.moves-is, w.changed-is)
+                  (noted_still c.args.at c.args.comes (ends old) (ends slots) (ends slots) c.loop-i.i c.loop-i.changed.items c.loop-i.invariant.1.noted (λ k lt. refl)
+                  (end_from slots old c.loop-i.i (ends slots c.loop-i.i) (so_far.rest c.loop-i.i (omega arith)) refl) same_trans);
             },
           )
     ]
@@ -126,7 +160,7 @@ pub returns-clause-own : goal.returns-clause-own
 returns-clause-own g c =
     let rows = c.args.roster.now in
     let many = length-labels rows in
-    let e : c.loop-i.i ≡ length (labels_in rows) = (let m = c.loop-i.invariant.0 in omega arith) in
+    let e : c.loop-i.i ≡ length (labels_in rows) = (let m = c.loop-i.invariant.0 in let far = c.loop-i.invariant.1.far in let done = c.loop-i-test.false in omega arith) in
     repaired_own c.rivals_or_free.ensures c.smaller_ends.ensures c.carried.ensures (number_at rows) (labels_in rows) (present_slots rows c.args.moves.now) c.args.at c.args.comes (omega arith) c.requires.was
     (present_slots rows c.loop-i.moves) (λ k. IsTrue (get_or c.loop-i.waits.items k false)) c.loop-i.evaluated (rw e at c.loop-i.invariant.1.repairing)
 
@@ -134,6 +168,6 @@ pub returns-clause-touched : goal.returns-clause-touched
 returns-clause-touched g c =
     let rows = c.args.roster.now in
     let many = length-labels rows in
-    let e : c.loop-i.i ≡ length (labels_in rows) = (let m = c.loop-i.invariant.0 in omega arith) in
+    let e : c.loop-i.i ≡ length (labels_in rows) = (let m = c.loop-i.invariant.0 in let far = c.loop-i.invariant.1.far in let done = c.loop-i-test.false in omega arith) in
     repaired_size c.rivals_or_free.ensures c.smaller_ends.ensures c.carried.ensures (number_at rows) (labels_in rows) (present_slots rows c.args.moves.now) c.args.at c.args.comes (omega arith) c.requires.was
     (present_slots rows c.loop-i.moves) (λ k. IsTrue (get_or c.loop-i.waits.items k false)) c.loop-i.evaluated (rw e at c.loop-i.invariant.1.repairing)

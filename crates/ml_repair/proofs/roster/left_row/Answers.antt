@@ -19,4 +19,4 @@ row-requires-else-at-g c =
 pub returns-else-at-g : goal.returns-else-at-g
 returns-else-at-g c d =
     let in' = rw c.in-Some.is at c.requires.gone in
-    left_above c.args.gone c.in-Some.g c.args.store.now.rows c.args.at d c.in-Some.is in' c.if-at-g.false ∙ c.row-else-at-g.ensures d
+    left_above c.args.gone c.in-Some.g c.args.store.now.rows c.args.at d c.in-Some.is in' c.if-at-g.false ∙ c.row-else-at-g.ensures.row d

@@ -1,5 +1,4 @@
 use Rattle.std.proofs.Common.{sym}
-use Rattle.ml_repair.proofs.NearRosters.{label_read}
 use Rattle.ml_repair.proofs.wake.is_later_rival.Goals as goal
 
 pub returns-then-i-k : goal.returns-then-i-k
@@ -9,9 +8,9 @@ returns-then-i-k c =
       λ t. (
         c.if-i-k.true,
         λ d.
-            rw (label_read c.args.roster.now c.args.k low d c.requires.k_is_place (sym (c.row-low.ensures low)), label_read c.args.roster.now c.args.i high d c.requires.is_place (sym (c.row-high.ensures high)))
+            rw (c.row-low.ensures.label d, c.row-high.ensures.label d)
             (c.are_rivals.ensures.0 t),
       ),
       λ h. c.are_rivals.ensures.1
-          (rw (label_read c.args.roster.now c.args.k low low.label c.requires.k_is_place (sym (c.row-low.ensures low)), label_read c.args.roster.now c.args.i high low.label c.requires.is_place (sym (c.row-high.ensures high))) at (h.1 low.label)),
+          (rw (c.row-low.ensures.label low.label, c.row-high.ensures.label low.label) at (h.1 low.label)),
     )

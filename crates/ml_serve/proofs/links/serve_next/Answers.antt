@@ -12,7 +12,7 @@ returns-in-Ok-Some-clause-served g c =
 pub returns-in-Ok-None-clause-served : goal.returns-in-Ok-None-clause-served
 returns-in-Ok-None-clause-served g c =
     let given = rw c.in-Ok-None.field-0-is at c.in-Ok-None.ensures.ok in
-    rw (given.0.1, c.next.ensures.same.2) (served_none _ _ _ _)
+    rw (given.0.1, c.next.ensures.same.2) (served_none c.take_nothing.ensures c.append_nothing.ensures _ _ _ _)
 
 pub returns-in-Err-clause-served : goal.returns-in-Err-clause-served
-returns-in-Err-clause-served g c = rw (c.in-Err.ensures.err.0, c.next.ensures.same.2) (served_none _ _ _ _)
+returns-in-Err-clause-served g c = rw (c.in-Err.ensures.err.0, c.next.ensures.same.2) (served_none c.take_nothing.ensures c.append_nothing.ensures _ _ _ _)

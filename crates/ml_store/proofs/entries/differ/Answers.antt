@@ -1,6 +1,8 @@
-use Rattle.std.proofs.Common.{sym, ◌∙◌}
+use Rattle.std.proofs.Common.{sym, ◌∙◌, ap}
+use Rattle.std.proofs.lemmas.Cmp.{tied_itself}
 use Rattle.ml_ratio.specs.RatioExact.{ratio_exact}
+use Rattle.ml_ratio.specs.RatioOrder.{ratio_cmp}
 use Rattle.ml_store.proofs.entries.differ.Goals as goal
 
 pub returns-in-Equal : goal.returns-in-Equal
-returns-in-Equal c _ = ratio_exact c.args.from.now c.args.to.now (sym c.cmp.ensures ∙ c.in-Equal.is)
+returns-in-Equal c = ratio_exact c.args.from.now c.args.to.now (sym c.cmp.ensures ∙ c.in-Equal.is)

@@ -3,10 +3,10 @@ use Rattle.std.proofs.lemmas.List.{get_or_default}
 use Rattle.std.proofs.lemmas.List.Elements.{Contains-get_or}
 use Rattle.ml_store.specs.Names.{Name, names_in}
 use Rattle.ml_store.specs.Boxes.{unboxed}
-use Rattle.ml_store.proofs.Lists.{added_remove}
 use Rattle.ml_store.proofs.Naming.{unique_names, name_gone}
 use Rattle.ml_store.proofs.ByName.{found_at, named_out}
 use Rattle.ml_store.proofs.names.take_name.Goals as goal
+use Rattle.ml_ratio.proofs.lemmas.Lists.{added_remove}
 
 pub remove-number-requires : goal.remove-number-requires
 remove-number-requires c =

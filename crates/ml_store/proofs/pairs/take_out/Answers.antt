@@ -1,10 +1,4 @@
-use Rattle.ml_store.proofs.Lists.{goes_out}
 use Rattle.ml_store.proofs.pairs.take_out.Goals as goal
-
-pub returns-clause-pairs : goal.returns-clause-pairs
-returns-clause-pairs c =
-    let yes = c.remove-there.ensures.there.1 c.requires.there in
-    goes_out (rw yes at c.remove-there.ensures.removed) c.remove-there.ensures.gone
 
 pub returns-clause-spare : goal.returns-clause-spare
 returns-clause-spare c =

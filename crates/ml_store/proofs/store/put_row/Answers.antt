@@ -3,8 +3,8 @@ use Rattle.ml_store.specs.Store.{Pair, IsEntryIn, IsPairIn}
 use Rattle.ml_store.specs.declared.row.Row.{Row}
 use Rattle.ml_store.proofs.Fresh.{differ_inserted}
 use Rattle.ml_store.proofs.Index.{index_free, index_more, entry_number, pair_number}
-use Rattle.ml_store.proofs.Lists.{added_insert}
 use Rattle.ml_store.proofs.store.put_row.Goals as goal
+use Rattle.ml_ratio.proofs.lemmas.Lists.{added_insert}
 
 pub put_parts-requires-clause-free : goal.put_parts-requires-clause-free
 put_parts-requires-clause-free c = rw c.deref.ensures (index_free (λ (e : Entry). e.value) IsEntryIn entry_number c.args.row.value.number c.args.table.now.rows c.args.grid.now.entries c.requires.fresh c.requires.stored.kept)

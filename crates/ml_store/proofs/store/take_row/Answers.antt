@@ -4,8 +4,8 @@ use Rattle.ml_store.specs.Store.{Pair, IsEntryIn, IsPairIn}
 use Rattle.ml_store.specs.declared.row.Row.{Row}
 use Rattle.ml_store.proofs.Fresh.{fresh_removed, differ_removed}
 use Rattle.ml_store.proofs.Index.{index_its, index_less, entry_number, pair_number}
-use Rattle.ml_store.proofs.Lists.{added_remove}
 use Rattle.ml_store.proofs.store.take_row.Goals as goal
+use Rattle.ml_ratio.proofs.lemmas.Lists.{added_remove}
 
 pub take_parts-requires-clause-its : goal.take_parts-requires-clause-its
 take_parts-requires-clause-its c =

@@ -4,9 +4,9 @@ use Rattle.ml_store.specs.Store.{Pair, IsEntryIn, IsPairIn}
 use Rattle.ml_store.specs.declared.row.Row.{Row}
 use Rattle.ml_store.proofs.Fresh.{fresh_removed, differ_moved}
 use Rattle.ml_store.proofs.Index.{index_its, index_moved, entry_number, pair_number}
-use Rattle.ml_store.proofs.Lists.{added_remove, added_set}
 use Rattle.ml_store.proofs.Tables.{with_slot_is, slot_read}
 use Rattle.ml_store.proofs.store.write_slot.Goals as goal
+use Rattle.ml_ratio.proofs.lemmas.Lists.{added_remove, added_set}
 
 pub move_entries-requires : goal.move_entries-requires
 move_entries-requires c =

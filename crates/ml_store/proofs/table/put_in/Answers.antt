@@ -1,9 +1,9 @@
 use Rattle.std.specs.Prelude.{box_value}
 use Rattle.ml_store.specs.Boxes.{unboxed}
 use Rattle.ml_store.specs.declared.row.Row.{Row}
-use Rattle.ml_store.proofs.Lists.{map_insert}
 use Rattle.ml_store.proofs.Tables.{table_in}
 use Rattle.ml_store.proofs.table.put_in.Goals as goal
+use Rattle.ml_ratio.proofs.lemmas.Lists.{map_insert}
 
 pub returns-clause-table : goal.returns-clause-table
 returns-clause-table c =

@@ -4,10 +4,10 @@ use Rattle.std.proofs.lemmas.List.{get_or-map, length-map}
 use Rattle.ml_store.specs.Boxes.{unboxed}
 use Rattle.ml_store.specs.Names.{Name, name_of, names_in, AreByName}
 use Rattle.ml_store.specs.declared.row.Row.{Row}
-use Rattle.ml_store.proofs.Lists.{map_remove}
 use Rattle.ml_store.proofs.Naming.{boxed_read}
 use Rattle.ml_store.proofs.Tables.{table_out}
 use Rattle.ml_store.proofs.table.take_out.Goals as goal
+use Rattle.ml_ratio.proofs.lemmas.Lists.{map_remove}
 
 pub take_name-requires-clause-live : goal.take_name-requires-clause-live
 take_name-requires-clause-live c =

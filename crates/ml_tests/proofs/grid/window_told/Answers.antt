@@ -10,4 +10,4 @@ none_there entries is e there same = let h = subst (λ (es : List Entry). Contai
 pub drop_label-requires : goal.drop_label-requires
 drop_label-requires g c =
     let none = c.reserve.ensures.same ∙ ap (λ (k : Kept). k.entries) c.new-grid.ensures in
-    record { its = c.added_are_its.ensures 7 c.args.label.now c.args.span.now.until _ _ (none_there _ none) c.add.ensures.entries }
+    record { begins = c.requires; its = c.added_are_its.ensures 7 c.args.label.now c.args.span.now.until _ _ (none_there _ none) c.add.ensures.entries }

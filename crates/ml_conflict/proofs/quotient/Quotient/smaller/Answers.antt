@@ -1,6 +1,6 @@
 use Rattle.std.proofs.Common.{arith}
 use Rattle.ml_conflict.specs.Quotient.{worth}
-use Rattle.ml_ratio.proofs.Fractions.{below_both, below_both_turned}
+use Rattle.ml_ratio.proofs.lemmas.Fractions.{below_both, below_both_turned}
 use Rattle.ml_conflict.proofs.quotient.Quotient.smaller.Goals as goal
 
 pub returns-then-is_less-clause-same : goal.returns-then-is_less-clause-same

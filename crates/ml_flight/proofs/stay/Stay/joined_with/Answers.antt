@@ -1,6 +1,6 @@
 use Rattle.std.proofs.Common.{inl, inr}
 use Rattle.ml_ratio.specs.Fraction.{value_of}
-use Rattle.ml_ratio.proofs.Fractions.{less_at_most}
+use Rattle.ml_ratio.proofs.lemmas.Fractions.{less_at_most}
 use Rattle.ml_flight.proofs.Joining.{joined_holds}
 use Rattle.ml_flight.proofs.stay.Stay.joined_with.Goals as goal
 

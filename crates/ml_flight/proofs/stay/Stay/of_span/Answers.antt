@@ -1,6 +1,6 @@
 use Rattle.std.proofs.Common.{arith}
 use Rattle.ml_ratio.specs.Fraction.{IsLess, value_of}
-use Rattle.ml_ratio.proofs.Fractions.{less_at_most}
+use Rattle.ml_ratio.proofs.lemmas.Fractions.{less_at_most}
 use Rattle.ml_flight.proofs.stay.Stay.of_span.Goals as goal
 
 pub returns-else-is_less : goal.returns-else-is_less

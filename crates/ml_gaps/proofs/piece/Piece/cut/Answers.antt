@@ -1,6 +1,6 @@
 use Rattle.std.proofs.Common.{arith}
 use Rattle.ml_ratio.specs.Fraction.{value_of, IsLess, IsAtMost}
-use Rattle.ml_ratio.proofs.Fractions.{less_at_most, at_most_less, less_trans}
+use Rattle.ml_ratio.proofs.lemmas.Fractions.{less_at_most, at_most_less, less_trans}
 use Rattle.ml_gaps.proofs.piece.Piece.cut.Goals as goal
 
 pub returns-then-is_less-2 : goal.returns-then-is_less-2

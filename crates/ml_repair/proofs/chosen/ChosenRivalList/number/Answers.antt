@@ -1,7 +1,6 @@
 use Rattle.std.proofs.Common.{◌∙◌, ◌<◌, sym, ap, arith, get_or, length}
 use Rattle.ml_cone.specs.Slots.{Rival}
 use Rattle.ml_store.specs.declared.row.Row.{Row}
-use Rattle.ml_store.proofs.Naming.{number_read}
 use Rattle.ml_repair.proofs.Present.{chosen_is}
 use Rattle.std.proofs.lemmas.List.{length-map}
 use Rattle.ml_repair.specs.Repair.{rival_in}
@@ -15,4 +14,4 @@ returns c d =
     let p = get_or s.places.now c.args.k 0 in
     let in' : p < length s.roster.now = s.in_roster c.args.k 0 lt in
     let r : Row = c.row-row.result.now in
-    sym (ap (λ (x : Rival). x.number) (chosen_is s.roster.now s.moves.now s.low.now s.places.now c.args.k d lt) ∙ number_read s.roster.now p r in' (sym (c.row-row.ensures r)))
+    sym (ap (λ (x : Rival). x.number) (chosen_is s.roster.now s.moves.now s.low.now s.places.now c.args.k d lt) ∙ c.row-row.ensures.number)

@@ -1,6 +1,7 @@
 use Rattle.std.proofs.Common.{arith}
 use Rattle.ml_spans.proofs.Depth.{low_from_count}
 use Rattle.ml_spans.proofs.Entries.{entry_exact}
+use Rattle.ml_ratio.proofs.lemmas.Lists.{comes_in}
 use Rattle.ml_spans.proofs.Members.{new_from_absent}
 use Rattle.ml_spans.proofs.span_tree.SpanTree.insert.Goals as goal
 
@@ -12,3 +13,6 @@ put-requires-clause-new g c =
 pub put-requires-clause-low : goal.put-requires-clause-low
 put-requires-clause-low g c =
     low_from_count g.E.Key.order _ _ c.self.invariant.sound c.self.invariant.counted (omega arith)
+
+pub returns-clause-members : goal.returns-clause-members
+returns-clause-members g c = rw (← c.self.view_is) (comes_in c.put.ensures.added)

@@ -1,7 +1,9 @@
 use Rattle.std.proofs.Common.{rules, arith}
 use Rattle.ml_spans.proofs.Depth.{low_from_count}
 use Rattle.ml_spans.proofs.Entries.{entry_total}
-use Rattle.ml_spans.proofs.Members.{absent_from_new, contained, rises_without, length_added, new_without}
+use Rattle.ml_ratio.proofs.lemmas.Lists.{contained, goes_out}
+use Rattle.ml_spans.proofs.Found.{stays_out}
+use Rattle.ml_spans.proofs.Members.{absent_from_new, rises_without, length_added, new_without}
 use Rattle.ml_spans.proofs.span_tree.SpanTree.remove.Goals as goal
 
 pub take-root-requires-clause-low : goal.take-root-requires-clause-low
@@ -34,14 +36,14 @@ returns-in-Some-clause-rising g c =
     let added = rw (c.in-Some.is, c.replace-root.ensures.value) at c.take-root.ensures.found in
     rises_without _ added c.self.invariant.rising
 
-pub returns-in-None-clause-gone : goal.returns-in-None-clause-gone
-returns-in-None-clause-gone g c =
-    let found = rw (c.in-None.is) at c.take-root.ensures.found in
+pub returns-in-None-clause-members : goal.returns-in-None-clause-members
+returns-in-None-clause-members g c =
+    let found = rw (c.in-None.is, c.replace-root.ensures.value) at c.take-root.ensures.found in
     let absent = absent_from_new _ (entry_total g.met.K.Key.total g.met.E.Key.total g.met.V.Key.total) _ _ found.1 in
-    rw found.0 absent
+    rw (← c.self.view_is) (stays_out _ _ _ found.0 absent)
 
-pub returns-in-Some-clause-gone : goal.returns-in-Some-clause-gone
-returns-in-Some-clause-gone g c =
+pub returns-in-Some-clause-members : goal.returns-in-Some-clause-members
+returns-in-Some-clause-members g c =
     let added = rw (c.in-Some.is, c.replace-root.ensures.value) at c.take-root.ensures.found in
     let o = entry_total g.met.K.Key.total g.met.E.Key.total g.met.V.Key.total in
-    absent_from_new _ o _ _ (new_without _ o added c.self.invariant.rising)
+    rw (← c.self.view_is) (goes_out added (absent_from_new _ o _ _ (new_without _ o added c.self.invariant.rising)))

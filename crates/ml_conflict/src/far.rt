@@ -1,0 +1,68 @@
+//! How far labels reach from their anchors, and what is too far away for a limit.
+ghost use Rattle.std.specs.Prelude.{ℕ, ◌≤◌, All, IsTrue};
+ghost use Rattle.ml_ratio.specs.World.{IsInWorld};
+ghost use Rattle.ml_cone.specs.Plane.{IsWideBox};
+ghost use Rattle.ml_conflict.specs.Reach.{IsWithin, Reaches, IsFar};
+
+use ml_cone::{BoxPx, Label, widened};
+use ml_ratio::Ratio;
+
+/// How many pixels one of the labels reaches from its anchor at most, up to 576: within so many, to each
+/// side, lie the boxes of each, widened by its margin.
+pub fn greatest_reach(labels: &[Label]) -> u32
+    ensures reaches { All (λ a. Reaches a result) labels.now }
+    ensures low { result ≤ 576 }
+{
+    let mut reach = 0;
+    for i in 0..labels.len() {
+        reach = larger(reach, reach_of(&labels[i]));
+    }
+    reach
+}
+
+// How many pixels the label reaches from its anchor.
+fn reach_of(label: &Label) -> u32
+    ensures reaches { Reaches label.now result }
+    ensures low { result ≤ 576 }
+{
+    let mut reach = 0;
+    for p in label.boxes().as_slice() {
+        reach = larger(reach, side_of(&widened(label, p)));
+    }
+    reach
+}
+
+// How many pixels from the anchor the box reaches.
+fn side_of(p: &BoxPx) -> u32
+    requires { IsWideBox p.now.l p.now.b p.now.r p.now.t }
+    ensures within { IsWithin result p.now }
+    ensures low { result ≤ 576 }
+{
+    let left = p.l.unsigned_abs();
+    let right = p.r.unsigned_abs();
+    let below = p.b.unsigned_abs();
+    let above = p.t.unsigned_abs();
+    let wide = larger(left, right);
+    let high = larger(below, above);
+    larger(wide, high)
+}
+
+// The greater of the two.
+fn larger(a: u32, b: u32) -> u32
+    ensures first { a ≤ result }
+    ensures second { b ≤ result }
+    ensures low { (m : ℕ) → a ≤ m → b ≤ m → result ≤ m }
+{
+    if a < b { b } else { a }
+}
+
+/// Whether two coordinates of anchors are so far apart that labels that reach so many pixels toward each
+/// other together set no limit up to the bound.
+pub fn is_far(a: i64, b: i64, pixels: u64, bound: &Ratio) -> bool
+    requires a_in_world { IsInWorld a }
+    requires b_in_world { IsInWorld b }
+    requires few { pixels ≤ 1152 }
+    ensures { IsTrue result → IsFar a b pixels bound.now }
+{
+    pixels * (bound.num() + 1) <= (a - b).unsigned_abs() * bound.den()
+}

@@ -1,0 +1,21 @@
+-- Answers that are one.
+use Rattle.std.specs.Prelude.{◌≡◌}
+use Rattle.ml_editor.specs.State.{State}
+use Rattle.ml_http.specs.Step.{LinkAnswer}
+use Rattle.ml_http.specs.declared.connection_end.ConnEnd.{ConnEnd}
+use Rattle.ml_http.specs.declared.connection_end.ConnEnd.TheVariants.{Shut, Starved, Closed, ReadFault, WriteFault}
+
+-- two answers have one reply, one list of changes and one cost, and leave one state
+pub record AreOneAnswer (one other : LinkAnswer) (t u : State) : Type 0 where
+  pub reply : one.reply ≡ other.reply
+  pub changes : one.changes ≡ other.changes
+  pub cost : one.cost ≡ other.cost
+  pub state : t ≡ u
+
+-- the connection ended by neither a fault nor want of memory
+abbrev pub EndsWell : ConnEnd → Type 0
+EndsWell Shut = Unit {0}
+EndsWell Closed = Unit {0}
+EndsWell Starved = ⊥
+EndsWell ReadFault = ⊥
+EndsWell WriteFault = ⊥

@@ -1,0 +1,9 @@
+use Rattle.std.proofs.Common.{length}
+use Rattle.ml_ratio.specs.Fraction.{value_of}
+use Rattle.ml_pass.specs.Search.{rivals_in, IsSearched, SeesSpot}
+use Rattle.ml_pass.proofs.search.Search.east.Given as goal
+
+abbrev pub invariant-loop-right : goal.invariant-loop-right
+invariant-loop-right l =
+    IsSearched l.self.low.now (rivals_in l.self.labels.now l.self.slots.now l.self.low.now) (length l.self.slots.now)
+    (SeesSpot l.field.spots.items l.start l.right) (value_of l.fn.bound) (value_of l.next) l.initial.places.items l.places.items

@@ -1,0 +1,14 @@
+use Rattle.std.proofs.Common.{◌≤◌, length}
+use Rattle.ml_ratio.specs.Fraction.{value_of}
+use Rattle.ml_pass.specs.Search.{rivals_in, IsSearched, SeesSpot}
+use Rattle.ml_pass.proofs.search.Search.west.Given as goal
+
+abbrev pub invariant-loop-left : goal.invariant-loop-left
+invariant-loop-left l = record {
+  in_range : l.left ≤ l.start;
+  searched : IsSearched l.self.low.now (rivals_in l.self.labels.now l.self.slots.now l.self.low.now) (length l.self.slots.now)
+      (SeesSpot l.field.spots.items l.left l.start) (value_of l.fn.bound) (value_of l.next) l.initial.places.items l.places.items;
+}
+
+abbrev pub decreases-loop-left : goal.decreases-loop-left
+decreases-loop-left l = l.left

@@ -1,0 +1,136 @@
+//! The search for the labels before a place that may bound the one there.
+//!
+//! It goes from the label's anchor to the west and to the east. Each limit that it finds is the bound
+//! up to which it goes on, and it ends where the next label is too far away to set one up to there.
+ghost use Rattle.std.specs.Prelude.{ℕ, ◌≡◌, ◌≤◌, ◌<◌, [], length, IfOk, OnOk};
+ghost use Rattle.ml_ratio.specs.Fraction.{Fraction, value_of};
+ghost use Rattle.ml_cone.specs.SiteOf.{IsSiteOf};
+
+use crate::field::{Field, is_beyond};
+use crate::spot::Spot;
+use ml_cone::{Label, Site, Slot};
+use ml_conflict::laws::{clear_labels, far_labels};
+use ml_conflict::limit_up_to;
+use ml_ratio::Ratio;
+use std::alloc::AllocError;
+
+/// A label whose slot is sought, with its site, and all labels, of which those before it have a slot.
+#[derive(Clone, Copy)]
+pub struct Search<'a> {
+    pub low: &'a Label,
+    pub site: Site,
+    pub labels: &'a [Label],
+    pub slots: &'a [Slot],
+    ghost its_site: { IsSiteOf site low.now },
+    ghost fits: { length slots.now ≤ length labels.now },
+}
+
+impl Search<'_> {
+    ghost use Rattle.ml_conflict.specs.Reach.{Reaches};
+    ghost use Rattle.ml_pass.specs.Field.{IsSpotOf, IsFieldOf};
+    ghost use Rattle.ml_pass.specs.Search.{rivals_in, IsSearched, SeesSpot};
+
+    /// Finds places of labels before that are enough for the label's slot: each other one sets it no limit up
+    /// to a bound that these leave.
+    ///
+    /// # Errors
+    /// Want of memory.
+    pub fn gather(&self, field: &Field, places: &mut Vec<u32>) -> Result<(), AllocError>
+        requires field { IsFieldOf self.now.labels.now field.now.spots.items field.now.reach }
+        requires reaches { Reaches self.now.low.now field.now.reach }
+        ensures { OnOk result ((bound : Fraction) × IsSearched self.now.low.now (rivals_in self.now.labels.now self.now.slots.now self.now.low.now)
+            (length self.now.slots.now) (λ j. j < length self.now.slots.now) (value_of self.now.low.now.max) bound places.old.items places.new.items) }
+    {
+        let x = self.low.x();
+        let start = field.spots.partition_point(|spot| spot.x < x);
+        let bound = self.west(field, start, self.low.max(), places)?;
+        self.east(field, start, bound, places)?;
+        Ok(())
+    }
+
+    // Looks at the spots before `start`, the nearest first.
+    fn west(
+        &self,
+        field: &Field,
+        start: usize,
+        bound: Ratio,
+        places: &mut Vec<u32>,
+    ) -> Result<Ratio, AllocError>
+        requires field { IsFieldOf self.now.labels.now field.now.spots.items field.now.reach }
+        requires reaches { Reaches self.now.low.now field.now.reach }
+        requires start { start ≤ length field.now.spots.items }
+        ensures { IfOk result (λ next. IsSearched self.now.low.now (rivals_in self.now.labels.now self.now.slots.now self.now.low.now)
+            (length self.now.slots.now) (SeesSpot field.now.spots.items 0 start) (value_of bound) (value_of next) places.old.items places.new.items) }
+    {
+        far_labels();
+        let spots = field.spots.as_slice();
+        let mut next = bound;
+        let mut left = start;
+        while left > 0 {
+            let at = left - 1;
+            let spot = &spots[at];
+            if is_beyond(self.low.x(), spot.x, 2 * field.reach as u64, &next) {
+                return Ok(next);
+            }
+            next = self.look(spot, next, places)?;
+            left = at;
+        }
+        Ok(next)
+    }
+
+    // Looks at the spots from `start` on, the nearest first.
+    fn east(
+        &self,
+        field: &Field,
+        start: usize,
+        bound: Ratio,
+        places: &mut Vec<u32>,
+    ) -> Result<Ratio, AllocError>
+        requires field { IsFieldOf self.now.labels.now field.now.spots.items field.now.reach }
+        requires reaches { Reaches self.now.low.now field.now.reach }
+        requires start { start ≤ length field.now.spots.items }
+        ensures { IfOk result (λ next. IsSearched self.now.low.now (rivals_in self.now.labels.now self.now.slots.now self.now.low.now)
+            (length self.now.slots.now) (SeesSpot field.now.spots.items start (length field.now.spots.items)) (value_of bound) (value_of next) places.old.items places.new.items) }
+    {
+        far_labels();
+        let spots = field.spots.as_slice();
+        let mut next = bound;
+        for right in start..spots.len() {
+            let spot = &spots[right];
+            if is_beyond(spot.x, self.low.x(), 2 * field.reach as u64, &next) {
+                return Ok(next);
+            }
+            next = self.look(spot, next, places)?;
+        }
+        Ok(next)
+    }
+
+    // The limit that the label of the spot sets, where it is before and that is at most the bound, and then its
+    // place too; else the bound.
+    fn look(&self, spot: &Spot, bound: Ratio, places: &mut Vec<u32>) -> Result<Ratio, AllocError>
+        requires { IsSpotOf self.now.labels.now spot.now }
+        ensures { IfOk result (λ next. IsSearched self.now.low.now (rivals_in self.now.labels.now self.now.slots.now self.now.low.now)
+            (length self.now.slots.now) (λ j. j ≡ spot.now.place) (value_of bound) (value_of next) places.old.items places.new.items) }
+    {
+        clear_labels();
+        let place = spot.place as usize;
+        if place >= self.slots.len() {
+            return Ok(bound);
+        }
+        if self.site.is_clear(&spot.site, bound.num(), bound.den()) {
+            return Ok(bound);
+        }
+        match limit_up_to(
+            self.low,
+            &self.labels[place],
+            &self.slots[place].until,
+            &bound,
+        ) {
+            Some(limit) => {
+                places.push(spot.place)?;
+                Ok(limit)
+            }
+            None => Ok(bound),
+        }
+    }
+}

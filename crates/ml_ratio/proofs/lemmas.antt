@@ -1,0 +1,7 @@
+-- What proofs of other crates may cite: facts of fractions, bands, whole numbers, lists and numerals.
+pub mod Anys
+pub mod Bands
+pub mod Fractions
+pub mod Lists
+pub mod Numerals
+pub mod Rounding

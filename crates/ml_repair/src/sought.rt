@@ -1,0 +1,22 @@
+//! A label whose slot is sought while an edit is planned.
+use crate::moves::Moves;
+use crate::roster::Roster;
+use ml_cone::Label;
+
+/// Where the edited label stands in the roster, and whether it comes or goes.
+#[derive(Clone, Copy)]
+pub struct Edited {
+    pub at: usize,
+    pub comes: bool,
+}
+
+/// A label whose slot is sought: the label and its place, among which labels, with which new slots, for
+/// which edit.
+#[derive(Clone, Copy)]
+pub struct Sought<'a> {
+    pub roster: &'a Roster<'a>,
+    pub moves: &'a Moves,
+    pub low: &'a Label,
+    pub edited: Edited,
+    pub place: usize,
+}
