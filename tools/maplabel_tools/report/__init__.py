@@ -1,0 +1,1 @@
+"""What the engine made of a map: the survey, what else is silent, and how both are told."""
