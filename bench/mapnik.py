@@ -2,9 +2,9 @@
 """Counts names that come and go without a reason, here and in Mapnik: bench/mapnik.py [PATHS [POINTS]].
 
 It stands outside the gate, and wants Debian's python3-mapnik and fonts-liberation. Both programs get the
-same points in the same order of priority with the same font: the cities of the sample map, or POINTS towns
-at places drawn by lot. In windows of 512 by 384 pixels, along PATHS paths (10 if not told) of 60 steps each
-about places drawn by lot, it counts
+same points in the same order of priority with the same font: the points of the sample map, cities and countries, or POINTS towns
+at places drawn at random. In windows of 512 by 384 pixels, along PATHS paths (10 if not told) of 60 steps each
+about places drawn at random, it counts
 
 - while the map is moved, names that are gone, or new, though they lie within the window before the step
   and after it;
