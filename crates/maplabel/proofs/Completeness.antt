@@ -2,7 +2,8 @@
 use Rattle.std.proofs.Common.{◌≡◌, ℕ, ◌≤◌, List, Some, refl, sym, subst, ◌∙◌, inl, inr, arith}
 use Rattle.std.specs.Prelude.{◌⊎◌, Option}
 use Rattle.ml_io.specs.Calls.{Put}
-use Rattle.ml_io.specs.Causes.{one_more, Rose}
+use Rattle.ml_ratio.specs.Count.{one_more}
+use Rattle.ml_io.specs.Causes.{Rose}
 use Rattle.ml_io.specs.Files.{FileSet}
 use Rattle.ml_cert.specs.declared.verdict.Verdict.{Verdict}
 use Rattle.ml_cert.specs.declared.verdict.Verdict.TheVariants.{Best, BadEnd, Clash, Uncovered, BadBlocker}

@@ -2,7 +2,8 @@
 use Rattle.std.proofs.Common.{◌≡◌, ℕ, ◌≤◌, Bool, true, false, List, [], Option, None, Ok, Err, refl, sym, ap, ◌∙◌, inl, inr}
 use Rattle.std.specs.Prelude.{MatchBool}
 use Rattle.std.proofs.lemmas.List.{append-nil}
-use Rattle.ml_io.specs.Causes.{one_more, Appends}
+use Rattle.ml_ratio.specs.Count.{one_more}
+use Rattle.ml_io.specs.Causes.{Appends}
 use Rattle.ml_follow.specs.declared.state.State.{State}
 use Rattle.ml_watch.specs.Hearing.{Hearing}
 use Rattle.maplabel.specs.FollowLines.{held_line}

@@ -5,7 +5,8 @@ use Rattle.std.proofs.Math.ListN.{get_or-append}
 use Rattle.std.proofs.lemmas.Grind.{flat_map-append}
 use Rattle.std.proofs.lemmas.List.{append-nil, map-append, get_or-append-add}
 use Rattle.std.proofs.lemmas.List.Elements.{All-append, All-cons, All-nil}
-use Rattle.ml_io.specs.Causes.{one_more, Appends, AppendsPart}
+use Rattle.ml_ratio.specs.Count.{one_more}
+use Rattle.ml_io.specs.Causes.{Appends, AppendsPart}
 use Rattle.ml_follow.specs.Follower.{IsOfferFault}
 use Rattle.ml_follow.specs.declared.fault.OfferFault.{OfferFault}
 use Rattle.ml_follow.specs.declared.fault.OfferFault.TheVariants.{Stale, NotBest, Memory}
@@ -15,7 +16,7 @@ use Rattle.ml_watch.specs.Hearing.{Hearing, AllHear}
 use Rattle.ml_watch.specs.declared.change.Change.{Change}
 use Rattle.maplabel.specs.FollowLines.{spelled_ids, IsFaultLine}
 use Rattle.maplabel.specs.Following.{Offered, IsOffer, Offers, lines_of, changes_of, joined, AllAdopted, SomeNotAdopted}
-use Rattle.maplabel.specs.Offering.{AreAnswered, AreOffered, IsTurn}
+use Rattle.maplabel.specs.Offering.{AreAnswered, AreOffered, IsOfferPrinted}
 use Rattle.maplabel.specs.declared.following.Halt.{Halt}
 use Rattle.maplabel.specs.declared.following.Halt.TheVariants as halt
 
@@ -119,7 +120,7 @@ at_start hearing held states crowd written writes nothing = record {
 module _ {W : Type 0} (hearing : W → Hearing) (twice : HearTwice hearing) (held : Option State) (states : List State) (state : State) (rest : List State) (held_now : Option State) (crowd crowd_now : List W) (written written_now : Option (List ℕ)) (writes writes_now : ℕ) (all : Bool)
     (so_far : SoFar hearing held states (state ∷ rest) held_now crowd crowd_now written written_now writes writes_now all) (held_after : Option State) (crowd_after : List W) (written_after : Option (List ℕ)) (writes_after : ℕ) where
   -- one state more, with its line
-  pub next_turn : (adopted : Bool) → IsTurn hearing held_now state held_after crowd_now crowd_after written_now written_after writes_now writes_after (Ok adopted)
+  pub next_turn : (adopted : Bool) → IsOfferPrinted hearing held_now state held_after crowd_now crowd_after written_now written_after writes_now writes_after (Ok adopted)
       → SoFar hearing held states rest held_after crowd crowd_after written written_after writes writes_after (all && adopted)
   next_turn adopted (answer, (offer, heard), wrote, says, calm) = record {
     front = so_far.front ++ state ∷ [];
@@ -133,7 +134,7 @@ module _ {W : Type 0} (hearing : W → Hearing) (twice : HearTwice hearing) (hel
   }
 
   -- one state more, with a part of its line; or memory was wanting for it
-  pub halted_at : (why : Halt) → IsTurn hearing held_now state held_after crowd_now crowd_after written_now written_after writes_now writes_after (Err why)
+  pub halted_at : (why : Halt) → IsOfferPrinted hearing held_now state held_after crowd_now crowd_after written_now written_after writes_now writes_after (Err why)
       → AreOffered hearing held states held_after crowd crowd_after written written_after writes writes_after (Err why)
   halted_at halt.WriteFault (answer, (offer, heard), part, failed) = (
     record {

@@ -1,7 +1,8 @@
 -- From the readers of styles and maps to what is asked of a map.
 use Rattle.std.proofs.Common.{◌≡◌, ℕ, ◌<◌, List, length, Result, Ok, Err, IfErr, inr, sym, ap, ◌∙◌}
 use Rattle.std.specs.Result.{IsErrAnd}
-use Rattle.ml_io.specs.Causes.{one_more}
+use Rattle.ml_ratio.specs.Limits.{most_labels}
+use Rattle.ml_ratio.specs.Count.{one_more}
 use Rattle.ml_io.specs.Files.{Seen, IsLoaded}
 use Rattle.ml_ratio.specs.declared.feature.Feature.{Feature}
 use Rattle.ml_style.specs.Answer.{IsRefusal}
@@ -9,7 +10,7 @@ use Rattle.ml_style.specs.declared.fault.StyleFault.{StyleFault}
 use Rattle.ml_style.specs.declared.style.Style.{Style}
 use Rattle.ml_geojson.specs.Map.{IsMap}
 use Rattle.maplabel.specs.Inputs.{most_bytes, IsInputRefusal}
-use Rattle.maplabel.specs.MapInputs.{most_features, IsStyleRefusal, IsStyleStop, HasStyle, IsMapStop, IsFullLine}
+use Rattle.maplabel.specs.MapInputs.{IsStyleRefusal, IsStyleStop, HasStyle, IsMapStop, IsFullLine}
 use Rattle.maplabel.specs.Outcome.{IsMapAnswerStop}
 use Rattle.maplabel.specs.declared.stop.Stop.{Stop}
 use Rattle.maplabel.specs.declared.stop.Stop.TheVariants as stop
@@ -23,7 +24,7 @@ style_stopped seen name bytes fault stop.TooLong loaded refused h = absurd h
 style_stopped seen name bytes fault stop.Memory loaded refused h = tt
 
 -- a map of too many features
-pub map_full : (seen : Seen) (name bytes : List ℕ) (features : List Feature) (s : Stop) → IsLoaded seen.told name most_bytes bytes → IsMap bytes features → most_features < length features → IsInputRefusal IsFullLine s → IsMapStop seen name s
+pub map_full : (seen : Seen) (name bytes : List ℕ) (features : List Feature) (s : Stop) → IsLoaded seen.told name most_bytes bytes → IsMap bytes features → most_labels < length features → IsInputRefusal IsFullLine s → IsMapStop seen name s
 map_full seen name bytes features (stop.StyleRefused line) loaded is more h = absurd h
 map_full seen name bytes features (stop.InputRefused line) loaded is more h = inr (bytes, features, loaded, is, more, h)
 map_full seen name bytes features stop.FileFault loaded is more h = absurd h

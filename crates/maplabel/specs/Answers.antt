@@ -74,7 +74,7 @@ pub record IsMapAnswer (told : Option FileSet) (style map : List ℕ) (task : Ma
   pub answered : IsTextOf classes features task text
 
 -- the text is the line of the verdict on the slots that a file gives to the labels of a table
-pub record IsJudged (told : Option FileSet) (table slots : List ℕ) (verdict : Verdict) (text : List ℕ) : Type 0 where
+pub record IsVerdictTold (told : Option FileSet) (table slots : List ℕ) (verdict : Verdict) (text : List ℕ) : Type 0 where
   pub labels : List Label
   pub given : List Slot
   pub has : HasTable told table labels

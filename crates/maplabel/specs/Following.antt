@@ -1,7 +1,8 @@
 -- States of a file that are offered to a follower, one after another, and what is printed of them.
 use Rattle.std.specs.Prelude.{◌≡◌, ◌⊎◌, ℕ, Bool, true, false, List, [], ◌∷◌, ◌++◌, length, map, flat_map, All, Any, codes, decimal, Option, Some, None}
 use Rattle.ml_io.specs.Calls.{Put}
-use Rattle.ml_io.specs.Causes.{one_more, Appends}
+use Rattle.ml_ratio.specs.Count.{one_more}
+use Rattle.ml_io.specs.Causes.{Appends}
 use Rattle.ml_io.specs.Files.{FileSet, Seen, IsLoaded}
 use Rattle.ml_cert.specs.Judged.{IsVerdict}
 use Rattle.ml_cert.specs.declared.verdict.Verdict.{Verdict}

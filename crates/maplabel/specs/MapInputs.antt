@@ -1,5 +1,6 @@
 -- Styles and maps as inputs of a command.
 use Rattle.std.specs.Prelude.{◌≡◌, ℕ, ◌<◌, ◌≤◌, ◌++◌, List, length, Option, codes, decimal, ◌⊎◌}
+use Rattle.ml_ratio.specs.Limits.{most_labels}
 use Rattle.ml_io.specs.Files.{FileSet, Seen, IsLoaded}
 use Rattle.ml_ratio.specs.declared.feature.Feature.{Feature}
 use Rattle.ml_geojson.specs.Map.{IsMap, IsMapFault}
@@ -13,10 +14,6 @@ use Rattle.ml_style.specs.declared.style.Style.{Style}
 use Rattle.maplabel.specs.Inputs.{most_bytes, IsNoLine, IsReadStop}
 use Rattle.maplabel.specs.declared.stop.Stop.{Stop}
 use Rattle.maplabel.specs.declared.stop.Stop.TheVariants as stop
-
--- a map has at most so many features
-abbrev pub most_features : ℕ
-most_features = 32768
 
 -- the named file is this style
 abbrev pub HasStyle : Option FileSet → List ℕ → Style → Type 0
@@ -52,7 +49,7 @@ IsStyleStop seen name s = IsReadStop (IsNoStyle seen.told name) IsNoLine seen na
 -- the named file is a map of these features, which are not too many
 abbrev pub HasMap : Option FileSet → List ℕ → List Feature → Type 0
 HasMap told name features =
-    (bytes : List ℕ) × IsLoaded told name most_bytes bytes × IsMap bytes features × (length features ≤ most_features)
+    (bytes : List ℕ) × IsLoaded told name most_bytes bytes × IsMap bytes features × (length features ≤ most_labels)
 
 -- the line that says why a map is refused; there is none for want of memory
 abbrev pub IsMapLine : GeoFault → List ℕ → Type 0
@@ -78,7 +75,7 @@ IsFaultyMap told name line =
 -- the named file is a map of too many features, as the line says
 abbrev pub IsFullMap : Option FileSet → List ℕ → List ℕ → Type 0
 IsFullMap told name line =
-    (bytes : List ℕ) × (features : List Feature) × IsLoaded told name most_bytes bytes × IsMap bytes features × (most_features < length features) × IsFullLine line
+    (bytes : List ℕ) × (features : List Feature) × IsLoaded told name most_bytes bytes × IsMap bytes features × (most_labels < length features) × IsFullLine line
 
 -- the named map is refused, as the line says
 abbrev pub IsNoMap : Option FileSet → List ℕ → List ℕ → Type 0

@@ -1,6 +1,7 @@
 -- What the steps of following come to.
 use Rattle.std.specs.Prelude.{◌≡◌, ℕ, Bool, List, ◌++◌, Option, Result, Ok, Err, MatchBool}
-use Rattle.ml_io.specs.Causes.{one_more, Appends, AppendsPart}
+use Rattle.ml_ratio.specs.Count.{one_more}
+use Rattle.ml_io.specs.Causes.{Appends, AppendsPart}
 use Rattle.ml_follow.specs.declared.state.State.{State}
 use Rattle.ml_http.specs.Connection.{IsCut}
 use Rattle.ml_watch.specs.Hearing.{Hearing, AllHear}
@@ -27,19 +28,19 @@ abbrev pub IsHeardOffer : {W : Type 0} → (W → Hearing) → Option State → 
 IsHeardOffer hearing held state answer held_after crowd crowd_after = IsOffer held state answer held_after × AllHear hearing answer.changes crowd crowd_after
 
 -- the same of an answer, whatever the changes are
-abbrev pub IsAnswered : {W : Type 0} → (W → Hearing) → Option State → State → Option State → List W → List W → Answer → Type 0
-IsAnswered hearing held state held_after crowd crowd_after answer =
+abbrev pub IsOfferAnswered : {W : Type 0} → (W → Hearing) → Option State → State → Option State → List W → List W → Answer → Type 0
+IsOfferAnswered hearing held state held_after crowd crowd_after answer =
     (changes : List Change) × IsHeardOffer hearing held state (offered answer changes) held_after crowd crowd_after
 
 -- one state was offered, and its line printed, or a part of it; or memory was wanting, and all stays
-abbrev pub IsTurn : {W : Type 0} → (W → Hearing) → Option State → State → Option State → List W → List W → Option (List ℕ) → Option (List ℕ) → ℕ → ℕ → Result Bool Halt → Type 0
-IsTurn hearing held state held_after crowd crowd_after written written_after writes writes_after (Ok adopted) =
+abbrev pub IsOfferPrinted : {W : Type 0} → (W → Hearing) → Option State → State → Option State → List W → List W → Option (List ℕ) → Option (List ℕ) → ℕ → ℕ → Result Bool Halt → Type 0
+IsOfferPrinted hearing held state held_after crowd crowd_after written written_after writes writes_after (Ok adopted) =
     (answer : Offered) × IsHeardOffer hearing held state answer held_after crowd crowd_after
     × Appends written written_after answer.line × (answer.adopted ≡ adopted) × (writes_after ≡ writes)
-IsTurn hearing held state held_after crowd crowd_after written written_after writes writes_after (Err WriteFault) =
+IsOfferPrinted hearing held state held_after crowd crowd_after written written_after writes writes_after (Err WriteFault) =
     (answer : Offered) × IsHeardOffer hearing held state answer held_after crowd crowd_after
     × AppendsPart written written_after answer.line × (writes_after ≡ one_more writes)
-IsTurn hearing held state held_after crowd crowd_after written written_after writes writes_after (Err Memory) =
+IsOfferPrinted hearing held state held_after crowd crowd_after written written_after writes writes_after (Err Memory) =
     (held_after ≡ held) × (crowd_after ≡ crowd) × (written_after ≡ written) × (writes_after ≡ writes)
 
 -- states were offered and answered so, and the watchers were told what changed by them

@@ -1,12 +1,13 @@
 -- What is due of a command, and what is printed.
 use Rattle.std.specs.Prelude.{◌≡◌, ℕ, List, [], Option, codes, ◌⊎◌}
 use Rattle.ml_io.specs.Calls.{Put}
-use Rattle.ml_io.specs.Causes.{one_more, Appends, AppendsPart}
+use Rattle.ml_ratio.specs.Count.{one_more}
+use Rattle.ml_io.specs.Causes.{Appends, AppendsPart}
 use Rattle.ml_io.specs.Files.{FileSet, Seen}
 use Rattle.ml_cone.specs.declared.label.Label.{Label}
 use Rattle.ml_cert.specs.declared.verdict.Verdict.{Verdict}
 use Rattle.ml_style.specs.declared.style.Style.{Style}
-use Rattle.maplabel.specs.Answers.{IsJudged, status_of}
+use Rattle.maplabel.specs.Answers.{IsVerdictTold, status_of}
 use Rattle.maplabel.specs.Inputs.{HasTable, IsTableStop, IsSlotsStop}
 use Rattle.maplabel.specs.MapInputs.{HasStyle, IsStyleStop, IsMapStop}
 use Rattle.maplabel.specs.declared.status.Status.{Status}
@@ -20,7 +21,7 @@ usage_line = codes "usage: maplabel show, slots, check, view, pipe, serve or gen
 
 -- the status and the line of the verdict on the slots
 abbrev pub IsCheckAnswer : Option FileSet → List ℕ → List ℕ → Status → List ℕ → Type 0
-IsCheckAnswer told table slots status text = (verdict : Verdict) × IsJudged told table slots verdict text × (status ≡ status_of verdict)
+IsCheckAnswer told table slots status text = (verdict : Verdict) × IsVerdictTold told table slots verdict text × (status ≡ status_of verdict)
 
 -- why slots were not judged: the table was not read, or it was and the slots were not
 abbrev pub IsCheckStop : Seen → List ℕ → List ℕ → Stop → Type 0

@@ -53,9 +53,9 @@ abbrev pub IsTextEnd : {S D I O W : Type 0} → Call S D I O W → (Status → L
 IsTextEnd r due stops status = (IsTold r.files r.out due status ⊎ IsStopped r.files r.out stops status) × (r.new ≡ r.old)
 
 -- connections were served over a map from its first state: on `pipe` one, and the door stays as it was; on `serve` those of the door, and the input stays
-abbrev pub IsLive : {S D I O W : Type 0} → Call S D I O W → LiveTask → State → Status → Type 0
-IsLive r Pipe first status = IsPiped r.hearing first r.old.crowd r.new.crowd r.input r.out status × (r.new.door ≡ r.old.door)
-IsLive r (Serve port count) first status =
+abbrev pub IsSiteServed : {S D I O W : Type 0} → Call S D I O W → LiveTask → State → Status → Type 0
+IsSiteServed r Pipe first status = IsPiped r.hearing first r.old.crowd r.new.crowd r.input r.out status × (r.new.door ≡ r.old.door)
+IsSiteServed r (Serve port count) first status =
     IsAllServed r.hearing r.ends first r.old.crowd r.new.crowd port count r.door r.out status × (r.new.input ≡ r.old.input)
 
 -- a command ended so
@@ -66,7 +66,7 @@ IsDone r (OnMap style map task) status = IsTextEnd r (λ now text. IsMapAnswer r
 IsDone r (Make groups seed) status = IsTextEnd r (λ now text. IsTotalsOf groups seed text × (now ≡ Done)) IsMakingStop status
 IsDone r (Live style map task) status =
     (IsStopped r.files r.out (IsMapAnswerStop r.files style.now map.now) status × (r.new ≡ r.old))
-    ⊎ ((first : State) × IsFirstState r.files.told style.now map.now first × KeptName r.files × IsLive r task first status)
+    ⊎ ((first : State) × IsFirstState r.files.told style.now map.now first × KeptName r.files × IsSiteServed r task first status)
 IsDone r (Follow name) status =
     (IsStopped r.files r.out (IsStatesStop r.files name.now) status × (r.new ≡ r.old))
     ⊎ ((states : List follow.State) × HasStates r.files.told name.now states × KeptName r.files

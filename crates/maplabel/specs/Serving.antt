@@ -15,7 +15,6 @@ use Rattle.ml_http.specs.declared.connection_end.ConnEnd.TheVariants as ends
 use Rattle.ml_serve.specs.Headline.{Headline}
 use Rattle.ml_serve.specs.Printed.{IsEndOfServing, HasServeCause}
 use Rattle.ml_serve.specs.Session.{Visit}
-use Rattle.ml_serve.specs.Visit.{IsVisit}
 use Rattle.ml_serve.specs.declared.serve_end.ServeEnd.{ServeEnd}
 use Rattle.ml_serve.specs.declared.serve_end.ServeEnd.TheVariants as serving
 use Rattle.maplabel.specs.MapInputs.{HasStyle, HasMap}
@@ -66,7 +65,7 @@ pub record IsAllServed {W I O : Type 0} (hearing : W → Hearing) (ends : LinkEn
   pub last : LinkState W
   pub visits : List (Visit I O LinkAnswer)
   pub end : ServeEnd
-  pub headline : Headline (IsVisit hearing ends.left ends.reads ends.written ends.writes) (λ s. s.crowd) hearing (at_first first crowd) last door.coming door.coming_after door.done door.done_after visits
+  pub headline : Headline hearing ends (at_first first crowd) last door visits
   pub printed : IsEndOfServing count (length visits) (record { listens = door.listens; coming_after = door.coming_after; faults = door.faults; faults_after = door.faults_after }) out.written out.written_after end
   pub cause : HasServeCause door.faults door.faults_after out.faults out.faults_after end
   pub at_port : door.port ≡ Some port

@@ -1,5 +1,6 @@
 //! The longest choice of any labels, as a view and as a list.
 ghost use Rattle.std.specs.Prelude.{◌≤◌, IfOk, length};
+ghost use Rattle.ml_ratio.specs.Limits.{most_labels};
 ghost use Rattle.maplabel.specs.Answers.{IsViewOf, IsSlotsOf};
 
 use crate::view_line::view_line;
@@ -14,7 +15,7 @@ use std::alloc::{AllocError, Global};
 /// # Errors
 /// Want of memory.
 pub fn line_of(alloc: Global, labels: &[Label], view: &View) -> Result<Seq<u8>, AllocError>
-    requires few { length labels.now ≤ 32768 }
+    requires few { length labels.now ≤ most_labels }
     ensures { IfOk result (IsViewOf labels.now view.now) }
 {
     let slots = assign(alloc, labels)?;
@@ -33,7 +34,7 @@ pub fn line_of(alloc: Global, labels: &[Label], view: &View) -> Result<Seq<u8>, 
 /// # Errors
 /// Want of memory.
 pub fn slots_of(alloc: Global, labels: &[Label]) -> Result<Seq<u8>, AllocError>
-    requires few { length labels.now ≤ 32768 }
+    requires few { length labels.now ≤ most_labels }
     ensures { IfOk result (IsSlotsOf labels.now) }
 {
     let slots = assign(alloc, labels)?;

@@ -7,7 +7,7 @@ ghost use Rattle.maplabel.specs.FollowLines.{held_line};
 ghost use Rattle.maplabel.specs.Following.{HasStates, IsFollowed, IsStatesLine, IsStatesStop};
 ghost use Rattle.maplabel.specs.Inputs.{IsInputRefusal, Keeps};
 ghost use Rattle.maplabel.specs.declared.status.Status.TheVariants.{Done, NotAdopted};
-ghost use Rattle.maplabel.specs.Offering.{AreOffered, IsAnswered, IsHeldPrinted, IsTurn, halted};
+ghost use Rattle.maplabel.specs.Offering.{AreOffered, IsOfferAnswered, IsHeldPrinted, IsOfferPrinted, halted};
 
 use crate::follow_lines::{adopted_line, fault_line, held_line, spelled_ids};
 use crate::inputs::{input_refusal, load};
@@ -88,13 +88,13 @@ pub fn follow<K: Sink, W: Watcher>(
         Err(halt) => return halted(halt),
     };
     match print_held(alloc, &follower, out) {
-        Ok(()) => status_of(all),
+        Ok(()) => status_of_offers(all),
         Err(halt) => halted(halt),
     }
 }
 
 // The status where all states were offered.
-fn status_of(all: bool) -> Status
+fn status_of_offers(all: bool) -> Status
     ensures { MatchBool all (result ≡ Done) (result ≡ NotAdopted) }
 {
     if all {
@@ -148,7 +148,7 @@ fn offer<K: Sink, W: Watcher>(
     crowd: &mut Crowd<W>,
 ) -> Result<bool, Halt>
     requires good { IsGood state }
-    ensures turn { IsTurn W.hearing follower.old state follower.new crowd.old crowd.new
+    ensures turn { IsOfferPrinted W.hearing follower.old state follower.new crowd.old crowd.new
         (K.written out.old) (K.written out.new) (K.faults out.old) (K.faults out.new) result }
     ensures later { K.faults out.old ≤ K.faults out.new }
 {
@@ -170,7 +170,7 @@ fn answer_to<W: Watcher>(
     crowd: &mut Crowd<W>,
 ) -> Result<Answer, AllocError>
     requires good { IsGood state }
-    ensures answered { IfOk result (IsAnswered W.hearing follower.old state follower.new crowd.old crowd.new) }
+    ensures answered { IfOk result (IsOfferAnswered W.hearing follower.old state follower.new crowd.old crowd.new) }
     ensures held { OnErr result (follower.new ≡ follower.old) }
     ensures crowd { OnErr result (crowd.new ≡ crowd.old) }
 {

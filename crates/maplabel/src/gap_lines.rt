@@ -1,5 +1,6 @@
 //! The longest free gaps of any labels, as a list and as a view.
 ghost use Rattle.std.specs.Prelude.{◌≡◌, ◌≤◌, map, length, IfOk, string_bytes};
+ghost use Rattle.ml_ratio.specs.Limits.{most_labels};
 ghost use Rattle.maplabel.specs.GapLines.{gap_line, gap_lines, IsGapsOf, slot_of, IsGapViewOf};
 
 use crate::view_line::view_line;
@@ -24,7 +25,7 @@ pub fn gaps_of(alloc: Global, labels: &[Label]) -> Result<Seq<u8>, AllocError>
 /// # Errors
 /// Want of memory.
 pub fn gap_line_of(alloc: Global, labels: &[Label], view: &View) -> Result<Seq<u8>, AllocError>
-    requires few { length labels.now ≤ 32768 }
+    requires few { length labels.now ≤ most_labels }
     ensures { IfOk result (IsGapViewOf labels.now view.now) }
 {
     let gaps = gaps(alloc, labels)?;

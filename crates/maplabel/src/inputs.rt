@@ -1,5 +1,6 @@
 //! The inputs of a command, loaded and read.
 ghost use Rattle.std.specs.Prelude.{◌≡◌, ◌≤◌, length, IfOk, IfErr, MatchResult, string_bytes};
+ghost use Rattle.ml_ratio.specs.Limits.{most_labels};
 ghost use Rattle.ml_io.specs.Files.{IsLoaded, seen};
 ghost use Rattle.maplabel.specs.declared.stop.Stop.TheVariants as stop;
 ghost use Rattle.maplabel.specs.Inputs.{most_bytes, Keeps, HasTable, IsLoadStop, IsTableStop, IsTableLine, IsInputRefusal, HasSlots, IsSlotsStop, IsSlotsLine};
@@ -44,7 +45,7 @@ pub fn load_slots<F: Files>(
     name: &str,
     labels: &[Label],
 ) -> Result<Seq<Slot>, Stop>
-    requires { length labels.now ≤ 32768 }
+    requires { length labels.now ≤ most_labels }
     ensures ok { IfOk result (λ slots. HasSlots (F.told files.old) labels.now name.now slots) }
     ensures stop { IfErr result (IsSlotsStop (seen F.told F.faults F.failed_name files.old files.new) labels.now name.now) }
     ensures same { F.told files.new ≡ F.told files.old }

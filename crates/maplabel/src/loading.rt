@@ -12,6 +12,9 @@ use ml_io::Files;
 use ml_tile::Tiles;
 use std::alloc::{AllocError, Global};
 
+/// A map that was loaded, and the room for tiles of it.
+pub type Site = (Editor, Tiles);
+
 /// The map of this name under the style of that name, at its first revision; and room for tiles of it,
 /// of which none is held yet.
 ///
@@ -22,7 +25,7 @@ pub fn load_editor<F: Files>(
     files: &mut F,
     style: &str,
     map: &str,
-) -> Result<(Editor, Tiles), Stop>
+) -> Result<Site, Stop>
     ensures ok { IfOk result (λ p. IsFirstState (F.told files.old) style.now map.now p.0.state × (p.1 ≡ no_tiles)) }
     ensures stop { IfErr result (IsMapAnswerStop (seen F.told F.faults F.failed_name files.old files.new) style.now map.now) }
     ensures same { F.told files.new ≡ F.told files.old }

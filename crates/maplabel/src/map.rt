@@ -1,5 +1,6 @@
 //! What is asked of a map under a style.
 ghost use Rattle.std.specs.Prelude.{◌≡◌, ◌≤◌, IfOk, IfErr, length};
+ghost use Rattle.ml_ratio.specs.Limits.{most_labels};
 ghost use Rattle.ml_io.specs.Files.{seen};
 ghost use Rattle.ml_geojson.specs.Map.{HaveDifferentIds};
 ghost use Rattle.maplabel.specs.Answers.{IsMapAnswer, IsMapZoom, IsTextOf};
@@ -49,7 +50,7 @@ fn map_text(
     task: MapTask,
 ) -> Result<Seq<u8>, AllocError>
     requires differ { HaveDifferentIds features }
-    requires few { length features ≤ 32768 }
+    requires few { length features ≤ most_labels }
     ensures { IfOk result (IsTextOf classes features task) }
 {
     match task {
@@ -66,7 +67,7 @@ fn map_zoom(
     window: &Window,
 ) -> Result<Seq<u8>, AllocError>
     requires differ { HaveDifferentIds features.now }
-    requires few { length features.now ≤ 32768 }
+    requires few { length features.now ≤ most_labels }
     ensures { IfOk result (IsMapZoom classes.now features.now window.now) }
 {
     let labels = labels_of(alloc, classes, features)?;

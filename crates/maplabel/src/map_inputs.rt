@@ -10,12 +10,9 @@ use crate::inputs::{input_refusal, load};
 use crate::stop::Stop;
 use ml_geojson::{GeoFault, read_collection};
 use ml_io::Files;
-use ml_ratio::{Feature, Seq};
+use ml_ratio::{Feature, MOST_LABELS, Seq};
 use ml_style::{Style, StyleFault, read_style};
 use std::alloc::{AllocError, Global};
-
-// How many features a map may have.
-const MOST_FEATURES: usize = 32_768;
 
 /// The style of this name.
 ///
@@ -51,7 +48,7 @@ pub fn load_map<F: Files>(alloc: Global, files: &mut F, name: &str) -> Result<Se
 {
     let bytes = load(alloc, files, name)?;
     match read_collection(alloc, &bytes) {
-        Ok(features) => if features.len() > MOST_FEATURES {
+        Ok(features) => if features.len() > MOST_LABELS {
             Err(full_refusal(alloc))
         } else {
             Ok(features)

@@ -1,5 +1,6 @@
 //! The line of a view of a map.
 ghost use Rattle.std.specs.Prelude.{◌≡◌, ◌≤◌, IfOk, length};
+ghost use Rattle.ml_ratio.specs.Limits.{most_labels};
 ghost use Rattle.ml_geojson.specs.Map.{HaveDifferentIds};
 ghost use Rattle.ml_editor.specs.State.{first_state};
 ghost use Rattle.maplabel.specs.Answers.{IsMapView};
@@ -25,7 +26,7 @@ pub fn map_line(
     view: &View,
 ) -> Result<Seq<u8>, AllocError>
     requires differ { HaveDifferentIds features }
-    requires few { length features ≤ 32768 }
+    requires few { length features ≤ most_labels }
     ensures { IfOk result (IsMapView style features view.now) }
 {
     one_label_a_number();
@@ -40,7 +41,7 @@ pub fn map_line(
 // The map of these features under a style, at its first revision.
 fn loaded(alloc: Global, style: Style, features: Seq<Feature>) -> Result<Editor, AllocError>
     requires differ { HaveDifferentIds features }
-    requires few { length features ≤ 32768 }
+    requires few { length features ≤ most_labels }
     ensures { IfOk result (λ editor. editor.state ≡ first_state style features) }
 {
     match Editor::load(alloc, style, features) {

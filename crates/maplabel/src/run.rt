@@ -15,6 +15,7 @@ use crate::serving::{pipe, serve_at};
 use crate::status::Status;
 use crate::table::on_table;
 use ml_io::{Door, Files, Sink, Source};
+use ml_serve::Hours;
 use ml_watch::{Crowd, Watcher};
 use std::alloc::Global;
 
@@ -67,11 +68,11 @@ pub fn run<F: Files, S: Source, K: Sink, D: Door, W: Watcher>(
             Err(stop) => print_stop(out, &stop),
         },
         Some(Command::Live(style, map, task)) => match load_editor(alloc, files, style, map) {
-            Ok((editor, tiles)) => match task {
-                LiveTask::Pipe => pipe(alloc, editor, tiles, input, out, crowd),
-                LiveTask::Serve(port, count) => serve_at(
-                    alloc, editor, tiles, out, door, crowd, port, count,
-                ),
+            Ok(site) => match task {
+                LiveTask::Pipe => pipe(alloc, site, input, out, crowd),
+                LiveTask::Serve(port, count) => {
+                    serve_at(alloc, site, out, door, crowd, Hours { port, count })
+                }
             },
             Err(stop) => print_stop(out, &stop),
         },

@@ -3,13 +3,12 @@ ghost use Rattle.std.specs.Prelude.{◌≡◌, ◌<◌, ◌≤◌, None, false};
 ghost use Rattle.ml_io.specs.Calls.{link_ends, passed, put, taken};
 ghost use Rattle.maplabel.specs.Serving.{IsPiped, IsAllServed, no_tiles, status_of_link, status_of_serving};
 
+use crate::loading::Site;
 use crate::status::Status;
-use ml_editor::Editor;
-use ml_http::{ConnEnd, serve_link};
+use ml_http::{ConnEnd, Context, serve_link};
 use ml_io::{Door, Sink, Source};
 use ml_ratio::Steps;
-use ml_serve::{ServeEnd, serve};
-use ml_tile::Tiles;
+use ml_serve::{Hours, ServeEnd, serve};
 use ml_watch::{Crowd, Watcher};
 use std::alloc::Global;
 use std::marker::Brand;
@@ -19,25 +18,23 @@ use std::sync::ledger::{Blank, Ledger};
 /// Serves one connection over the map, from the input to the output.
 pub fn pipe<S: Source, K: Sink, W: Watcher>(
     alloc: Global,
-    editor: Editor,
-    tiles: Tiles,
+    site: Site,
     input: &mut S,
     out: &mut K,
     crowd: &mut Crowd<W>,
 ) -> Status
-    requires none { tiles ≡ no_tiles }
-    ensures served { IsPiped W.hearing editor.state crowd.old crowd.new
+    requires none { site.1 ≡ no_tiles }
+    ensures served { IsPiped W.hearing site.0.state crowd.old crowd.new
         (taken S.left S.faults input.old input.new) (put K.written K.faults out.old out.new) result }
     ensures later { (K.faults out.old ≤ K.faults out.new) × (S.faults input.old ≤ S.faults input.new) }
 {
-    pipe_counted::<Brand, S, K, W>(alloc, editor, tiles, input, out, crowd, Blank::new(1))
+    pipe_counted::<Brand, S, K, W>(alloc, site, input, out, crowd, Blank::new(1))
 }
 
 // The same, with a counter of its own.
 fn pipe_counted<L: Ledger, S: Source, K: Sink, W: Watcher>(
     alloc: Global,
-    editor: Editor,
-    tiles: Tiles,
+    site: Site,
     input: &mut S,
     out: &mut K,
     crowd: &mut Crowd<W>,
@@ -46,13 +43,12 @@ fn pipe_counted<L: Ledger, S: Source, K: Sink, W: Watcher>(
     requires name { blank.name ≡ L.name }
     requires parts { blank.parts ≡ L.parts }
     requires some { 0 < blank.parts }
-    requires none { tiles ≡ no_tiles }
-    ensures served { IsPiped W.hearing editor.state crowd.old crowd.new
+    requires none { site.1 ≡ no_tiles }
+    ensures served { IsPiped W.hearing site.0.state crowd.old crowd.new
         (taken S.left S.faults input.old input.new) (put K.written K.faults out.old out.new) result }
     ensures later { (K.faults out.old ≤ K.faults out.new) × (S.faults input.old ≤ S.faults input.new) }
 {
-    let mut editor = editor;
-    let mut tiles = tiles;
+    let (mut editor, mut tiles) = site;
     let mut steps: Steps<L> = Steps::new(blank);
     let end = serve_link(
         alloc,
@@ -71,45 +67,31 @@ fn pipe_counted<L: Ledger, S: Source, K: Sink, W: Watcher>(
 /// Serves at most so many connections over the map at a port, one after another, and says so.
 pub fn serve_at<K: Sink, D: Door, W: Watcher>(
     alloc: Global,
-    editor: Editor,
-    tiles: Tiles,
+    site: Site,
     out: &mut K,
     door: &mut D,
     crowd: &mut Crowd<W>,
-    port: u16,
-    count: u64,
+    hours: Hours,
 ) -> Status
     requires fresh { D.at_port door.old ≡ None }
     requires out { D.is_out door.old ≡ false }
-    requires none { tiles ≡ no_tiles }
-    ensures served { IsAllServed W.hearing (link_ends D.In.left D.In.faults D.Out.written D.Out.faults) editor.state crowd.old crowd.new port count
+    requires none { site.1 ≡ no_tiles }
+    ensures served { IsAllServed W.hearing (link_ends D.In.left D.In.faults D.Out.written D.Out.faults) site.0.state crowd.old crowd.new hours.port hours.count
         (passed D.coming D.served D.faults D.at_port D.listens door.old door.new) (put K.written K.faults out.old out.new) result }
     ensures out { D.is_out door.new ≡ false }
     ensures later { (K.faults out.old ≤ K.faults out.new) × (D.faults door.old ≤ D.faults door.new) }
 {
-    serve_counted::<Brand, K, D, W>(
-        alloc,
-        editor,
-        tiles,
-        out,
-        door,
-        crowd,
-        port,
-        count,
-        Blank::new(1),
-    )
+    serve_counted::<Brand, K, D, W>(alloc, site, out, door, crowd, hours, Blank::new(1))
 }
 
 // The same, with a counter of its own.
 fn serve_counted<L: Ledger, K: Sink, D: Door, W: Watcher>(
     alloc: Global,
-    editor: Editor,
-    tiles: Tiles,
+    site: Site,
     out: &mut K,
     door: &mut D,
     crowd: &mut Crowd<W>,
-    port: u16,
-    count: u64,
+    hours: Hours,
     blank: Blank,
 ) -> Status
     requires fresh { D.at_port door.old ≡ None }
@@ -117,26 +99,22 @@ fn serve_counted<L: Ledger, K: Sink, D: Door, W: Watcher>(
     requires name { blank.name ≡ L.name }
     requires parts { blank.parts ≡ L.parts }
     requires some { 0 < blank.parts }
-    requires none { tiles ≡ no_tiles }
-    ensures served { IsAllServed W.hearing (link_ends D.In.left D.In.faults D.Out.written D.Out.faults) editor.state crowd.old crowd.new port count
+    requires none { site.1 ≡ no_tiles }
+    ensures served { IsAllServed W.hearing (link_ends D.In.left D.In.faults D.Out.written D.Out.faults) site.0.state crowd.old crowd.new hours.port hours.count
         (passed D.coming D.served D.faults D.at_port D.listens door.old door.new) (put K.written K.faults out.old out.new) result }
     ensures out { D.is_out door.new ≡ false }
     ensures later { (K.faults out.old ≤ K.faults out.new) × (D.faults door.old ≤ D.faults door.new) }
 {
-    let mut editor = editor;
-    let mut tiles = tiles;
+    let (mut editor, mut tiles) = site;
     let mut steps: Steps<L> = Steps::new(blank);
-    let end = serve(
+    let mut context = Context {
         alloc,
-        &mut editor,
-        out,
-        door,
+        editor: &mut editor,
         crowd,
-        &mut tiles,
-        &mut steps,
-        port,
-        count,
-    );
+        tiles: &mut tiles,
+        steps: &mut steps,
+    };
+    let end = serve(&mut context, out, door, hours);
     // The run ends here, and the system takes back all memory at once.
     forget(editor);
     status_of_serving(end)

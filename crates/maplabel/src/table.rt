@@ -1,5 +1,6 @@
 //! What is asked of a table.
 ghost use Rattle.std.specs.Prelude.{◌≡◌, ◌≤◌, IfOk, IfErr, length};
+ghost use Rattle.ml_ratio.specs.Limits.{most_labels};
 ghost use Rattle.ml_io.specs.Files.{seen};
 ghost use Rattle.maplabel.specs.Answers.{IsTableText, IsTableAnswer};
 ghost use Rattle.maplabel.specs.Inputs.{IsTableStop, Keeps};
@@ -37,7 +38,7 @@ pub fn on_table<F: Files>(
 
 // The text that is asked of labels.
 fn table_text(alloc: Global, labels: &[Label], task: TableTask) -> Result<Seq<u8>, AllocError>
-    requires few { length labels.now ≤ 32768 }
+    requires few { length labels.now ≤ most_labels }
     ensures { IfOk result (IsTableText labels.now task) }
 {
     match task {

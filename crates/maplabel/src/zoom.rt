@@ -1,5 +1,6 @@
 //! The zoom timeline of labels.
 ghost use Rattle.std.specs.Prelude.{◌≡◌, ◌≤◌, IfOk, length, All};
+ghost use Rattle.ml_ratio.specs.Limits.{most_labels};
 ghost use Rattle.ml_flight.specs.Shown.{IsShownAt};
 ghost use Rattle.ml_flight.specs.Stay.{AreApart};
 ghost use Rattle.ml_flight.specs.Stays.{AreMaximal};
@@ -21,7 +22,7 @@ use std::alloc::{AllocError, Global};
 /// # Errors
 /// Want of memory.
 pub fn zoom_of(alloc: Global, labels: &[Label], window: &Window) -> Result<Seq<u8>, AllocError>
-    requires few { length labels.now ≤ 32768 }
+    requires few { length labels.now ≤ most_labels }
     ensures { IfOk result (IsZoomOf labels.now window.now) }
 {
     stays_tell_views();

@@ -1,7 +1,7 @@
 //! The JSON text of a reason why a feature has no label.
 ghost use Rattle.std.specs.Prelude.{◌≡◌, IfOk};
 ghost use Rattle.serde_json.specs.View.{view};
-ghost use Rattle.ml_answer.specs.Reason.{name_of, reason_data, reason_text};
+ghost use Rattle.ml_answer.specs.Reason.{reason_word, reason_data, reason_text};
 
 use crate::compact::compact;
 use ml_label::Reason;
@@ -30,7 +30,7 @@ fn reason_value(alloc: Global, id: &Text, reason: Reason) -> Result<Value, Alloc
 
 // The name of a reason.
 fn reason_name(reason: Reason) -> &'static str
-    ensures { result.now ≡ name_of reason }
+    ensures { result.now ≡ reason_word reason }
 {
     match reason {
         Reason::NoGeometry => "NoGeometry",

@@ -15,10 +15,7 @@ use ml_conflict::laws::{
     allowed_up_to, blocking, far_labels, same_limits, smaller_ends, sound_slots,
 };
 use ml_conflict::{greatest_reach, is_far, limit_up_to};
-use ml_ratio::Ratio;
-
-// For how many labels there is room to write down their anchors.
-const MOST_LABELS: usize = 32_768;
+use ml_ratio::{MOST_LABELS, Ratio};
 
 /// The verdict on the slots of labels in priority order: what the first label with a wrong slot has
 /// wrong, the first of the four that applies. It takes no memory.

@@ -1,5 +1,6 @@
 //! Where each id stands in a list of labels.
 ghost use Rattle.std.specs.Prelude.{◌≡◌, ◌≤◌, length, IfOk};
+ghost use Rattle.ml_ratio.specs.Limits.{most_labels};
 ghost use Rattle.ml_cone.specs.Places.{FindsPlaces, find_place};
 
 use ml_cone::Label;
@@ -14,7 +15,7 @@ pub fn places_of<'a>(
     alloc: Global,
     labels: &'a [Label],
 ) -> Result<BTreeMap<&'a str, u32>, AllocError>
-    requires { length labels.now ≤ 32768 }
+    requires { length labels.now ≤ most_labels }
     ensures { IfOk result (λ places. FindsPlaces labels.now places) }
 {
     let mut places = BTreeMap::new(alloc);

@@ -1,5 +1,5 @@
 -- Where the hulls of labels meet one another and a window.
-use Rattle.std.proofs.Common.{◌≡◌, ap, subst, lit<, ℕ, suc, ◌+◌, ◌*◌, ◌^◌, ◌<◌, ◌≤◌, arith, List, length, slice_index_or, ℤ, pos, negsuc, ◌+ℤ◌, ◌-ℤ◌, ◌*ℤ◌, ◌<ℤ◌, ◌≤ℤ◌}
+use Rattle.std.proofs.Common.{◌≡◌, refl, sym, ap, subst, lit<, ℕ, suc, ◌+◌, ◌*◌, ◌^◌, ◌<◌, ◌≤◌, arith, List, length, slice_index_or, ℤ, pos, negsuc, ◌+ℤ◌, ◌-ℤ◌, ◌*ℤ◌, ◌<ℤ◌, ◌≤ℤ◌}
 use Rattle.std.specs.Prelude.{All}
 use Rattle.std.specs.Int.{int_div_euclid, int_max}
 use Rattle.std.proofs.lemmas.Int.{ints, clamps, by_lt_z}
@@ -14,11 +14,11 @@ use Rattle.ml_cone.specs.Plane.{IsBelow, SidesMeet, SideInWindow, edge}
 use Rattle.ml_cone.specs.Shown.{BoxInView, IsInView}
 use Rattle.ml_cone.specs.declared.view.View.{View}
 use Rattle.ml_cone.specs.Cells.{cell_side, cell_at, SideInColumns, IsAmongCells}
-use Rattle.ml_cone.specs.Cell.{SharedCell, BoundCell, SeenCell, ColumnInWindow}
+use Rattle.ml_cone.specs.Cell.{SharedCell, BoundCell, SeenCell, ColumnInWindow, IsLastBand}
 use Rattle.ml_cone.specs.Hull.{reach_of, hull_of, BoxInCells, HoldLabel, Holds, IsStretch}
 use Rattle.ml_cone.specs.Overlap.{widened, BoxesOverlap, Overlap}
 use Rattle.ml_cone.specs.Rivals.{AreRivals}
-use Rattle.ml_cone.specs.Outline.{RivalBand, BoundBand}
+use Rattle.ml_cone.specs.Outline.{RivalBand, BoundBand, LastCell}
 use Rattle.ml_cone.specs.Choice.{IsEnd, CoversFrom}
 use Rattle.std.proofs.Common.{inl, inr}
 use Rattle.std.proofs.lemmas.Bool.{cases_lt}
@@ -156,22 +156,80 @@ cells_of_overlap a b k s below any =
     let y = shared_column _ _ _ _ ta.0 tb.0 ys.0 ys.1 in
     (x.0, y.0, (x.1, x.2, y.1, y.2), (x.3, x.4, y.3, y.4))
 
--- rivals share a cell
-pub rivals_share : (a b : Label) → AreRivals a b → SharedCell a b
+-- each label has a last band
+last_band : (a : Label) → (k : ℕ) × IsLastBand a k
+last_band a = elim (cases_lt a.max.num (2 ^ 28 * a.max.den)) [
+  | inl less ↦
+      let band = has_band (value_of a.max) 27 (omega arith) in
+      let k_in = band.1 in
+      (band.0, record { low = omega arith; reaches = band.2.from; ends = λ h. band.2.below })
+  | inr more ↦ (27, record { low = omega arith; reaches = λ p. omega arith; ends = λ h. absurd (omega arith) })
+]
+
+-- a scale below the maximum is below the upper end of the last band
+below_last : (a : Label) (k : ℕ) (s : Fraction) → IsLastBand a k → IsLess s (value_of a.max) → s.num < 2 ^ (k + 1) * s.den
+unfolding whole
+below_last a k s last below = elim (cases_lt k 27) [
+  | inl less ↦
+      let top : IsLess (value_of a.max) (whole (2 ^ (k + 1))) = (let h = last.ends less in omega arith) in
+      let h : IsLess s (whole (2 ^ (k + 1))) = less_trans s (value_of a.max) (whole (2 ^ (k + 1))) below top in
+      omega arith
+  | inr more ↦
+      let k_in = last.low in
+      let e : k ≡ 27 = omega arith in
+      let top : IsAtMost (value_of a.max) (whole (2 ^ 28)) = (let h = a.low_max in omega arith) in
+      let h : IsLess s (whole (2 ^ 28)) = less_at_most s (value_of a.max) (whole (2 ^ 28)) below top in
+      rw e (omega arith)
+]
+
+-- a band above some scale of the range begins within it
+begins_below : (a : Label) (k : ℕ) (s : Fraction) → IsAtMost (value_of a.min) s → s.num < 2 ^ (k + 1) * s.den → a.min.num < 2 ^ (k + 1) * a.min.den
+unfolding whole
+begins_below a k s from below =
+    let top : IsLess s (whole (2 ^ (k + 1))) = omega arith in
+    let h : IsLess (value_of a.min) (whole (2 ^ (k + 1))) = at_most_less (value_of a.min) s (whole (2 ^ (k + 1))) from top in
+    omega arith
+
+-- the last band of a label reaches into the range of one that ends no earlier
+reaches_later : (a b : Label) (k : ℕ) → IsLastBand a k → IsAtMost (value_of a.max) (value_of b.max) → 0 < k → 2 ^ k * b.max.den ≤ b.max.num
+unfolding whole
+reaches_later a b k last le some =
+    let first : IsAtMost (whole (2 ^ k)) (value_of a.max) = (let h = last.reaches some in omega arith) in
+    let h : IsAtMost (whole (2 ^ k)) (value_of b.max) = at_most_trans (whole (2 ^ k)) (value_of a.max) (value_of b.max) first le in
+    omega arith
+
+-- labels that overlap at a scale of both ranges share a cell in each band from that scale on that reaches into both
+shared_from : (a b : Label) (k : ℕ) (s : Fraction) → k < 28 → s.num < 2 ^ (k + 1) * s.den → IsAtMost (value_of a.min) s → IsAtMost (value_of b.min) s →
+    (0 < k → 2 ^ k * a.max.den ≤ a.max.num) → (0 < k → 2 ^ k * b.max.den ≤ b.max.num) → Overlap a b s → (cell : SharedCell a b) × (cell.band ≡ k)
+shared_from a b k s low below from_a from_b reaches_a reaches_b over =
+    let cell = cells_of_overlap a b k s below over in (
+      record {
+        band = k;
+        x = cell.0;
+        y = cell.1;
+        first = record { low = low; meets = record { begins = begins_below a k s from_a below; reaches = reaches_a }; among = cell.2 };
+        second = record { low = low; meets = record { begins = begins_below b k s from_b below; reaches = reaches_b }; among = cell.3 };
+      },
+      refl,
+    )
+
+-- rivals share a cell in the last band of one of them
+pub rivals_share : (a b : Label) → AreRivals a b → LastCell a b
 unfolding AreRivals
 rivals_share a b rivals =
     let s = rivals.0 in
-    let band = scale_band a s rivals.2.1 in
-    let k = band.0 in
-    let cell = cells_of_overlap a b k s band.2.below rivals.4 in
-    let low : k < 28 = (let h = band.1 in omega arith) in
-    record {
-      band = k;
-      x = cell.0;
-      y = cell.1;
-      first = record { low = low; meets = meets_here a s k rivals.2.0 (less_is_at_most s (value_of a.max) rivals.2.1) band.2; among = cell.2 };
-      second = record { low = low; meets = meets_here b s k rivals.3.0 (less_is_at_most s (value_of b.max) rivals.3.1) band.2; among = cell.3 };
-    }
+    elim (cases_lt (b.max.num * a.max.den) (a.max.num * b.max.den)) [
+      | inl less ↦
+          let last = last_band b in
+          let le : IsAtMost (value_of b.max) (value_of a.max) = omega arith in
+          let it = shared_from a b last.0 s last.1.low (below_last b last.0 s last.1 rivals.3.1) rivals.2.0 rivals.3.0 (reaches_later b a last.0 last.1 le) last.1.reaches rivals.4 in
+          record { cell = it.0; last = inr (subst (IsLastBand b) (sym it.1) last.1) }
+      | inr more ↦
+          let last = last_band a in
+          let le : IsAtMost (value_of a.max) (value_of b.max) = omega arith in
+          let it = shared_from a b last.0 s last.1.low (below_last a last.0 s last.1 rivals.2.1) rivals.2.0 rivals.3.0 last.1.reaches (reaches_later a b last.0 last.1 le) rivals.4 in
+          record { cell = it.0; last = inl (subst (IsLastBand a) (sym it.1) last.1) }
+    ]
 
 -- ---- a rival that bounds a label shares a cell with it in the band of the bound
 

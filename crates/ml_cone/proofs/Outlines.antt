@@ -1,6 +1,7 @@
 -- Where the anchors of labels lie that a label overlaps in a band.
-use Rattle.std.proofs.Common.{◌≡◌, ap, ℕ, ◌+◌, ◌*◌, ◌^◌, ◌<◌, ◌≤◌, arith, ℤ, pos, negsuc, ◌+ℤ◌, ◌-ℤ◌, ◌*ℤ◌, ◌<ℤ◌, ◌≤ℤ◌, lit<}
+use Rattle.std.proofs.Common.{◌≡◌, ap, inl, inr, ℕ, ◌+◌, ◌*◌, ◌^◌, ◌<◌, ◌≤◌, arith, ℤ, pos, negsuc, ◌+ℤ◌, ◌-ℤ◌, ◌*ℤ◌, ◌<ℤ◌, ◌≤ℤ◌, lit<}
 use Rattle.std.specs.Int.{int_div_euclid}
+use Rattle.std.proofs.lemmas.Bool.{cases_lt}
 use Rattle.std.proofs.lemmas.Int.{ints, by_lt_z}
 use Rattle.std.proofs.lemmas.Nat.{mul-le, pow-add}
 use Rattle.std.proofs.Math.Nat.{pow-le-pow_right}
@@ -12,6 +13,7 @@ use Rattle.ml_cone.specs.Cells.{cell_side, column_of, cell_at}
 use Rattle.ml_cone.specs.Hull.{Holds, IsStretch, IsExtent, area_of, join, reach_of, hull_of}
 use Rattle.ml_cone.specs.Overlap.{widened, BoxesOverlap, Overlap}
 use Rattle.ml_cone.specs.Outline.{OverlapIn, IsWithin, IsKeptAmong}
+use Rattle.ml_cone.specs.Cell.{IsLastBand}
 use Rattle.ml_cone.specs.declared.cells.Cells.{Cells}
 use Rattle.ml_cone.specs.declared.label.BoxPx.{BoxPx}
 use Rattle.ml_cone.specs.declared.label.Label.{Label}
@@ -198,3 +200,22 @@ finer_few (pos u) n k j le narrow =
     let g : u * 2 ^ (j + (n + 1)) ≡ u * (2 ^ j * 2 ^ (n + 1)) = ap (λ (t : ℕ). u * t) e in
     omega (arith, ints)
 finer_few (negsuc u) n k j le narrow = let m = scaled_le (negsuc u) (pos 0) (2 ^ (k + 1)) (omega (arith, ints)) in omega (arith, ints)
+
+-- the exponent of the greatest power of two up to a quotient is one
+power_once : (j k n d : ℕ) → j < k → n < 2 ^ (j + 1) * d → 2 ^ k * d ≤ n → ⊥
+power_once j k n d less below from =
+    let p : 2 ^ (j + 1) ≤ 2 ^ k = pow-le-pow_right (omega arith) (omega arith) in
+    let m = mul-le (2 ^ (j + 1)) d (2 ^ k) d p (omega arith) in
+    omega arith
+
+-- a label has one last band
+pub one_last : (a : Label) (j k : ℕ) → IsLastBand a j → IsLastBand a k → j ≡ k
+one_last a j k one other =
+    elim (cases_lt j k) [
+      | inl less ↦ absurd (let low = other.low in power_once j k a.max.num a.max.den less (one.ends (omega arith)) (other.reaches (omega arith)))
+      | inr more ↦
+          elim (cases_lt k j) [
+            | inl less ↦ absurd (let low = one.low in power_once k j a.max.num a.max.den less (other.ends (omega arith)) (one.reaches (omega arith)))
+            | inr same ↦ omega arith
+          ]
+    ]

@@ -1,4 +1,4 @@
-use Rattle.std.specs.Prelude.{ℕ, ◌*◌, ◌<◌, ℤ, pos, ◌+ℤ◌, ◌-ℤ◌, ◌*ℤ◌, ◌<ℤ◌}
+use Rattle.std.specs.Prelude.{ℕ, ◌+◌, ◌*◌, ◌^◌, ◌<◌, ◌≤◌, ℤ, pos, ◌+ℤ◌, ◌-ℤ◌, ◌*ℤ◌, ◌<ℤ◌}
 use Rattle.ml_ratio.specs.Fraction.{Fraction, value_of}
 use Rattle.ml_ratio.specs.Band.{IsInBand, MeetsBand}
 use Rattle.ml_cone.specs.Cells.{cell_side, IsAmongCells}
@@ -11,6 +11,12 @@ pub record IsInCell (a : Label) (k : ℕ) (x y : ℤ) : Type 0 where
   pub low : k < 28
   pub meets : MeetsBand k (value_of a.min) (value_of a.max)
   pub among : IsAmongCells (hull_of a k) x y
+
+-- band k is the last one that the label's selectable range reaches into; what lies above all bands counts to the last
+pub record IsLastBand (a : Label) (k : ℕ) : Type 0 where
+  pub low : k < 28
+  pub reaches : 0 < k → 2 ^ k * a.max.den ≤ a.max.num
+  pub ends : k < 27 → a.max.num < 2 ^ (k + 1) * a.max.den
 
 -- a cell that both labels are kept in
 pub record SharedCell (a b : Label) : Type 0 where

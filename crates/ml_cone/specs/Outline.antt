@@ -1,9 +1,9 @@
 -- The outline of labels: what tells where another label must be searched for them.
-use Rattle.std.specs.Prelude.{ℕ, ◌+◌, ◌*◌, ◌^◌, ◌<◌, ◌≤◌, ℤ, pos, ◌*ℤ◌, ◌≤ℤ◌}
+use Rattle.std.specs.Prelude.{ℕ, ◌+◌, ◌*◌, ◌^◌, ◌<◌, ◌≤◌, ◌⊎◌, ℤ, pos, ◌*ℤ◌, ◌≤ℤ◌}
 use Rattle.ml_ratio.specs.Fraction.{Fraction, value_of, IsAtMost}
 use Rattle.ml_ratio.specs.Band.{IsInBand, MeetsBand}
 use Rattle.ml_cone.specs.Overlap.{Overlap}
-use Rattle.ml_cone.specs.Cell.{IsInCell}
+use Rattle.ml_cone.specs.Cell.{IsInCell, SharedCell, IsLastBand}
 use Rattle.ml_cone.specs.Cells.{IsAmongCells, cell_side}
 use Rattle.ml_cone.specs.Hull.{Holds, reach_of}
 use Rattle.ml_cone.specs.declared.cells.Cells.{Cells}
@@ -19,6 +19,11 @@ pub record OverlapIn (a b : Label) (k : ℕ) : Type 0 where
   pub lasts : IsAtMost scale (value_of b.max)
   pub over : Overlap a b scale
 
+-- a cell that both labels are kept in, in the last band of one of them
+pub record LastCell (a b : Label) : Type 0 where
+  pub cell : SharedCell a b
+  pub last : IsLastBand a cell.band ⊎ IsLastBand b cell.band
+
 -- a band in which the two labels overlap, and that meets both selectable ranges
 pub record RivalBand (a b : Label) : Type 0 where
   pub band : ℕ
@@ -33,10 +38,11 @@ pub record BoundBand (a b : Label) (f : Fraction) : Type 0 where
   pub first : MeetsBand band (value_of a.min) (value_of a.max)
   pub over : OverlapIn a b band
 
--- the label is within the outline: this reaches as far as the label to each side, and the label's minimum is below the upper end of the outline's band
+-- the label is within the outline: this reaches as far as the label to each side, the label's minimum is below the upper end of the band in which all have begun, and its range ends in no band before the first one in which any does
 pub record IsWithin (o : Outline) (a : Label) : Type 0 where
   pub reach : Holds o.reach (reach_of a)
   pub begins : a.min.num < 2 ^ (o.low + 1) * a.min.den
+  pub ends : (k : ℕ) → IsLastBand a k → o.first_end ≤ k
 
 -- the label is kept in one of the cells
 pub record IsKeptAmong (cells : Cells) (a : Label) : Type 0 where

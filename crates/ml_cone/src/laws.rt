@@ -5,9 +5,9 @@ ghost use Rattle.ml_ratio.specs.Fraction.{Fraction, IsLess, IsAtMost, value_of};
 ghost use Rattle.ml_ratio.specs.Band.{IsInBand};
 ghost use Rattle.ml_cone.specs.Choice.{ActiveUntil, IsEnd, CoversFrom};
 ghost use Rattle.ml_cone.specs.Hull.{hull_of, reach_of, HoldLabel, AreFew, IsLeastReach};
-ghost use Rattle.ml_cone.specs.Cell.{SharedCell, BoundCell, SeenCell};
+ghost use Rattle.ml_cone.specs.Cell.{BoundCell, SeenCell};
 ghost use Rattle.ml_cone.specs.Rivals.{AreRivals};
-ghost use Rattle.ml_cone.specs.Outline.{RivalBand, BoundBand};
+ghost use Rattle.ml_cone.specs.Outline.{RivalBand, BoundBand, LastCell};
 ghost use Rattle.ml_cone.specs.Overlap.{Overlap};
 ghost use Rattle.ml_cone.specs.Near.{ExtentsOverlap};
 ghost use Rattle.ml_cone.specs.Shown.{IsInView};
@@ -39,10 +39,10 @@ pub fn hulls_are_few()
         AreFew (hull_of label k).x0 (hull_of label k).x1 × AreFew (hull_of label k).y0 (hull_of label k).y1 }
 {}
 
-/// Two labels that overlap at a scale in both selectable ranges share a cell, in a band that meets both
-/// ranges.
+/// Two labels that overlap at a scale in both selectable ranges share a cell in a band that meets both
+/// ranges, and is the last band of one of them.
 pub fn rivals_share()
-    ensures { (a b : Label) → AreRivals a b → SharedCell a b }
+    ensures { (a b : Label) → AreRivals a b → LastCell a b }
 {}
 
 /// A label that bounds another at an end shares a cell with it in the band of that end.

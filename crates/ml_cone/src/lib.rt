@@ -34,7 +34,7 @@ pub use cells::Cells;
 pub use label::{BoxPx, Label};
 pub use margin::widened;
 pub use order::Order;
-pub use outline::Outline;
+pub use outline::{Outline, last_band};
 pub use overlap::overlaps;
 pub use reach::hull;
 pub use same::{are_alike, same_labels, same_spans};

@@ -7,19 +7,28 @@
 ghost use Rattle.std.specs.Prelude.{◌≡◌, ◌+◌, ◌^◌, ◌≤◌, ◌*ℤ◌, ◌-ℤ◌, ◌≤ℤ◌, pos, IfSome};
 ghost use Rattle.ml_cone.specs.Hull.{no_reach, area_of, AreFew, IsExtent};
 ghost use Rattle.ml_cone.specs.Cells.{column_of};
+ghost use Rattle.ml_cone.specs.Cell.{IsLastBand};
 ghost use Rattle.ml_cone.specs.Plane.{IsReach};
 
 use crate::cells::Cells;
 use crate::label::{BoxPx, Label};
 use crate::reach::{column, extent, hull, joined};
 
-/// How far labels reach from their anchors at most, to each side, and the band in whose scales all of
-/// them have begun.
+/// How far labels reach from their anchors at most, to each side, the band in whose scales all of them
+/// have begun, and the first band in which one of their ranges ends.
 #[derive(Clone, Copy, Debug)]
 pub struct Outline {
     reach: BoxPx,
     low: u8,
+    first_end: u8,
     ghost extent: { IsExtent reach },
+}
+
+/// The last band that the label's selectable range reaches into, at most 27.
+pub fn last_band(label: &Label) -> u8
+    ensures { IsLastBand label.now result }
+{
+    label.max.band().min(27)
 }
 
 // How many bands below its own a side of so many pixels is searched for in; none where it is too wide.
@@ -94,6 +103,7 @@ impl Outline {
     pub fn none() -> Outline
         ensures reach { result.reach ≡ no_reach }
         ensures low { result.low ≡ 0 }
+        ensures first_end { result.first_end ≡ 27 }
     {
         Outline {
             reach: BoxPx {
@@ -103,6 +113,7 @@ impl Outline {
                 t: 0,
             },
             low: 0,
+            first_end: 27,
         }
     }
 
@@ -114,7 +125,16 @@ impl Outline {
         Outline {
             reach: joined(&self.reach, &extent(label)),
             low: self.low.max(label.min.band()),
+            first_end: self.first_end.min(last_band(label)),
         }
+    }
+
+    /// The first band in which the selectable range of a label ends; the last band of all where there is
+    /// none.
+    pub fn first_end(&self) -> u8
+        ensures { result ≡ self.now.first_end }
+    {
+        self.first_end
     }
 
     // The band whose cells are searched for a side of so many pixels, where that is finer than `band`.

@@ -6,10 +6,10 @@ use Rattle.ml_cone.specs.Choice.{IsEnd, IsLimit}
 use Rattle.ml_cone.specs.Slots.{Rival, RivalAllows, IsFirstAt, IsOwnSlot}
 use Rattle.ml_cone.specs.declared.label.Label.{Label}
 use Rattle.ml_cone.specs.declared.slot.Slot.{Slot}
-use Rattle.ml_conflict.specs.Carried.{IsFree, AreAlike, AreCarried, AreJoined}
+use Rattle.ml_conflict.specs.Carried.{SetsNoLimit, AreSameRival, AreCarried, AreJoined}
 use Rattle.ml_conflict.proofs.Greedy.{Allows-smaller}
 
-pub alike_of : (r s : Rival) → r ≡ s → AreAlike r s
+pub alike_of : (r s : Rival) → r ≡ s → AreSameRival r s
 alike_of r s e =
     record {
       number = ap (λ (r : Rival). r.number) e;
@@ -17,25 +17,25 @@ alike_of r s e =
       until = let n : r.until.num ≡ s.until.num = ap (λ (r : Rival). r.until.num) e in let d : r.until.den ≡ s.until.den = ap (λ (r : Rival). r.until.den) e in rw (n, d) refl;
     }
 
-pub alike_turned : (r s : Rival) → AreAlike r s → AreAlike s r
+pub alike_turned : (r s : Rival) → AreSameRival r s → AreSameRival s r
 alike_turned r s h = let u = h.until in record { number = sym h.number; label = sym h.label; until = omega arith }
 
 -- a rival that sets no limit allows every end
-free_allows : (low : Label) (r : Rival) (e : Fraction) → IsEnd low e → IsFree low r → RivalAllows low e r
+free_allows : (low : Label) (r : Rival) (e : Fraction) → IsEnd low e → SetsNoLimit low r → RivalAllows low e r
 free_allows low r e e_end free = Allows-smaller low r.label (value_of r.until) (value_of r.until) e (value_of low.max) (omega arith) e_end.1 free
 
-alike_allows : (low : Label) (r s : Rival) (e : Fraction) → AreAlike r s → RivalAllows low e s → RivalAllows low e r
+alike_allows : (low : Label) (r s : Rival) (e : Fraction) → AreSameRival r s → RivalAllows low e s → RivalAllows low e r
 alike_allows low r s e same h =
     let u = same.until in
     rw same.label (Allows-smaller low s.label (value_of s.until) (value_of r.until) e e (omega arith) (omega arith) h)
 
-free_no_limit : (low : Label) (r : Rival) (f : Fraction) → IsLess f (value_of low.max) → IsFree low r → ¬ (IsLimit low r.label (value_of r.until) f)
+free_no_limit : (low : Label) (r : Rival) (f : Fraction) → IsLess f (value_of low.max) → SetsNoLimit low r → ¬ (IsLimit low r.label (value_of r.until) f)
 free_no_limit low r f below free limit =
     let range : IsLess (value_of low.min) (value_of low.max) = low.range in
     let most : IsAtMost (value_of low.max) f = limit.greatest (value_of low.max) (omega arith, omega arith) free in
     omega arith
 
-alike_limit : (low : Label) (r s : Rival) (f : Fraction) → AreAlike r s → IsLimit low s.label (value_of s.until) f → IsLimit low r.label (value_of r.until) f
+alike_limit : (low : Label) (r s : Rival) (f : Fraction) → AreSameRival r s → IsLimit low s.label (value_of s.until) f → IsLimit low r.label (value_of r.until) f
 alike_limit low r s f same limit =
     record {
       is_end = limit.is_end;

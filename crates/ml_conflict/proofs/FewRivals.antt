@@ -8,7 +8,7 @@ use Rattle.ml_cone.specs.Slots.{Rival, RivalAllows, IsOwnSlot, IsSlotAmong, riva
 use Rattle.ml_cone.specs.declared.label.Label.{Label}
 use Rattle.ml_cone.specs.declared.slot.Slot.{Slot}
 use Rattle.ml_conflict.specs.Begin.{SetsNoneUpTo}
-use Rattle.ml_conflict.specs.Carried.{IsOrdered, AreAlike, AreCarried, AreJoined}
+use Rattle.ml_conflict.specs.Carried.{IsOrdered, AreSameRival, AreCarried, AreJoined}
 use Rattle.ml_conflict.specs.Enough.{AreEnough}
 use Rattle.ml_conflict.proofs.Greedy.{Allows-smaller}
 use Rattle.ml_conflict.proofs.Limits.{allowed_up_to}
@@ -34,20 +34,20 @@ module _ (low : Label) (rivals : ℕ → Rival) (n : ℕ) (bound : Fraction) (pl
       ]
 
   -- forth and back between the places and the rivals at them
-  forward : (k : ℕ) → k < length (map rivals places) → (j : ℕ) × (j < n) × AreAlike (rival_at low (map rivals places) k) (rivals j) × Linked k j
+  forward : (k : ℕ) → k < length (map rivals places) → (j : ℕ) × (j < n) × AreSameRival (rival_at low (map rivals places) k) (rivals j) × Linked k j
   forward k lt =
       let many = length-map places rivals in
       let h : k < length places = omega arith in
       let in' : get_or places k 0 < n = are.within k 0 h in
       (get_or places k 0, in', alike_of (rival_at low (map rivals places) k) (rivals (get_or places k 0)) (found_is k h), (h, refl))
 
-  backward : (j : ℕ) → Contains places j → (k : ℕ) × (k < length (map rivals places)) × AreAlike (rival_at low (map rivals places) k) (rivals j) × Linked k j
+  backward : (j : ℕ) → Contains places j → (k : ℕ) × (k < length (map rivals places)) × AreSameRival (rival_at low (map rivals places) k) (rivals j) × Linked k j
   backward j there =
       let k = there.0 in
       let h : k < length places = there.1 in
       let many = length-map places rivals in
       let e : get_or places k 0 ≡ j = get_or_default places k 0 j h ∙ there.2 in
-      (k, omega arith, subst (λ (p : ℕ). AreAlike (rival_at low (map rivals places) k) (rivals p)) e (alike_of (rival_at low (map rivals places) k) (rivals (get_or places k 0)) (found_is k h)), (h, e))
+      (k, omega arith, subst (λ (p : ℕ). AreSameRival (rival_at low (map rivals places) k) (rivals p)) e (alike_of (rival_at low (map rivals places) k) (rivals (get_or places k 0)) (found_is k h)), (h, e))
 
   allowed_there : (j : ℕ) → Contains places j → RivalAllows low (value_of slot.until) (rivals j)
   allowed_there j there =

@@ -1,9 +1,10 @@
 -- What the rules accept, the features allow.
 use Rattle.std.proofs.Common.{◌≡◌, ℕ, ◌<◌, ◌≤◌, List, Option, length, subst, sym, ◌∙◌, arith}
+use Rattle.ml_ratio.specs.Limits.{most_labels}
 use Rattle.ml_ratio.specs.declared.feature.Feature.{Feature}
 use Rattle.ml_geojson.specs.Map.{IsFeature, IsSameFeature}
 use Rattle.ml_editor.specs.Faults.{IsAdding, IsAddition, IsReplacing, IsReplacement, IsRemoval, IsRestyle, IsRestyling}
-use Rattle.ml_editor.specs.State.{State, IsState, HasFeature, most_features, step}
+use Rattle.ml_editor.specs.State.{State, IsState, HasFeature, step}
 use Rattle.ml_editor.specs.declared.edit.Edit.{Edit}
 use Rattle.ml_editor.specs.declared.edit.Edit.TheVariants.{Add, Replace, Remove, Restyle}
 use Rattle.ml_editor.proofs.States.{reached}
@@ -17,8 +18,8 @@ module _ (one_feature : (bytes : List ℕ) (one other : Feature) → IsFeature b
   added (Add f) is good makes =
       let P : List ℕ → Type 0 = λ id. HasFeature s.features id in
       let same = its_id f good.is_new.0 makes good.is_new.1.1 in
-      let few : length s.features ≤ most_features = is.few in
-      let some : length s.features ≡ most_features → ⊥ = good.not_full in
+      let few : length s.features ≤ most_labels = is.few in
+      let some : length s.features ≡ most_labels → ⊥ = good.not_full in
       reached s (Add f) is (λ there. good.is_new.2 (subst P (sym same) there), omega arith) good.not_last
   added (Replace f) is good makes = absurd makes
   added (Remove id) is good makes = absurd makes

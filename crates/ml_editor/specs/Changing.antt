@@ -9,14 +9,14 @@ use Rattle.ml_repair.specs.Changes.{Ranged, IsChange}
 use Rattle.ml_repair.specs.Stays.{IsJoinedBy}
 use Rattle.ml_watch.specs.ById.{HaveOwnIds}
 use Rattle.ml_editor.specs.State.{HasFeature}
-use Rattle.ml_editor.specs.declared.changes.Held.{Held}
+use Rattle.ml_editor.specs.declared.changes.RangedLabel.{RangedLabel}
 
 -- a label that is held, with its active range
-abbrev pub ranged_of : Held → Ranged
+abbrev pub ranged_of : RangedLabel → Ranged
 ranged_of held = record { label = held.label.now; span = held.span }
 
 -- the same, if there is one
-abbrev pub ranged : Option Held → Option Ranged
+abbrev pub ranged : Option RangedLabel → Option Ranged
 ranged held = option_map ranged_of held
 
 -- the change of an id between the labels of two engines

@@ -1,5 +1,6 @@
 -- Why an edit is refused: of these the first that holds, in this order: RevMoved, Geo, Style, Duplicate, Unknown, Full, RevEnd.
 use Rattle.std.specs.Prelude.{◌≡◌, ◌≢◌, ℕ, List, length, Option, Some, None}
+use Rattle.ml_ratio.specs.Limits.{most_labels}
 use Rattle.ml_ratio.specs.declared.feature.Feature.{Feature}
 use Rattle.ml_geojson.specs.Map.{IsFeature, IsFeatureFault}
 use Rattle.ml_geojson.specs.declared.fault.GeoFault.{GeoFault}
@@ -9,7 +10,7 @@ use Rattle.ml_style.specs.StyleTable.{IsStyle}
 use Rattle.ml_style.specs.declared.fault.StyleFault.{StyleFault}
 use Rattle.ml_style.specs.declared.fault.StyleFault.TheVariants as styles
 use Rattle.ml_style.specs.declared.style.Style.{Style}
-use Rattle.ml_editor.specs.State.{State, HasFeature, most_features, last_rev}
+use Rattle.ml_editor.specs.State.{State, HasFeature, last_rev}
 use Rattle.ml_editor.specs.declared.edit.Edit.{Edit}
 use Rattle.ml_editor.specs.declared.edit.Edit.TheVariants.{Add, Replace, Restyle}
 use Rattle.ml_editor.specs.declared.fault.EditFault.{EditFault}
@@ -67,7 +68,7 @@ IsKnown s rev body = (id : List ℕ) × IsTaken s rev body id
 
 -- there is no room for one more
 abbrev pub IsFull : State → Type 0
-IsFull s = length s.features ≡ most_features
+IsFull s = length s.features ≡ most_labels
 
 -- there is no further revision
 abbrev pub IsLast : State → Type 0

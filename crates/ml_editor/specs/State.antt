@@ -1,6 +1,7 @@
 -- A map that is edited, and what an edit makes of it.
 use Rattle.std.specs.Prelude.{◌≡◌, ℕ, ◌+◌, ◌^◌, ◌<◌, ◌≤◌, not, List, [], ◌∷◌, ◌++◌, length, map, filter, Contains, if◌then◌else◌}
 use Rattle.std.specs.Str.{bytes_eq}
+use Rattle.ml_ratio.specs.Limits.{most_labels}
 use Rattle.ml_ratio.specs.declared.feature.Feature.{Feature}
 use Rattle.ml_geojson.specs.Map.{HaveDifferentIds}
 use Rattle.ml_style.specs.declared.style.Style.{Style}
@@ -12,10 +13,6 @@ pub record State : Type 0 where
   pub style : Style
   pub features : List Feature
   pub rev : ℕ
-
--- a map has at most so many features
-abbrev pub most_features : ℕ
-most_features = 32768
 
 -- the last revision
 abbrev pub last_rev : ℕ
@@ -53,7 +50,7 @@ first_state style features = record { style = style; features = features; rev = 
 
 -- the features allow the edit: what comes is new and one of so many, and what is replaced or goes is there
 abbrev pub IsAllowed : List Feature → Edit → Type 0
-IsAllowed features (Add f) = ¬ (HasFeature features f.id) × (length features < most_features)
+IsAllowed features (Add f) = ¬ (HasFeature features f.id) × (length features < most_labels)
 IsAllowed features (Replace f) = HasFeature features f.id
 IsAllowed features (Remove id) = HasFeature features id
 IsAllowed features (Restyle style) = Unit {0}
@@ -61,5 +58,5 @@ IsAllowed features (Restyle style) = Unit {0}
 -- what holds of each state that can be reached
 pub record IsState (s : State) : Type 0 where
   pub own_ids : HaveDifferentIds s.features
-  pub few : length s.features ≤ most_features
+  pub few : length s.features ≤ most_labels
   pub revision : s.rev ≤ last_rev

@@ -17,13 +17,13 @@ use std::alloc::{AllocError, Global};
 
 /// A label of an engine with its active range.
 #[derive(Drop)]
-pub struct Held<'a> {
+pub struct RangedLabel<'a> {
     pub label: &'a Label,
     pub span: Span,
 }
 
 // The label with this id, with its active range; none where no label has it.
-fn held_by<'a>(engine: &'a Engine, id: &Text) -> Option<Held<'a>>
+fn held_by<'a>(engine: &'a Engine, id: &Text) -> Option<RangedLabel<'a>>
     ensures { IsStateOf (labels_in engine.now.rows) (slots_in engine.now.rows) id.now (ranged result) }
 {
     let number = engine.number_of(id)?;
@@ -32,18 +32,18 @@ fn held_by<'a>(engine: &'a Engine, id: &Text) -> Option<Held<'a>>
         min: label.min(),
         until: engine.slot_at(number).until,
     };
-    Some(Held { label, span })
+    Some(RangedLabel { label, span })
 }
 
 // Whether both are the same label with the same active range.
-fn same_label(one: &Held<'_>, other: &Held<'_>) -> bool
+fn same_label(one: &RangedLabel<'_>, other: &RangedLabel<'_>) -> bool
     ensures { MatchBool result (ranged_of one.now ≡ ranged_of other.now) (¬ (ranged_of one.now ≡ ranged_of other.now)) }
 {
     same_spans(one.span, other.span) && same_labels(one.label, other.label)
 }
 
 // Whether both are none, or the same label with the same active range.
-fn same_held(one: &Option<Held<'_>>, other: &Option<Held<'_>>) -> bool
+fn same_held(one: &Option<RangedLabel<'_>>, other: &Option<RangedLabel<'_>>) -> bool
     ensures { MatchBool result (ranged one.now ≡ ranged other.now) (¬ (ranged one.now ≡ ranged other.now)) }
 {
     match (one, other) {
@@ -54,7 +54,7 @@ fn same_held(one: &Option<Held<'_>>, other: &Option<Held<'_>>) -> bool
 }
 
 // The active range of what is held.
-fn span_of(held: &Option<Held<'_>>) -> Option<Span>
+fn span_of(held: &Option<RangedLabel<'_>>) -> Option<Span>
     ensures { result ≡ option_map (λ one. one.span) (ranged held.now) }
 {
     match held {

@@ -7,10 +7,10 @@ ghost use Rattle.ml_editor.specs.declared.edit.Edit.TheVariants.{Add as add_edit
 ghost use Rattle.ml_editor.specs.Editing.{IsEditing};
 ghost use Rattle.ml_editor.specs.Faults.{HasMoved, IsPresent, IsFull, IsLast, IsAddition, IsAddFault, IsReplacement, IsReplaceFault, IsRemoval, IsRemoveFault, IsRestyle, IsStyleFault, IsBodyFault, IsStyleBodyFault};
 
-use crate::editor::{Editor, MOST_FEATURES};
+use crate::editor::Editor;
 use crate::fault::EditFault;
 use ml_geojson::{GeoFault, read_feature};
-use ml_ratio::{Feature, Text};
+use ml_ratio::{Feature, MOST_LABELS, Text};
 use ml_style::{Style, StyleFault, read_style};
 use std::alloc::Global;
 
@@ -18,7 +18,7 @@ use std::alloc::Global;
 pub const LAST_REV: u64 = 9007199254740992;
 
 // The feature that the body is, with its id.
-fn read_body(alloc: Global, body: &[u8]) -> Result<Feature, EditFault>
+fn read_feature_body(alloc: Global, body: &[u8]) -> Result<Feature, EditFault>
     ensures ok { IfOk result (IsFeature body.now) }
     ensures err { IfErr result (IsBodyFault body.now) }
 {
@@ -72,7 +72,7 @@ impl Editor {
         ensures full { MatchBool result (IsFull self.now.state) (¬ (IsFull self.now.state)) }
         ensures holds { IsEditing self.now }
     {
-        self.features.len() == MOST_FEATURES
+        self.features.len() == MOST_LABELS
     }
 
     // Whether there is no further revision.
@@ -96,7 +96,7 @@ impl Editor {
         ensures err { IfErr result (IsAddFault self.now.state rev body.now) }
     {
         self.check_rev(rev)?;
-        let feature = read_body(alloc, body)?;
+        let feature = read_feature_body(alloc, body)?;
         if self.has_feature(&feature.id) {
             return Err(EditFault::Duplicate(feature.id.copy()?));
         }
@@ -122,7 +122,7 @@ impl Editor {
         ensures err { IfErr result (IsReplaceFault self.now.state rev body.now) }
     {
         self.check_rev(rev)?;
-        let feature = read_body(alloc, body)?;
+        let feature = read_feature_body(alloc, body)?;
         if !self.has_feature(&feature.id) {
             return Err(EditFault::Unknown(feature.id.copy()?));
         }

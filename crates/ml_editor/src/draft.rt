@@ -1,5 +1,6 @@
 //! What is drawn up for an edit.
 ghost use Rattle.std.specs.Prelude.{◌≡◌, ◌+◌, ◌<◌, length, IfOk, IfSome, IsSome};
+ghost use Rattle.ml_ratio.specs.Limits.{most_labels};
 ghost use Rattle.ml_store.specs.Rows.{labels_in, HasId};
 ghost use Rattle.ml_repair.specs.Settled.{IsSettled};
 ghost use Rattle.ml_editor.specs.Editing.{IsDraft, IsWorkFor, evaluated_of};
@@ -40,7 +41,7 @@ fn plan_for<L: Ledger>(
     steps: &mut Steps<L>,
 ) -> Result<Work, AllocError>
     requires id { IfSome come (λ label. label.order.id ≡ id.now) }
-    requires few { IsSome come → ¬ (HasId (labels_in engine.now.rows) id.now) → length engine.now.rows < 32768 }
+    requires few { IsSome come → ¬ (HasId (labels_in engine.now.rows) id.now) → length engine.now.rows < most_labels }
     requires settled { IsSettled engine.now.rows }
     ensures work { IfOk result (λ work. IsWorkFor work engine.now.rows id.now come) }
     ensures spent { IfOk result (λ work. steps.new ≡ steps.old + evaluated_of work) }
@@ -64,7 +65,7 @@ pub(crate) fn draft_for<L: Ledger>(
     steps: &mut Steps<L>,
 ) -> Result<Draft, AllocError>
     requires id { IfSome come (λ label. label.order.id ≡ id.now) }
-    requires few { IsSome come → ¬ (HasId (labels_in engine.now.rows) id.now) → length engine.now.rows < 32768 }
+    requires few { IsSome come → ¬ (HasId (labels_in engine.now.rows) id.now) → length engine.now.rows < most_labels }
     requires settled { IsSettled engine.now.rows }
     ensures draft { IfOk result (λ draft. IsDraft draft engine.now.rows id.now come) }
     ensures spent { IfOk result (λ draft. steps.new ≡ steps.old + evaluated_of draft.work) }

@@ -1,5 +1,6 @@
 //! A map that is edited.
 ghost use Rattle.std.specs.Prelude.{◌≡◌, ◌+◌, ◌<◌, ◌≤◌, length, All, IfOk, IfErr, OnOk, IfSome, MatchOption, ℕ, Contains};
+ghost use Rattle.ml_ratio.specs.Limits.{most_labels};
 ghost use Rattle.ml_ratio.specs.Refusal.{RefusesExactly};
 ghost use Rattle.ml_geojson.specs.Map.{HaveDifferentIds, IsMap};
 ghost use Rattle.ml_geojson.specs.Text.{collection_text};
@@ -17,15 +18,12 @@ use crate::standing::Standing;
 use ml_cone::{Label, Slot, View};
 use ml_geojson::write_collection;
 use ml_label::{labels_of, reason_of};
-use ml_ratio::{Feature, Seq, Steps, Text};
+use ml_ratio::{Feature, MOST_LABELS, Seq, Steps, Text};
 use ml_repair::Engine;
 use ml_style::Style;
 use std::alloc::{AllocError, Global};
 use std::marker::Model;
 use std::sync::ledger::Ledger;
-
-/// A map has at most so many features.
-pub const MOST_FEATURES: usize = 32768;
 
 /// A map that is edited: a style, at most 32,768 features in order, and their labels with the longest
 /// active ranges in priority order. The revision counts the edits that were carried out.
@@ -62,7 +60,7 @@ impl Editor {
         requires differ { HaveDifferentIds features }
         ensures ok { IfOk result (λ editor. editor.state ≡ first_state style features) }
         ensures holds { IfOk result IsEditing }
-        ensures full { RefusesExactly result LoadRefused.Full LoadRefused.Memory (MOST_FEATURES < length features) }
+        ensures full { RefusesExactly result LoadRefused.Full LoadRefused.Memory (most_labels < length features) }
     {
         Editor::load_at(alloc, style, features, 0)
     }
@@ -81,9 +79,9 @@ impl Editor {
         requires low { revision ≤ last_rev }
         ensures ok { IfOk result (λ editor. editor.state ≡ record { style = style; features = features; rev = revision }) }
         ensures holds { IfOk result IsEditing }
-        ensures full { RefusesExactly result LoadRefused.Full LoadRefused.Memory (MOST_FEATURES < length features) }
+        ensures full { RefusesExactly result LoadRefused.Full LoadRefused.Memory (most_labels < length features) }
     {
-        if features.len() > MOST_FEATURES {
+        if features.len() > MOST_LABELS {
             return Err(LoadRefused::Full);
         }
         let labels = labels_of(alloc, &style, features.as_slice())?;

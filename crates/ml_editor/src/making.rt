@@ -4,6 +4,7 @@ ghost use Rattle.ml_editor.specs.declared.edit.Edit.TheVariants.{Add as add_edit
 ghost use Rattle.ml_editor.specs.State.{HasFeature, IsAllowed};
 ghost use Rattle.ml_editor.specs.Faults.{IsLast};
 ghost use Rattle.std.specs.Prelude.{None as no_label};
+ghost use Rattle.ml_ratio.specs.Limits.{most_labels};
 ghost use Rattle.ml_editor.specs.Editing.{IsEditing, IsReady, IsKeyOf, IsSameMap, IsLabelFor, IsDraft, IsFeatureDraft, IsStyleDraft, HasRoomFor, prepared, evaluated_of};
 
 use crate::carry::{reserve_feature, reserve_work};
@@ -40,7 +41,7 @@ impl Editor {
         feature: &Feature,
         steps: &mut Steps<L>,
     ) -> Result<Draft, AllocError>
-        requires fits { HasFeature self.now.state.features feature.now.id ⊎ (length self.now.state.features < 32768) }
+        requires fits { HasFeature self.now.state.features feature.now.id ⊎ (length self.now.state.features < most_labels) }
         ensures draft { IfOk result (IsFeatureDraft self.now.state.style self.now.engine.rows feature.now) }
         ensures spent { IfOk result (λ draft. steps.new ≡ steps.old + evaluated_of draft.work) }
         ensures holds { IsEditing self.now }
@@ -80,7 +81,7 @@ impl Editor {
     }
 
     // Takes the room for the edit and for the work that is drawn up for it.
-    fn make_room(&mut self, edit: &Edit, draft: &Draft) -> Result<(), AllocError>
+    fn reserve_for(&mut self, edit: &Edit, draft: &Draft) -> Result<(), AllocError>
         requires of_state { IsReady (prepared edit.now draft.now (self.old.state.rev + 1)) self.old.state self.old.engine.rows }
         ensures ok { OnOk result (HasRoomFor (prepared edit.now draft.now (self.old.state.rev + 1)) self.new) }
         ensures same { IsSameMap self.old self.new }
@@ -97,7 +98,7 @@ impl Editor {
         ensures room { IfOk result (λ ready. HasRoomFor ready self.new) }
         ensures same { IsSameMap self.old self.new }
     {
-        self.make_room(&edit, &draft)?;
+        self.reserve_for(&edit, &draft)?;
         Ok(Ready {
             edit,
             key,
@@ -107,7 +108,7 @@ impl Editor {
     }
 
     // The addition of a new feature, made ready.
-    pub(crate) fn make_addition<L: Ledger>(
+    pub(crate) fn add_feature<L: Ledger>(
         &mut self,
         alloc: Global,
         feature: Feature,
@@ -127,7 +128,7 @@ impl Editor {
     }
 
     // The replacement of the feature with this feature's id, made ready.
-    pub(crate) fn make_replacement<L: Ledger>(
+    pub(crate) fn replace_feature<L: Ledger>(
         &mut self,
         alloc: Global,
         feature: Feature,
@@ -147,7 +148,7 @@ impl Editor {
     }
 
     // The removal of the feature with this id, made ready.
-    pub(crate) fn make_removal<L: Ledger>(
+    pub(crate) fn remove_feature<L: Ledger>(
         &mut self,
         alloc: Global,
         id: &Text,
@@ -168,7 +169,7 @@ impl Editor {
     }
 
     // The new style, made ready.
-    pub(crate) fn make_restyle(&mut self, alloc: Global, style: Style) -> Result<Ready, AllocError>
+    pub(crate) fn restyle(&mut self, alloc: Global, style: Style) -> Result<Ready, AllocError>
         requires not_last { ¬ (IsLast self.old.state) }
         ensures edit { IfOk result (λ ready. ready.edit ≡ style_edit style) }
         ensures ready { IfOk result (λ ready. IsReady ready self.new.state self.new.engine.rows) }

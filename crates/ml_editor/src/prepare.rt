@@ -48,7 +48,7 @@ impl Editor {
         one_geo_fault();
         one_feature();
         feature_or_fault();
-        self.make_add(alloc, rev, body, steps)
+        self.add_from_body(alloc, rev, body, steps)
     }
 
     /// Makes the replacement of the feature with the id of that which the body is ready, with all the
@@ -81,7 +81,7 @@ impl Editor {
         one_geo_fault();
         one_feature();
         feature_or_fault();
-        self.make_replace(alloc, rev, body, steps)
+        self.replace_from_body(alloc, rev, body, steps)
     }
 
     /// Makes the removal of the feature with this id ready, with all the memory that it takes. It spends
@@ -110,7 +110,7 @@ impl Editor {
         ensures rev_end { RefusesExactly result EditFault.RevEnd EditFault.Memory (IsRemoveFault self.old.state rev id.now EditFault.RevEnd) }
         ensures same { IsSameMap self.old self.new }
     {
-        self.make_remove(alloc, rev, id, steps)
+        self.remove_id(alloc, rev, id, steps)
     }
 
     /// Makes the style that the body is ready in place of the present one, for all features, with all
@@ -138,10 +138,10 @@ impl Editor {
     {
         one_style_fault();
         style_or_fault();
-        self.make_style(alloc, rev, body)
+        self.restyle_from_body(alloc, rev, body)
     }
     // The addition, made ready if nothing refuses it.
-    fn make_add<L: Ledger>(
+    fn add_from_body<L: Ledger>(
         &mut self,
         alloc: Global,
         rev: Option<u64>,
@@ -157,11 +157,11 @@ impl Editor {
         ensures same { IsSameMap self.old self.new }
     {
         let feature = self.check_add(alloc, rev, body)?;
-        Ok(self.make_addition(alloc, feature, steps)?)
+        Ok(self.add_feature(alloc, feature, steps)?)
     }
 
     // The replacement, made ready if nothing refuses it.
-    fn make_replace<L: Ledger>(
+    fn replace_from_body<L: Ledger>(
         &mut self,
         alloc: Global,
         rev: Option<u64>,
@@ -177,11 +177,11 @@ impl Editor {
         ensures same { IsSameMap self.old self.new }
     {
         let feature = self.check_replace(alloc, rev, body)?;
-        Ok(self.make_replacement(alloc, feature, steps)?)
+        Ok(self.replace_feature(alloc, feature, steps)?)
     }
 
     // The removal, made ready if nothing refuses it.
-    fn make_remove<L: Ledger>(
+    fn remove_id<L: Ledger>(
         &mut self,
         alloc: Global,
         rev: Option<u64>,
@@ -197,11 +197,11 @@ impl Editor {
         ensures same { IsSameMap self.old self.new }
     {
         self.check_remove(rev, id)?;
-        Ok(self.make_removal(alloc, id, steps)?)
+        Ok(self.remove_feature(alloc, id, steps)?)
     }
 
     // The new style, made ready if nothing refuses it.
-    fn make_style(
+    fn restyle_from_body(
         &mut self,
         alloc: Global,
         rev: Option<u64>,
@@ -214,6 +214,6 @@ impl Editor {
         ensures same { IsSameMap self.old self.new }
     {
         let style = self.check_style(alloc, rev, body)?;
-        Ok(self.make_restyle(alloc, style)?)
+        Ok(self.restyle(alloc, style)?)
     }
 }

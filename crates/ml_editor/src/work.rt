@@ -4,6 +4,7 @@ ghost use Rattle.ml_store.specs.Rows.{labels_in, HasId};
 ghost use Rattle.ml_repair.specs.Settled.{IsSettled};
 ghost use Rattle.ml_editor.specs.Editing.{IsWorkFor, changes_of, evaluated_of};
 ghost use Rattle.std.specs.Prelude.{Some as Coming, None as no_label};
+ghost use Rattle.ml_ratio.specs.Limits.{most_labels};
 
 use ml_cone::Label;
 use ml_ratio::{Duplicate, Seq, Steps, Text};
@@ -60,7 +61,7 @@ pub(crate) fn plan_coming<L: Ledger>(
     steps: &mut Steps<L>,
 ) -> Result<Work, AllocError>
     requires id { label.order.id ≡ id.now }
-    requires few { ¬ (HasId (labels_in engine.now.rows) id.now) → length engine.now.rows < 32768 }
+    requires few { ¬ (HasId (labels_in engine.now.rows) id.now) → length engine.now.rows < most_labels }
     ensures work { IfOk result (λ work. IsWorkFor work engine.now.rows id.now (Coming label)) }
     ensures spent { IfOk result (λ work. steps.new ≡ steps.old + evaluated_of work) }
 {

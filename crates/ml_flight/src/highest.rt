@@ -1,5 +1,6 @@
 //! The greatest number of labels that are shown at one scale.
 ghost use Rattle.std.specs.Prelude.{ℕ, ◌≡◌, ◌+◌, ◌<◌, ◌≤◌, ◌++◌, length, slice_index_or, map, All, AllPairs, OnOk, IfOk};
+ghost use Rattle.ml_ratio.specs.Limits.{most_labels};
 ghost use Rattle.ml_ratio.specs.Fraction.{IsAtMost, value_of};
 ghost use Rattle.ml_flight.specs.Stay.{AreApart, begin_of};
 ghost use Rattle.ml_flight.specs.Peak.{IsMost, IsPeak};
@@ -19,7 +20,7 @@ use std::alloc::{AllocError, Global};
 /// # Errors
 /// Want of memory.
 pub fn peak(alloc: Global, all: &Seq<Seq<Stay>>) -> Result<Peak, AllocError>
-    requires few { length all.now ≤ 32768 }
+    requires few { length all.now ≤ most_labels }
     requires apart { All AreApart all.now }
     ensures peak { IfOk result (IsPeak all.now) }
     ensures most { IfOk result (λ peak. IsMost all.now peak.count) }
@@ -68,7 +69,7 @@ fn add(marks: &mut Marks, stays: &[Stay]) -> Result<(), AllocError>
 fn highest(begins: &[Place], ends: &[Ratio]) -> Peak
     requires order { AllPairs (λ a b. IsAtMost (value_of a) (value_of b)) ends.now }
     requires ended { (k : ℕ) (d : Place) → k < length begins.now → ended ends.now (value_of (slice_index_or begins.now k d).mark) ≤ k + 1 }
-    requires few { (k : ℕ) (d : Place) → k < length begins.now → open_at begins.now ends.now k d ≤ 32768 }
+    requires few { (k : ℕ) (d : Place) → k < length begins.now → open_at begins.now ends.now k d ≤ most_labels }
     ensures { IsHighest begins.now ends.now (length begins.now) result }
 {
     let mut best = Peak {

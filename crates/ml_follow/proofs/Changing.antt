@@ -18,21 +18,21 @@ use Rattle.ml_cone.specs.declared.label.Label.{Label}
 use Rattle.ml_cone.specs.declared.slot.Slot.{Slot}
 use Rattle.ml_watch.specs.declared.change.Change.{Change}
 use Rattle.ml_watch.specs.ById.{HaveOwnIds}
-use Rattle.ml_follow.specs.Changes.{Unplaced, unplaced, Ranged, IsStanding, IsStateOf, AreChanges, IsListed, IsChangeIn, IsChangeOf, IsJoinedBy, IsTakenIn, IsTakenIfGone, HasId, AreChangesAmong}
+use Rattle.ml_follow.specs.Changes.{Unplaced, unplaced, Ranged, HasRanged, IsStateOf, AreChanges, IsListed, IsChangeIn, IsChangeOf, IsJoinedBy, IsTakenIn, IsTakenIfGone, HasId, AreChangesAmong}
 use Rattle.ml_follow.specs.declared.changes.Listed.{Listed}
 
 -- ---- the label with an id
 
 module _ (labels : List Label) (slots : List Slot) (ordered : IsLabelList labels) where
-  its_id : (id : List ℕ) (a : Ranged) → (x : IsStanding labels slots id a) → (d : Label) → (get_or labels x.place d).order.id ≡ id
+  its_id : (id : List ℕ) (a : Ranged) → (x : HasRanged labels slots id a) → (d : Label) → (get_or labels x.place d).order.id ≡ id
   its_id id a x d = ap (λ (u : Unplaced). u.id) (x.its_label d) ∙ x.its_id
 
-  not_before : (id : List ℕ) (a b : Ranged) → (x : IsStanding labels slots id a) → (y : IsStanding labels slots id b) → x.place < y.place → ⊥
+  not_before : (id : List ℕ) (a b : Ranged) → (x : HasRanged labels slots id a) → (y : HasRanged labels slots id b) → x.place < y.place → ⊥
   not_before id a b x y below =
       let d = pick labels y.place y.is_place in
       (ordered x.place y.place d below y.is_place).1 (its_id id a x d ∙ sym (its_id id b y d))
 
-  same_place : (id : List ℕ) (a b : Ranged) → (x : IsStanding labels slots id a) → (y : IsStanding labels slots id b) → x.place ≡ y.place
+  same_place : (id : List ℕ) (a b : Ranged) → (x : HasRanged labels slots id a) → (y : HasRanged labels slots id b) → x.place ≡ y.place
   same_place id a b x y = elim (cases_lt x.place y.place) [
     | inl below ↦ absurd (not_before id a b x y below)
     | inr above ↦ elim (cases_lt y.place x.place) [
@@ -44,7 +44,7 @@ module _ (labels : List Label) (slots : List Slot) (ordered : IsLabelList labels
       both : (n m : ℕ) → m ≤ n → n ≤ m → n ≡ m
       both n m p q = omega (arith, p, q)
 
-  same_standing : (id : List ℕ) (a b : Ranged) → IsStanding labels slots id a → IsStanding labels slots id b → a ≡ b
+  same_standing : (id : List ℕ) (a b : Ranged) → HasRanged labels slots id a → HasRanged labels slots id b → a ≡ b
   same_standing id a b x y =
       let d = pick labels x.place x.is_place in
       let place = same_place id a b x y in
@@ -52,7 +52,7 @@ module _ (labels : List Label) (slots : List Slot) (ordered : IsLabelList labels
       let span : a.span ≡ b.span = x.its_span ∙ (λ i. record { min = (label i).min; until = (get_or slots (place i) no_slot).until }) ∙ sym y.its_span in
       (λ i. record { label = label i; span = span i })
 
-  absent_or_there : (id : List ℕ) (a : Ranged) → IsNoId labels id → IsStanding labels slots id a → ⊥
+  absent_or_there : (id : List ℕ) (a : Ranged) → IsNoId labels id → HasRanged labels slots id a → ⊥
   absent_or_there id a absent x = absent x.place (x.is_place, its_id id a x)
 
   pub same_state : (id : List ℕ) (was is : Option Ranged) → IsStateOf labels slots id was → IsStateOf labels slots id is → was ≡ is

@@ -12,7 +12,7 @@ use Rattle.ml_cone.specs.Places.{IsNoId}
 use Rattle.ml_cone.specs.Slots.{no_slot}
 use Rattle.ml_cone.specs.declared.label.Label.{Label}
 use Rattle.ml_cone.specs.declared.slot.Slot.{Slot}
-use Rattle.ml_pass.specs.SlotsText.{IsPlaced}
+use Rattle.ml_pass.specs.SlotsText.{IsBlockerPlace}
 use Rattle.ml_follow.specs.StateLine.{ReadsRow, WritesBlocker}
 use Rattle.ml_follow.specs.States.{WriteRows, Begin, WriteState, WriteStates, WriteUpTo}
 use Rattle.ml_follow.specs.Reading.{HasIds, IsGood, IsBegun, IsLonger, IsOpened, IsWanting, IsGrown, IsClosed, IsTaken, unfinished, IsReadTo}
@@ -87,11 +87,11 @@ rows_ordered rows count labels slots w j i d less lt =
     let other = (w.written i d (omega arith)).write.its_label.class_is in
     (order_less (get_or labels j d) (get_or labels i d) (rw (one, other) less), w.differ j i d less lt)
 
-blocker_placed : (count : ℕ) (word : List ℕ) (labels : List Label) (blocker : Option ℕ) → count ≡ length labels → WritesBlocker count word blocker → IsPlaced labels blocker
+blocker_placed : (count : ℕ) (word : List ℕ) (labels : List Label) (blocker : Option ℕ) → count ≡ length labels → WritesBlocker count word blocker → IsBlockerPlace labels blocker
 blocker_placed count word labels None e h = tt
 blocker_placed count word labels (Some place) e h = subst (λ (n : ℕ). place < n) e h.1
 
-rows_placed : (rows : List (List ℕ)) (count : ℕ) (labels : List Label) (slots : List Slot) → length labels ≡ count → WriteRows rows count labels slots → All (λ slot. IsPlaced labels slot.blocker) slots
+rows_placed : (rows : List (List ℕ)) (count : ℕ) (labels : List Label) (slots : List Slot) → length labels ≡ count → WriteRows rows count labels slots → All (λ slot. IsBlockerPlace labels slot.blocker) slots
 rows_placed rows count [] slots e w k d lt = absurd (let n = w.one_label in let m = w.one_slot in omega arith)
 rows_placed rows count (a ∷ labels) slots e w k d lt =
     let m = w.one_slot in

@@ -11,7 +11,7 @@ use Rattle.ml_cone.specs.Sound.{HasGoodEnd, AllowsAt, IsCovered, IsSound}
 use Rattle.ml_cone.specs.declared.label.BoxPx.{BoxPx}
 use Rattle.ml_cone.specs.declared.label.Label.{Label}
 use Rattle.ml_cone.specs.declared.slot.Slot.{Slot}
-use Rattle.ml_follow.specs.Alike.{IsAlike, AreAlike}
+use Rattle.ml_follow.specs.Alike.{IsAlike, AreAllAlike}
 
 -- where a label stands and how far it reaches
 record Ground : Type 0 where
@@ -55,10 +55,10 @@ covers_alike a b c d u f h k cover = (
       ((subst (λ (r : Ratio). IsAtMost (value_of r) s) k.same_min x.0.0, x.0.1), overlap_alike a b c d s h k x.1),
 )
 
-all_turned : (labels others : List Label) → AreAlike labels others → AreAlike others labels
+all_turned : (labels others : List Label) → AreAllAlike labels others → AreAllAlike others labels
 all_turned labels others h = record { one_each = sym h.one_each; alike = λ i d lt. turned (get_or labels i d) (get_or others i d) (h.alike i d (let n = h.one_each in omega arith)) }
 
-module _ (labels others : List Label) (c : Choice) (h : AreAlike labels others) where
+module _ (labels others : List Label) (c : Choice) (h : AreAllAlike labels others) where
   good_alike : (i : ℕ) → i < length labels → HasGoodEnd labels c i → HasGoodEnd others c i
   good_alike i lt good d =
       let x = good d in
@@ -88,13 +88,13 @@ module _ (labels others : List Label) (c : Choice) (h : AreAlike labels others) 
     | inr block ↦ inr (block.0, block_alike i block.0 lt block.1)
   ]
 
-module _ (labels others : List Label) (c : Choice) (h : AreAlike labels others) where
+module _ (labels others : List Label) (c : Choice) (h : AreAllAlike labels others) where
   blocker_alike : (i : ℕ) (blocker : Option ℕ) → i < length labels → IsBlockerBy (λ j. j) labels c i blocker → IsBlockerBy (λ j. j) others c i blocker
   blocker_alike i None lt same = same_alike labels others c h i lt same
   blocker_alike i (Some n) lt by =
       (by.0, by.1, block_alike labels others c h i by.0 lt by.2, λ k less block. by.3 k less (block_alike others labels c (all_turned labels others h) i k (let m = h.one_each in omega arith) block))
 
-sound_alike : (labels others : List Label) (slots : List Slot) → AreAlike labels others → (i : ℕ) → i < length labels → IsSound labels slots i → IsSound others slots i
+sound_alike : (labels others : List Label) (slots : List Slot) → AreAllAlike labels others → (i : ℕ) → i < length labels → IsSound labels slots i → IsSound others slots i
 sound_alike labels others slots h i lt sound = record {
   good_end = good_alike labels others (ends slots) h i lt sound.good_end;
   free = λ j less. allow_alike labels others (ends slots) h i j lt less (sound.free j less);
@@ -106,7 +106,7 @@ sound_alike labels others slots h i lt sound = record {
 abbrev pub SoundSlots : Type 0
 SoundSlots = (labels : List Label) (slots : List Slot) → length slots ≡ length labels → ((i : ℕ) → i < length labels → IsSound labels slots i) ↔ AreSlots (λ j. j) labels slots
 
-pub best_alike : SoundSlots → (labels others : List Label) (slots : List Slot) → AreAlike labels others → AreSlots (λ j. j) labels slots → AreSlots (λ j. j) others slots
+pub best_alike : SoundSlots → (labels others : List Label) (slots : List Slot) → AreAllAlike labels others → AreSlots (λ j. j) labels slots → AreSlots (λ j. j) others slots
 best_alike law labels others slots h are =
     let n = h.one_each in
     let m = are.one_slot in

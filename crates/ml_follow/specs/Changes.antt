@@ -15,7 +15,7 @@ use Rattle.ml_cone.specs.declared.slot.Span.{Span}
 use Rattle.ml_watch.specs.declared.change.Change.{Change}
 use Rattle.ml_watch.specs.ById.{HaveOwnIds}
 use Rattle.ml_follow.specs.declared.changes.Listed.{Listed}
-use Rattle.ml_follow.specs.declared.changes.Standing.{Standing}
+use Rattle.ml_follow.specs.declared.changes.RangedLabel.{RangedLabel}
 
 -- a label without its class and rank
 pub record Unplaced : Type 0 where
@@ -46,7 +46,7 @@ pub record Ranged : Type 0 where
   pub span : Span
 
 -- at some place stands this label, it has the id, and this is its active range
-pub record IsStanding (labels : List Label) (slots : List Slot) (id : List ℕ) (one : Ranged) : Type 0 where
+pub record HasRanged (labels : List Label) (slots : List Slot) (id : List ℕ) (one : Ranged) : Type 0 where
   pub place : ℕ
   pub is_place : place < length labels
   pub its_label : (d : Label) → unplaced (slice_index_or labels place d) ≡ one.label
@@ -55,7 +55,7 @@ pub record IsStanding (labels : List Label) (slots : List Slot) (id : List ℕ) 
 
 -- the label that has the id, with its active range, or none
 abbrev pub IsStateOf : List Label → List Slot → List ℕ → Option Ranged → Type 0
-IsStateOf labels slots id state = MatchOption state (IsNoId labels id) (IsStanding labels slots id)
+IsStateOf labels slots id state = MatchOption state (IsNoId labels id) (HasRanged labels slots id)
 
 -- the change of an id whose label or active range in the new state differs from that in the old one: the active ranges
 pub record IsChange (labels : List Label) (slots : List Slot) (new_labels : List Label) (new_slots : List Slot) (change : Change) : Type 0 where
@@ -80,11 +80,11 @@ pub record IsListed (listed : Listed) : Type 0 where
   pub finds : FindsPlaces listed.labels.now listed.places
 
 -- a label that stands in a list
-abbrev pub ranged_of : Standing → Ranged
+abbrev pub ranged_of : RangedLabel → Ranged
 ranged_of standing = record { label = unplaced standing.label.now; span = standing.span }
 
 -- the same, if there is one
-abbrev pub ranged : Option Standing → Option Ranged
+abbrev pub ranged : Option RangedLabel → Option Ranged
 ranged standing = option_map ranged_of standing
 
 -- the change of an id between two lists

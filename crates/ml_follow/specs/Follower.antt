@@ -1,5 +1,6 @@
 -- What a follower holds, and which states it adopts.
 use Rattle.std.specs.Prelude.{◌≡◌, ℕ, ◌≤◌, List, [], length, Option, Some, None, MatchOption, IfSome, Result, Ok, Err, ◌⊎◌}
+use Rattle.ml_ratio.specs.Limits.{most_labels}
 use Rattle.ml_cone.specs.Label.{IsLabelList}
 use Rattle.ml_cone.specs.Slots.{AreSlots}
 use Rattle.ml_cone.specs.declared.label.Label.{Label}
@@ -29,12 +30,12 @@ IsBest state = AreSlots (λ j. j) state.labels state.slots
 -- a state that may be held: labels in priority order with different ids, at most 32,768, with the longest choice and its blockers
 pub record IsAdopted (state : State) : Type 0 where
   pub ordered : IsLabelList state.labels
-  pub few : length state.labels ≤ 32768
+  pub few : length state.labels ≤ most_labels
   pub best : IsBest state
 
 -- nothing is held, or a state that may be
-abbrev pub IsHeld : Option State → Type 0
-IsHeld held = IfSome held IsAdopted
+abbrev pub MayBeHeld : Option State → Type 0
+MayBeHeld held = IfSome held IsAdopted
 
 -- a state is held with this revision, and the offered revision is not above it
 abbrev pub IsStaleBy : Option State → ℕ → ℕ → Type 0

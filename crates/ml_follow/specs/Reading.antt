@@ -4,13 +4,14 @@ use Rattle.std.specs.Option.{option_map}
 use Rattle.std.specs.BTreeSet.{BTreeSet, contains_by}
 use Rattle.std.specs.Cmp.Lexicographic.{slice_cmp}
 use Rattle.std.specs.Ordering.{nat_cmp}
+use Rattle.ml_ratio.specs.Limits.{most_labels}
 use Rattle.ml_ratio.specs.Number.{whole_number}
 use Rattle.ml_cone.specs.Label.{IsLabelList}
 use Rattle.ml_cone.specs.Plane.{IsMargin}
 use Rattle.ml_cone.specs.Places.{IsPlaceOf, IsNoId}
 use Rattle.ml_cone.specs.declared.label.Label.{Label}
 use Rattle.ml_cone.specs.declared.slot.Slot.{Slot}
-use Rattle.ml_pass.specs.SlotsText.{IsPlaced}
+use Rattle.ml_pass.specs.SlotsText.{IsBlockerPlace}
 use Rattle.ml_follow.specs.StateLine.{WriteHead, ReadsHead, WritesBlocker, WriteLabel, WriteSlot, WriteRow, ReadsRow}
 use Rattle.ml_follow.specs.States.{Unfinished, IsNextRow, IsFaulty, WriteUpTo}
 use Rattle.ml_follow.specs.declared.row.Words.{Words}
@@ -29,7 +30,7 @@ unfinished_of opened = record { count = opened.count; state = opened.state }
 
 -- it has at most as many labels as it is to have, at most 32,768, with a slot each, and their ids are known
 pub record IsOpened (opened : Opened) : Type 0 where
-  pub low_count : opened.count ≤ 32768
+  pub low_count : opened.count ≤ most_labels
   pub few : length opened.state.labels ≤ opened.count
   pub one_slot : length opened.state.slots ≡ length opened.state.labels
   pub ids : HasIds opened.state.labels opened.taken
@@ -37,9 +38,9 @@ pub record IsOpened (opened : Opened) : Type 0 where
 -- a state that is held to be one: labels in priority order with different ids, at most 32,768, with a slot each, whose blocker is the place of one of them
 pub record IsGood (state : State) : Type 0 where
   pub ordered : IsLabelList state.labels
-  pub few : length state.labels ≤ 32768
+  pub few : length state.labels ≤ most_labels
   pub one_slot : length state.slots ≡ length state.labels
-  pub placed : All (λ slot. IsPlaced state.labels slot.blocker) state.slots
+  pub placed : All (λ slot. IsBlockerPlace state.labels slot.blocker) state.slots
 
 -- the answer is the head that the words write, or none where they write none
 abbrev pub IsHeadAnswer : List ℕ → List ℕ → List ℕ → Option (ℕ × ℕ) → Type 0

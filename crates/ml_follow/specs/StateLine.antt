@@ -1,6 +1,7 @@
 -- The lines of a state.
 use Rattle.std.specs.Prelude.{◌≡◌, ℕ, ◌-◌, ◌^◌, ◌<◌, ◌≤◌, pos, List, [], ◌∷◌, length, replicate, Option, Some, None, IsUtf8, codes}
 use Rattle.std.specs.List.{AllZip}
+use Rattle.ml_ratio.specs.Limits.{most_labels}
 use Rattle.ml_ratio.specs.Lines.{parts}
 use Rattle.ml_ratio.specs.Number.{number_up_to, whole_number}
 use Rattle.ml_ratio.specs.Ratio.{ReadsRatio}
@@ -15,7 +16,7 @@ pub record WriteHead (word rev_word count_word : List ℕ) (rev count : ℕ) : T
   pub rev_is : number_up_to 16 rev_word ≡ Some rev
   pub count_is : number_up_to 5 count_word ≡ Some count
   pub low_rev : rev ≤ 2 ^ 53
-  pub low_count : count ≤ 32768
+  pub low_count : count ≤ most_labels
 
 -- the line begins a state of this revision with so many labels
 pub record ReadsHead (line : List ℕ) (rev count : ℕ) : Type 0 where

@@ -1,6 +1,7 @@
 //! What changes from one state to another.
 ghost use Rattle.std.specs.Prelude.{◌≡◌, ◌≤◌, ◌⊎◌, length, IfOk, MatchBool};
 ghost use Rattle.std.specs.Option.{option_map};
+ghost use Rattle.ml_ratio.specs.Limits.{most_labels};
 ghost use Rattle.ml_cone.specs.Label.{IsLabelList};
 ghost use Rattle.ml_follow.specs.Changes.{IsStateOf, IsListed, ranged_of, ranged, IsChangeOf, IsTakenIn, IsTakenIfGone, HasId, AreChangesAmong, AreChanges};
 
@@ -22,7 +23,7 @@ pub struct Listed<'a> {
 
 /// A label of a list with its active range.
 #[derive(Drop)]
-pub struct Standing<'a> {
+pub struct RangedLabel<'a> {
     pub label: &'a Label,
     pub span: Span,
 }
@@ -34,7 +35,7 @@ fn list_of<'a>(
     slots: &'a [Slot],
 ) -> Result<Listed<'a>, AllocError>
     requires ordered { IsLabelList labels.now }
-    requires few { length labels.now ≤ 32768 }
+    requires few { length labels.now ≤ most_labels }
     requires one_slot { length slots.now ≡ length labels.now }
     ensures listed { IfOk result IsListed }
     ensures labels { IfOk result (λ list. list.labels.now ≡ labels.now) }
@@ -49,7 +50,7 @@ fn list_of<'a>(
 }
 
 // The label with this id, with its active range; none where no label has it.
-fn standing_by<'a>(list: &Listed<'a>, id: &'a str) -> Option<Standing<'a>>
+fn standing_by<'a>(list: &Listed<'a>, id: &'a str) -> Option<RangedLabel<'a>>
     requires { IsListed list.now }
     ensures { IsStateOf list.now.labels.now list.now.slots.now id.now (ranged result) }
 {
@@ -59,18 +60,18 @@ fn standing_by<'a>(list: &Listed<'a>, id: &'a str) -> Option<Standing<'a>>
         min: label.min(),
         until: list.slots[place].until,
     };
-    Some(Standing { label, span })
+    Some(RangedLabel { label, span })
 }
 
 // Whether both are alike and have the same active range.
-fn stand_alike(one: &Standing<'_>, other: &Standing<'_>) -> bool
+fn stand_alike(one: &RangedLabel<'_>, other: &RangedLabel<'_>) -> bool
     ensures { MatchBool result (ranged_of one.now ≡ ranged_of other.now) (¬ (ranged_of one.now ≡ ranged_of other.now)) }
 {
     same_spans(one.span, other.span) && same_unplaced(one.label, other.label)
 }
 
 // Whether both are none, or alike with the same active range.
-fn both_alike(one: &Option<Standing<'_>>, other: &Option<Standing<'_>>) -> bool
+fn both_alike(one: &Option<RangedLabel<'_>>, other: &Option<RangedLabel<'_>>) -> bool
     ensures { MatchBool result (ranged one.now ≡ ranged other.now) (¬ (ranged one.now ≡ ranged other.now)) }
 {
     match (one, other) {
@@ -81,7 +82,7 @@ fn both_alike(one: &Option<Standing<'_>>, other: &Option<Standing<'_>>) -> bool
 }
 
 // The active range of what stands.
-fn span_of(standing: &Option<Standing<'_>>) -> Option<Span>
+fn span_of(standing: &Option<RangedLabel<'_>>) -> Option<Span>
     ensures { result ≡ option_map (λ one. one.span) (ranged standing.now) }
 {
     match standing {
@@ -196,10 +197,10 @@ pub fn changes_between(
     new_slots: &[Slot],
 ) -> Result<Seq<Change>, AllocError>
     requires ordered { IsLabelList labels.now }
-    requires few { length labels.now ≤ 32768 }
+    requires few { length labels.now ≤ most_labels }
     requires one_slot { length slots.now ≡ length labels.now }
     requires new_ordered { IsLabelList new_labels.now }
-    requires new_few { length new_labels.now ≤ 32768 }
+    requires new_few { length new_labels.now ≤ most_labels }
     requires new_one_slot { length new_slots.now ≡ length new_labels.now }
     ensures { IfOk result (AreChanges labels.now slots.now new_labels.now new_slots.now) }
 {

@@ -4,17 +4,14 @@ ghost use Rattle.ml_follow.specs.Reading.{IsHeadAnswer, IsEmpty, IsBegunBy, IsBe
 
 use crate::opened::Opened;
 use crate::state::State;
-use ml_ratio::Seq;
 use ml_ratio::lines::parts_of;
 use ml_ratio::number::read_up_to;
+use ml_ratio::{MOST_LABELS, Seq};
 use std::alloc::{AllocError, Global};
 use std::collections::BTreeSet;
 
 // The greatest revision, 2^53.
 const LAST_REVISION: u64 = 9_007_199_254_740_992;
-
-// How many labels a state may have.
-const MOST_LABELS: u64 = 32_768;
 
 /// The state that a line begins, as `state 7 3`: the revision and the number of labels; none where it
 /// begins none.
@@ -51,7 +48,7 @@ fn read_head(word: &str, rev: &str, count: &str) -> Option<(u64, usize)>
     }
     let rev = read_up_to(16, rev)?;
     let count = read_up_to(5, count)?;
-    if rev <= LAST_REVISION && count <= MOST_LABELS {
+    if rev <= LAST_REVISION && count <= MOST_LABELS as u64 {
         Some((rev, count as usize))
     } else {
         None

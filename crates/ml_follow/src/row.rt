@@ -1,5 +1,6 @@
 //! The line of a label with its slot.
 ghost use Rattle.std.specs.Prelude.{◌≤◌, ◌<◌, length, map, IfOk, MatchOption};
+ghost use Rattle.ml_ratio.specs.Limits.{most_labels};
 ghost use Rattle.ml_follow.specs.Reading.{AreWords, IsBlockerAnswer, IsMarginAnswer, IsSlotAnswer, IsLabelAnswer, IsRowWritten, IsRowAnswer};
 
 use ml_cone::{Label, Order, Slot};
@@ -27,7 +28,7 @@ pub fn read_row(
     place: u32,
     count: usize,
 ) -> Result<Option<(Label, Slot)>, AllocError>
-    requires { count ≤ 32768 }
+    requires { count ≤ most_labels }
     ensures { IfOk result (λ answer. IsRowAnswer line.now place count answer) }
 {
     let Ok(text) = std::str::from_utf8(line) else {
@@ -81,7 +82,7 @@ fn row_of(
     count: usize,
     words: &Words<'_>,
 ) -> Result<Option<(Label, Slot)>, AllocError>
-    requires { count ≤ 32768 }
+    requires { count ≤ most_labels }
     ensures { IfOk result (λ answer. IsRowWritten words.now.id.now words.now.x.now words.now.y.now words.now.min.now words.now.max.now
         words.now.margin.now words.now.until.now words.now.blocker.now (map (λ part. part.now) words.now.boxes.now) place count answer) }
 {
@@ -96,7 +97,7 @@ fn row_of(
 
 // The slot of one of `count` labels that two words write; none where they write none.
 fn slot_of(until: &str, blocker: &str, count: usize) -> Option<Slot>
-    requires { count ≤ 32768 }
+    requires { count ≤ most_labels }
     ensures { IsSlotAnswer until.now blocker.now count result }
 {
     let until = Ratio::read(until)?;
@@ -106,7 +107,7 @@ fn slot_of(until: &str, blocker: &str, count: usize) -> Option<Slot>
 
 // The blocker that a word writes, a place below `count` or `-` for none; none where it writes none.
 fn blocker_of(word: &str, count: usize) -> Option<Option<u32>>
-    requires { count ≤ 32768 }
+    requires { count ≤ most_labels }
     ensures { IsBlockerAnswer count word.now result }
 {
     if word == "-" {

@@ -6,7 +6,7 @@ use Rattle.std.proofs.lemmas.List.Elements.{All-nil, All-cons}
 use Rattle.std.proofs.lemmas.List.Kept.{AllPairs-cons}
 use Rattle.ml_ratio.specs.declared.feature.Feature.{Feature}
 use Rattle.ml_geojson.specs.Map.{HaveDifferentIds}
-use Rattle.ml_gen.specs.Group.{IsPlaced, HaveOwnNumbers}
+use Rattle.ml_gen.specs.Group.{IsGroupPlace, HaveOwnNumbers}
 use Rattle.ml_gen.specs.Thing.{Thing, thing_of, id_of, first_town, town, river, area, things_in}
 use Rattle.ml_gen.specs.declared.group.Group.{Group}
 use Rattle.ml_gen.proofs.Ids.{same_letter, same_group}
@@ -33,12 +33,12 @@ abbrev Apart : Group → Group → Type 0
 Apart g h = g.number ≢ h.number
 
 -- no feature of other groups has an id of this one
-none_of_others : (g : Group) (a : ℕ) (hs : List Group) → g.number < 6000 → All IsPlaced hs → All (Apart g) hs → All (λ (t : Thing). id_of g (a ∷ []) ≢ t.id) (flat_map things_in hs)
+none_of_others : (g : Group) (a : ℕ) (hs : List Group) → g.number < 6000 → All IsGroupPlace hs → All (Apart g) hs → All (λ (t : Thing). id_of g (a ∷ []) ≢ t.id) (flat_map things_in hs)
 none_of_others g a [] low placed others = All-nil (λ (t : Thing). id_of g (a ∷ []) ≢ t.id)
 none_of_others g a (h ∷ hs) low placed others =
     let P : Thing → Type 0 = λ t. id_of g (a ∷ []) ≢ t.id in
-    let rest : All P (flat_map things_in hs) = none_of_others g a hs low (all_tail IsPlaced h hs placed) (all_tail (Apart g) h hs others) in
-    let apart : (b : ℕ) → id_of g (a ∷ []) ≢ id_of h (b ∷ []) = λ b same. all_head (Apart g) h hs others (same_group g h a b low (all_head IsPlaced h hs placed).0 same) in
+    let rest : All P (flat_map things_in hs) = none_of_others g a hs low (all_tail IsGroupPlace h hs placed) (all_tail (Apart g) h hs others) in
+    let apart : (b : ℕ) → id_of g (a ∷ []) ≢ id_of h (b ∷ []) = λ b same. all_head (Apart g) h hs others (same_group g h a b low (all_head IsGroupPlace h hs placed).0 same) in
     let fifth : All P (area h ∷ flat_map things_in hs) = All-cons P (area h) (flat_map things_in hs) (apart 112) rest in
     let fourth : All P (river h ∷ area h ∷ flat_map things_in hs) = All-cons P (river h) (area h ∷ flat_map things_in hs) (apart 114) fifth in
     let third = All-cons P (town h (codes "c") (pos 800) (codes "1")) (river h ∷ area h ∷ flat_map things_in hs) (apart 99) fourth in
@@ -83,12 +83,12 @@ module _ (g : Group) (rest : List Thing) (others : (a : ℕ) → All (λ (t : Th
 no_pairs : {X : Type 0} (R : X → X → Type 0) → AllPairs R []
 no_pairs R i j d below lt = absurd (omega (arith, lt))
 
-things_differ : (gs : List Group) → All IsPlaced gs → HaveOwnNumbers gs → AllPairs Other (flat_map things_in gs)
+things_differ : (gs : List Group) → All IsGroupPlace gs → HaveOwnNumbers gs → AllPairs Other (flat_map things_in gs)
 things_differ [] placed own = no_pairs Other
 things_differ (g ∷ gs) placed own =
     from_first g (flat_map things_in gs)
-    (λ a. none_of_others g a gs (all_head IsPlaced g gs placed).0 (all_tail IsPlaced g gs placed) (pairs_head Apart g gs own))
-    (things_differ gs (all_tail IsPlaced g gs placed) (pairs_tail Apart g gs own))
+    (λ a. none_of_others g a gs (all_head IsGroupPlace g gs placed).0 (all_tail IsGroupPlace g gs placed) (pairs_head Apart g gs own))
+    (things_differ gs (all_tail IsGroupPlace g gs placed) (pairs_tail Apart g gs own))
 
 made_differ : (fs : List Feature) (things : List Thing) → map thing_of fs ≡ things → AllPairs Other things → HaveDifferentIds fs
 made_differ fs things are differ i j d below lt same =
@@ -98,5 +98,5 @@ made_differ fs things are differ i j d below lt same =
     pairs i j (thing_of d) below (omega (arith, lt, length-map fs thing_of)) (ap (λ (t : Thing). t.id) one ∙ same ∙ sym (ap (λ (t : Thing). t.id) other))
 
 -- features that are those of different groups have different ids
-pub features_differ : (groups : List Group) (fs : List Feature) → All IsPlaced groups → HaveOwnNumbers groups → map thing_of fs ≡ flat_map things_in groups → HaveDifferentIds fs
+pub features_differ : (groups : List Group) (fs : List Feature) → All IsGroupPlace groups → HaveOwnNumbers groups → map thing_of fs ≡ flat_map things_in groups → HaveDifferentIds fs
 features_differ groups fs placed own are = made_differ fs (flat_map things_in groups) are (things_differ groups placed own)

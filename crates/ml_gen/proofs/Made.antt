@@ -1,6 +1,7 @@
 -- What comes of one edit.
 use Rattle.std.proofs.Common.{◌≡◌, ℕ, ◌<◌, List, length, None, codes, refl, sym, ap, subst, ◌∙◌, arith}
 use Rattle.std.proofs.lemmas.List.{length-map}
+use Rattle.ml_ratio.specs.Limits.{most_labels}
 use Rattle.ml_ratio.specs.declared.feature.Feature.{Feature}
 use Rattle.ml_cone.specs.declared.view.View.{View}
 use Rattle.ml_geojson.specs.Map.{IsFeature, IsSameFeature}
@@ -9,7 +10,7 @@ use Rattle.ml_store.specs.Rows.{labels_in, slots_in, number_at}
 use Rattle.ml_label.specs.Labels.{AreLabelsOf}
 use Rattle.ml_repair.specs.Changes.{AreChanges}
 use Rattle.ml_repair.specs.Shown.{AreShownNumbers}
-use Rattle.ml_editor.specs.State.{State, HasFeature, step, most_features, last_rev}
+use Rattle.ml_editor.specs.State.{State, HasFeature, step, last_rev}
 use Rattle.ml_editor.specs.Editing.{Editing, IsEditing, Prepared, IsReady, rows_after}
 use Rattle.ml_editor.specs.Faults.{IsRemoval, IsAddition, IsAdding}
 use Rattle.ml_editor.specs.declared.edit.Edit.{Edit}
@@ -61,10 +62,10 @@ below_last n m low same = omega (arith, low, same)
 pub removal_allowed : (s : State) (id : List ℕ) → HasFeature s.features id → s.rev < last_rev → IsRemoval s None id
 removal_allowed s id there early = record { present = tt; is_there = there; not_last = below_last s.rev last_rev early }
 
-pub addition_allowed : (s : State) (body : List ℕ) (f : Feature) → IsFeature body f → ¬ (HasFeature s.features f.id) → length s.features < most_features → s.rev < last_rev → IsAddition s None body
+pub addition_allowed : (s : State) (body : List ℕ) (f : Feature) → IsFeature body f → ¬ (HasFeature s.features f.id) → length s.features < most_labels → s.rev < last_rev → IsAddition s None body
 addition_allowed s body f is gone few early = record {
   is_new = (f.id, (tt, (f, is, refl)), gone);
-  not_full = below_last (length s.features) most_features few;
+  not_full = below_last (length s.features) most_labels few;
   not_last = below_last s.rev last_rev early;
 }
 

@@ -5,7 +5,7 @@ use Rattle.std.proofs.lemmas.List.{get_or_default, length-map, map-append, take_
 use Rattle.ml_ratio.specs.declared.feature.Feature.{Feature}
 use Rattle.ml_editor.specs.State.{State, HasFeature, step}
 use Rattle.ml_editor.specs.declared.edit.Edit.TheVariants.{Add, Remove}
-use Rattle.ml_gen.specs.Group.{IsPlaced, HaveOwnNumbers}
+use Rattle.ml_gen.specs.Group.{IsGroupPlace, HaveOwnNumbers}
 use Rattle.ml_gen.specs.Thing.{id_of}
 use Rattle.ml_gen.specs.Turn.{Turn, goes, comes, IsTurn, Run}
 use Rattle.ml_gen.specs.declared.counts.Counts.{Counts}
@@ -38,7 +38,7 @@ turn_more turn groups k g a b c xs x lt is run one =
 abbrev pub town_id : Group → List ℕ
 town_id g = id_of g (codes "a")
 
-module _ (groups : List Group) (own : HaveOwnNumbers groups) (placed : All IsPlaced groups) (k : ℕ) (g : Group) (lt : k < length groups) (is : get_or groups k g ≡ g) where
+module _ (groups : List Group) (own : HaveOwnNumbers groups) (placed : All IsGroupPlace groups) (k : ℕ) (g : Group) (lt : k < length groups) (is : get_or groups k g ≡ g) where
   here_is : (d : Group) → get_or groups k d ≡ g
   here_is d = get_or_default groups k d g lt ∙ is
 
@@ -53,7 +53,7 @@ module _ (groups : List Group) (own : HaveOwnNumbers groups) (placed : All IsPla
   -- another group's first town has another id
   pub ids_apart : (j : ℕ) (d : Group) → j < length groups → ¬ (j ≡ k) → town_id (get_or groups j d) ≢ town_id g
   ids_apart j d low other same =
-      number_apart j d low other (same_group (get_or groups j d) g 97 97 (placed j d low).0 (subst IsPlaced (here_is d) (placed k d lt)).0 same)
+      number_apart j d low other (same_group (get_or groups j d) g 97 97 (placed j d low).0 (subst IsGroupPlace (here_is d) (placed k d lt)).0 same)
 
   module _ (s t : State) where
     module _ (goes : t ≡ step s (Remove (town_id g))) where

@@ -41,8 +41,8 @@ abbrev pub IsNear : ℤ → Type 0
 IsNear v = (negsuc 399999999 ≤ℤ v) × (v ≤ℤ pos 400000000)
 
 -- the group is one of so many, and lies there
-abbrev pub IsPlaced : Group → Type 0
-IsPlaced group = (group.number < 6000) × IsNear group.x × IsNear group.y
+abbrev pub IsGroupPlace : Group → Type 0
+IsGroupPlace group = (group.number < 6000) × IsNear group.x × IsNear group.y
 
 -- how far a feature may lie from its group
 abbrev pub IsStep : ℤ → Type 0

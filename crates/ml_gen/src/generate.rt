@@ -3,7 +3,7 @@ ghost use Rattle.std.specs.Prelude.{◌≡◌, ◌<◌, ◌≤◌, IfOk};
 ghost use Rattle.ml_gen.specs.Totals.{AreTotals};
 
 use crate::group::{MOST_GROUPS, groups_of, order_of};
-use crate::loading::load_map;
+use crate::loading::load_generated;
 use crate::totals::{Totals, totals_of};
 use crate::turns::edit_all;
 use ml_ratio::Steps;
@@ -48,7 +48,7 @@ fn make_counted<L: Ledger>(
 {
     let mut steps: Steps<L> = Steps::new(blank);
     let all = groups_of(alloc, groups, seed)?;
-    let mut editor = load_map(alloc, style, &all)?;
+    let mut editor = load_generated(alloc, style, &all)?;
     let order = order_of(alloc, &all, seed)?;
     let each = edit_all(alloc, &mut editor, &order, &mut steps)?;
     Ok(totals_of(&editor, groups, &each))

@@ -1,6 +1,6 @@
 //! Groups of a generated map.
 ghost use Rattle.std.specs.Prelude.{◌≡◌, ◌*◌, ◌<◌, ◌≤◌, ◌+ℤ◌, ◌-ℤ◌, pos, length, All, IfOk};
-ghost use Rattle.ml_gen.specs.Group.{next_number as follower, placed, groups_in, group_in_turn, order, IsNear, IsPlaced, HaveOwnNumbers};
+ghost use Rattle.ml_gen.specs.Group.{next_number as follower, placed, groups_in, group_in_turn, order, IsNear, IsGroupPlace, HaveOwnNumbers};
 
 use std::alloc::{AllocError, Global};
 
@@ -38,7 +38,7 @@ fn coordinate(line: u32, by: u64) -> i64
 fn placed_group(number: u32, z: u64) -> Group
     requires { number < MOST_GROUPS }
     ensures group { result ≡ placed number z }
-    ensures near { IsPlaced result }
+    ensures near { IsGroupPlace result }
 {
     Group {
         number,
@@ -54,7 +54,7 @@ fn placed_group(number: u32, z: u64) -> Group
 pub fn groups_of(alloc: Global, count: u32, seed: u32) -> Result<Vec<Group>, AllocError>
     requires { count ≤ MOST_GROUPS }
     ensures groups { IfOk result (λ groups. groups.items ≡ groups_in count seed) }
-    ensures placed { IfOk result (λ groups. All IsPlaced groups.items) }
+    ensures placed { IfOk result (λ groups. All IsGroupPlace groups.items) }
     ensures own { IfOk result (λ groups. HaveOwnNumbers groups.items) }
 {
     let mut groups = Vec::new(alloc);
@@ -69,11 +69,11 @@ pub fn groups_of(alloc: Global, count: u32, seed: u32) -> Result<Vec<Group>, All
 // The group that is edited in this turn.
 fn group_at(groups: &[Group], turn: usize, seed: u32) -> Group
     requires all { groups.now ≡ groups_in (length groups.now) seed }
-    requires placed { All IsPlaced groups.now }
+    requires placed { All IsGroupPlace groups.now }
     requires few { length groups.now ≤ MOST_GROUPS }
     requires turn { turn < length groups.now }
     ensures is { result ≡ group_in_turn (length groups.now) seed turn }
-    ensures placed { IsPlaced result }
+    ensures placed { IsGroupPlace result }
 {
     let at = (turn + seed as usize) % groups.len();
     groups[at]
@@ -85,10 +85,10 @@ fn group_at(groups: &[Group], turn: usize, seed: u32) -> Group
 /// Want of memory.
 pub fn order_of(alloc: Global, groups: &[Group], seed: u32) -> Result<Vec<Group>, AllocError>
     requires all { groups.now ≡ groups_in (length groups.now) seed }
-    requires placed { All IsPlaced groups.now }
+    requires placed { All IsGroupPlace groups.now }
     requires few { length groups.now ≤ MOST_GROUPS }
     ensures order { IfOk result (λ found. found.items ≡ order (length groups.now) seed) }
-    ensures placed { IfOk result (λ found. All IsPlaced found.items) }
+    ensures placed { IfOk result (λ found. All IsGroupPlace found.items) }
     ensures own { IfOk result (λ found. HaveOwnNumbers found.items) }
 {
     let mut found = Vec::new(alloc);

@@ -3,7 +3,7 @@ ghost use Rattle.std.specs.Prelude.{◌≡◌, ◌*◌, ◌≤◌, List, length,
 ghost use Rattle.ml_ratio.specs.declared.feature.Feature.{Feature as FeatureOfMap};
 ghost use Rattle.ml_geojson.specs.Map.{HaveDifferentIds, AreSameFeatures};
 ghost use Rattle.ml_editor.specs.State.{HasFeature, first_state};
-ghost use Rattle.ml_gen.specs.Group.{IsPlaced, HaveOwnNumbers};
+ghost use Rattle.ml_gen.specs.Group.{IsGroupPlace, HaveOwnNumbers};
 ghost use Rattle.ml_gen.specs.Thing.{id_of, things_in};
 ghost use Rattle.ml_gen.specs.Totals.{AreReadBack, AreRead};
 
@@ -32,7 +32,7 @@ fn read_back(alloc: Global, made: &Seq<Feature>) -> Result<Seq<Feature>, AllocEr
 
 // The features of groups, read from their own text.
 fn read_map(alloc: Global, groups: &[Group]) -> Result<Seq<Feature>, AllocError>
-    requires placed { All IsPlaced groups.now }
+    requires placed { All IsGroupPlace groups.now }
     requires own { HaveOwnNumbers groups.now }
     ensures read { IfOk result (AreRead (flat_map things_in groups.now)) }
     ensures differ { IfOk result HaveDifferentIds }
@@ -47,8 +47,12 @@ fn read_map(alloc: Global, groups: &[Group]) -> Result<Seq<Feature>, AllocError>
 ///
 /// # Errors
 /// Want of memory.
-pub(crate) fn load_map(alloc: Global, style: Style, groups: &[Group]) -> Result<Editor, AllocError>
-    requires placed { All IsPlaced groups.now }
+pub(crate) fn load_generated(
+    alloc: Global,
+    style: Style,
+    groups: &[Group],
+) -> Result<Editor, AllocError>
+    requires placed { All IsGroupPlace groups.now }
     requires own { HaveOwnNumbers groups.now }
     requires few { length groups.now ≤ 6000 }
     ensures state { IfOk result (λ editor. (read : List FeatureOfMap) × AreRead (flat_map things_in groups.now) read × (editor.state ≡ first_state style read)) }

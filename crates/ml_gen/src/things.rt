@@ -4,7 +4,7 @@ ghost use Rattle.ml_ratio.specs.JsonNumber.{IsNumber};
 ghost use Rattle.ml_ratio.specs.Geometry.{IsRing};
 ghost use Rattle.ml_ratio.specs.World.{IsInWorld};
 ghost use Rattle.ml_geojson.specs.Shape.{place_of};
-ghost use Rattle.ml_gen.specs.Group.{IsNear, IsPlaced, IsStep};
+ghost use Rattle.ml_gen.specs.Group.{IsNear, IsGroupPlace, IsStep};
 ghost use Rattle.ml_gen.specs.Thing.{thing_of, id_of as group_id, text_prop as text_property, number_prop as number_property, town_props as town_properties, name_props as name_properties, place_from as spot_from, town as town_thing, first_town as first_thing, river as river_thing, area as area_thing, bends, corners, things_in};
 
 use crate::group::Group;
@@ -74,7 +74,7 @@ pub(crate) fn moved(v: i64, step: i64) -> i64
 
 // The place so far east and north of a group.
 fn place_from(group: &Group, east: i64, north: i64) -> Pos
-    requires placed { IsPlaced group.now }
+    requires placed { IsGroupPlace group.now }
     requires east { IsStep east }
     requires north { IsStep north }
     ensures { place_of result ≡ spot_from group.now east north }
@@ -93,7 +93,7 @@ fn town(
     east: i64,
     pop: &str,
 ) -> Result<Feature, AllocError>
-    requires placed { IsPlaced group.now }
+    requires placed { IsGroupPlace group.now }
     requires east { IsStep east }
     requires pop { IsNumber pop.now }
     ensures { IfOk result (λ f. thing_of f ≡ town_thing group.now letter.now east pop.now) }
@@ -114,7 +114,7 @@ fn town(
 /// Want of memory.
 #[tactic(auto, using(crate::proofs::Props::digit))]
 pub fn first_town(alloc: Global, group: &Group) -> Result<Feature, AllocError>
-    requires { IsPlaced group.now }
+    requires { IsGroupPlace group.now }
     ensures { IfOk result (λ f. thing_of f ≡ first_thing group.now) }
 {
     town(alloc, group, "a", 0, "3")
@@ -122,7 +122,7 @@ pub fn first_town(alloc: Global, group: &Group) -> Result<Feature, AllocError>
 
 // The line of a group's river.
 fn river_line(alloc: Global, group: &Group) -> Result<Seq<Pos>, AllocError>
-    requires { IsPlaced group.now }
+    requires { IsGroupPlace group.now }
     ensures { IfOk result (λ line. mapped place_of line ≡ bends group.now) }
 {
     let mut line = Seq::new(alloc);
@@ -134,7 +134,7 @@ fn river_line(alloc: Global, group: &Group) -> Result<Seq<Pos>, AllocError>
 
 // The river of a group.
 fn river(alloc: Global, group: &Group) -> Result<Feature, AllocError>
-    requires { IsPlaced group.now }
+    requires { IsGroupPlace group.now }
     ensures { IfOk result (λ f. thing_of f ≡ river_thing group.now) }
 {
     let id = id_of(alloc, group, "r")?;
@@ -149,7 +149,7 @@ fn river(alloc: Global, group: &Group) -> Result<Feature, AllocError>
 
 // The ring of a group's area.
 fn area_ring(alloc: Global, group: &Group) -> Result<Seq<Pos>, AllocError>
-    requires { IsPlaced group.now }
+    requires { IsGroupPlace group.now }
     ensures places { IfOk result (λ ring. mapped place_of ring ≡ corners group.now) }
     ensures ring { IfOk result IsRing }
 {
@@ -164,7 +164,7 @@ fn area_ring(alloc: Global, group: &Group) -> Result<Seq<Pos>, AllocError>
 
 // The area of a group.
 fn area(alloc: Global, group: &Group) -> Result<Feature, AllocError>
-    requires { IsPlaced group.now }
+    requires { IsGroupPlace group.now }
     ensures { IfOk result (λ f. thing_of f ≡ area_thing group.now) }
 {
     let id = id_of(alloc, group, "p")?;
@@ -181,7 +181,7 @@ fn area(alloc: Global, group: &Group) -> Result<Feature, AllocError>
 // Adds the features of a group.
 #[tactic(auto, using(crate::proofs::Props::digit))]
 fn push_things(alloc: Global, group: &Group, features: &mut Seq<Feature>) -> Result<(), AllocError>
-    requires { IsPlaced group.now }
+    requires { IsGroupPlace group.now }
     ensures { OnOk result (mapped thing_of features.new ≡ mapped thing_of features.old ++ things_in group.now) }
 {
     features.push(first_town(alloc, group)?)?;
@@ -197,7 +197,7 @@ fn push_things(alloc: Global, group: &Group, features: &mut Seq<Feature>) -> Res
 /// # Errors
 /// Want of memory.
 pub fn things_of(alloc: Global, groups: &[Group]) -> Result<Seq<Feature>, AllocError>
-    requires { All IsPlaced groups.now }
+    requires { All IsGroupPlace groups.now }
     ensures { IfOk result (λ features. mapped thing_of features ≡ flat_map things_in groups.now) }
 {
     let mut features = Seq::new(alloc);

@@ -1,11 +1,12 @@
 //! One edit of a generated map, with the view that is asked behind it.
 ghost use Rattle.std.specs.Prelude.{◌≡◌, ◌<◌, ◌^◌, pos, ◌+ℤ◌, length, IfOk, OnOk, codes};
+ghost use Rattle.ml_ratio.specs.Limits.{most_labels};
 ghost use Rattle.ml_cone.specs.declared.view.View.{View as ViewOfMap};
 ghost use Rattle.ml_ratio.specs.declared.feature.Feature.{Feature as FeatureOfMap};
-ghost use Rattle.ml_editor.specs.State.{HasFeature, most_features, last_rev, step};
+ghost use Rattle.ml_editor.specs.State.{HasFeature, last_rev, step};
 ghost use Rattle.ml_editor.specs.Editing.{IsReady, HasRoomFor};
 ghost use Rattle.ml_editor.specs.declared.edit.Edit.TheVariants.{Add as add_edit, Remove as remove_edit};
-ghost use Rattle.ml_gen.specs.Group.{IsPlaced};
+ghost use Rattle.ml_gen.specs.Group.{IsGroupPlace};
 ghost use Rattle.ml_gen.specs.Thing.{id_of as group_id};
 ghost use Rattle.ml_gen.specs.Turn.{goes, comes, IsViewOf, Shows, IsMade, IsTurn};
 
@@ -34,7 +35,7 @@ fn scale_of_views() -> Ratio
 
 // The view of a group: 1024 by 1024 pixels about its second town, at scale 30.
 fn view_of(group: &Group) -> View
-    requires { IsPlaced group.now }
+    requires { IsGroupPlace group.now }
     ensures { IsViewOf group.now result }
 {
     let east = moved(group.x, 400);
@@ -52,7 +53,7 @@ fn count_shown<L: Ledger>(
     group: &Group,
     steps: &mut Steps<L>,
 ) -> Result<usize, AllocError>
-    requires { IsPlaced group.now }
+    requires { IsGroupPlace group.now }
     ensures { IfOk result (λ n. (view : ViewOfMap) × IsViewOf group.now view × Shows editor.now.state view n) }
 {
     let _rev = editor.rev();
@@ -69,7 +70,7 @@ fn carry_out<L: Ledger>(
     group: &Group,
     steps: &mut Steps<L>,
 ) -> Result<Counts, AllocError>
-    requires placed { IsPlaced group.now }
+    requires placed { IsGroupPlace group.now }
     requires of_state { IsReady ready editor.old.state editor.old.engine.rows }
     requires room { HasRoomFor ready editor.old }
     ensures made { IfOk result (λ counts. IsMade ready.edit group.now editor.old.state counts editor.new.state) }
@@ -97,7 +98,7 @@ pub(crate) fn take_out<L: Ledger>(
     group: &Group,
     steps: &mut Steps<L>,
 ) -> Result<Counts, AllocError>
-    requires placed { IsPlaced group.now }
+    requires placed { IsGroupPlace group.now }
     requires there { HasFeature editor.old.state.features (group_id group.now (codes "a")) }
     requires early { editor.old.state.rev < last_rev }
     ensures turn { IfOk result (λ counts. IsTurn (goes group.now) editor.old.state counts editor.new.state) }
@@ -122,9 +123,9 @@ pub(crate) fn put_back<L: Ledger>(
     group: &Group,
     steps: &mut Steps<L>,
 ) -> Result<Counts, AllocError>
-    requires placed { IsPlaced group.now }
+    requires placed { IsGroupPlace group.now }
     requires gone { ¬ (HasFeature editor.old.state.features (group_id group.now (codes "a"))) }
-    requires few { length editor.old.state.features < most_features }
+    requires few { length editor.old.state.features < most_labels }
     requires early { editor.old.state.rev < last_rev }
     ensures turn { IfOk result (λ counts. IsTurn (comes group.now) editor.old.state counts editor.new.state) }
     ensures state { OnOk result ((f : FeatureOfMap) × (f.id ≡ group_id group.now (codes "a")) × (editor.new.state ≡ step editor.old.state (add_edit f))) }

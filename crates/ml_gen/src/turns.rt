@@ -1,7 +1,8 @@
 //! All edits of a generated map, one after another.
 ghost use Rattle.std.specs.Prelude.{◌≡◌, ◌+◌, ◌++◌, ◌≤◌, length, map, All, IfOk, OnOk, codes};
-ghost use Rattle.ml_editor.specs.State.{HasFeature, most_features, last_rev};
-ghost use Rattle.ml_gen.specs.Group.{IsPlaced, HaveOwnNumbers};
+ghost use Rattle.ml_ratio.specs.Limits.{most_labels};
+ghost use Rattle.ml_editor.specs.State.{HasFeature, last_rev};
+ghost use Rattle.ml_gen.specs.Group.{IsGroupPlace, HaveOwnNumbers};
 ghost use Rattle.ml_gen.specs.Thing.{id_of};
 ghost use Rattle.ml_gen.specs.Turn.{goes, comes, Run};
 
@@ -20,7 +21,7 @@ fn take_all_out<L: Ledger>(
     groups: &[Group],
     steps: &mut Steps<L>,
 ) -> Result<Vec<Counts>, AllocError>
-    requires placed { All IsPlaced groups.now }
+    requires placed { All IsGroupPlace groups.now }
     requires own { HaveOwnNumbers groups.now }
     requires there { All (λ group. HasFeature editor.old.state.features (id_of group (codes "a"))) groups.now }
     requires early { editor.old.state.rev + length groups.now ≤ last_rev }
@@ -43,10 +44,10 @@ fn put_all_back<L: Ledger>(
     groups: &[Group],
     steps: &mut Steps<L>,
 ) -> Result<Vec<Counts>, AllocError>
-    requires placed { All IsPlaced groups.now }
+    requires placed { All IsGroupPlace groups.now }
     requires own { HaveOwnNumbers groups.now }
     requires gone { All (λ group. ¬ (HasFeature editor.old.state.features (id_of group (codes "a")))) groups.now }
-    requires few { length editor.old.state.features + length groups.now ≤ most_features }
+    requires few { length editor.old.state.features + length groups.now ≤ most_labels }
     requires early { editor.old.state.rev + length groups.now ≤ last_rev }
     ensures run { IfOk result (λ each. Run editor.old.state (map comes groups.now) each.items editor.new.state) }
 {
@@ -68,10 +69,10 @@ pub(crate) fn edit_all<L: Ledger>(
     groups: &[Group],
     steps: &mut Steps<L>,
 ) -> Result<Vec<Counts>, AllocError>
-    requires placed { All IsPlaced groups.now }
+    requires placed { All IsGroupPlace groups.now }
     requires own { HaveOwnNumbers groups.now }
     requires there { All (λ group. HasFeature editor.old.state.features (id_of group (codes "a"))) groups.now }
-    requires few { length editor.old.state.features ≤ most_features }
+    requires few { length editor.old.state.features ≤ most_labels }
     requires early { editor.old.state.rev + (length groups.now + length groups.now) ≤ last_rev }
     ensures run { IfOk result (λ each. Run editor.old.state (map goes groups.now ++ map comes groups.now) each.items editor.new.state) }
 {

@@ -9,7 +9,7 @@ use Rattle.ml_cone.specs.Hull.{hull_of}
 use Rattle.ml_cone.specs.declared.cells.Cells.{Cells}
 use Rattle.ml_cone.specs.declared.label.Label.{Label}
 use Rattle.ml_grid.specs.Entry.{Entry}
-use Rattle.ml_grid.specs.Found.{AreNumbers, AreFirst, Appends, AppendsFirst, Finds, IsAmong, IsInHull, IsNumberOf}
+use Rattle.ml_grid.specs.Found.{AreNumbers, AreFirst, AppendsNumbers, AppendsFirst, Finds, IsAmong, IsInHull, IsNumberOf}
 
 -- what was found, ascending and each once
 pub numbers_of_finds : (P : Entry → Type 0) (entries : List Entry) (found numbers : List ℕ) → Finds P entries [] found → IsStrictlyIncreasing numbers → ((n : ℕ) → Contains numbers n ↔ Contains found n) → AreNumbers P entries numbers
@@ -65,7 +65,7 @@ appends_nothing P entries a = (
 )
 
 -- the whole was appended
-pub appends_all : (P : Entry → Type 0) (entries : List Entry) (a b c numbers : List ℕ) → AreNumbers P entries numbers → c ≡ numbers → b ≡ a ++ c → Appends P entries a b
+pub appends_all : (P : Entry → Type 0) (entries : List Entry) (a b c numbers : List ℕ) → AreNumbers P entries numbers → c ≡ numbers → b ≡ a ++ c → AppendsNumbers P entries a b
 appends_all P entries a b c numbers h e f = (numbers, f ∙ ap (λ (ns : List ℕ). a ++ ns) e, h)
 
 pub appends_some : (P : Entry → Type 0) (entries : List Entry) (a b c numbers : List ℕ) → AreNumbers P entries numbers → c ≡ numbers → ((k : ℕ) × (b ≡ a ++ take k c)) → AppendsFirst P entries a b

@@ -1,7 +1,7 @@
 -- Numbers that went to bits and came back.
 use Rattle.std.proofs.Common.{◌≡◌, ◌∙◌, ap, refl, ℕ, ◌^◌, ◌<◌, arith, w64, ℤ, pos, ◌+ℤ◌, ◌≤ℤ◌, FitsSigned, to_z, of_z}
 use Rattle.std.proofs.lemmas.Int.{ints, to_z-of_z, to_z_pos}
-use Rattle.ml_grid.specs.Count.{span_of}
+use Rattle.ml_grid.specs.Count.{count_between}
 
 pub between_fits : (a b x : ℤ) → FitsSigned w64 a → FitsSigned w64 b → a ≤ℤ x → x ≤ℤ b → FitsSigned w64 x
 between_fits a b x f g h i = omega (arith, ints)
@@ -18,9 +18,9 @@ sum_fits a n m f low g e =
     let p : to_z w64 n ≡ pos n = to_z_pos w64 n low in
     rw (to_z-of_z w64 a f, p, e) g
 
-pub few_span : (a b : ℤ) → a ≤ℤ b → b ≤ℤ (a +ℤ pos 8) → span_of a b < 10
+pub few_span : (a b : ℤ) → a ≤ℤ b → b ≤ℤ (a +ℤ pos 8) → count_between a b < 10
 few_span a b h i = omega (arith, ints)
 
 -- the number of rows, as it was computed
-pub rows_back : (a b : ℤ) (r : ℕ) → FitsSigned w64 a → FitsSigned w64 b → r ≡ span_of (to_z w64 (of_z w64 a)) (to_z w64 (of_z w64 b)) → r ≡ span_of a b
+pub rows_back : (a b : ℤ) (r : ℕ) → FitsSigned w64 a → FitsSigned w64 b → r ≡ count_between (to_z w64 (of_z w64 a)) (to_z w64 (of_z w64 b)) → r ≡ count_between a b
 rows_back a b r f g e = e ∙ (rw (to_z-of_z w64 a f, to_z-of_z w64 b g) refl)

@@ -10,7 +10,7 @@ use Rattle.ml_cone.specs.declared.label.Label.{Label}
 use Rattle.ml_spans.specs.Spans.{entry_of}
 use Rattle.ml_grid.specs.Entry.{Entry, IsEntryOf}
 use Rattle.ml_grid.specs.Count.{AreCounted, cell_count, cell_in, meets_band, band_count, entries_below, entry_count}
-use Rattle.ml_grid.specs.Placed.{IsPlaced, IsEntryAt}
+use Rattle.ml_grid.specs.Placed.{IsEntryAmong, IsEntryAt}
 use Rattle.ml_grid.proofs.Partial.{IsEntryBelow}
 use Rattle.ml_grid.proofs.Sets.{HasFewCells, none_placed, placed_more, not_placed, at_is_placed, none_at, none_below, below_more, below_all}
 use Rattle.ml_grid.proofs.Sums.{below_none, below_next, count_met, count_unmet, count_all}
@@ -59,14 +59,14 @@ counted_more P R n x h new r = record {
 }
 
 -- first those with one property, then those of the first n cells
-counted_placed : (P : Entry → Type 0) (m : ℕ) (number : ℕ) (until : Ratio) (cells : Cells) (n : ℕ) → AreCounted P m → ((e : Entry) → IsPlaced number until cells n e → ¬ (P e)) → AreCounted (λ e. P e ⊎ IsPlaced number until cells n e) (m + n)
+counted_placed : (P : Entry → Type 0) (m : ℕ) (number : ℕ) (until : Ratio) (cells : Cells) (n : ℕ) → AreCounted P m → ((e : Entry) → IsEntryAmong number until cells n e → ¬ (P e)) → AreCounted (λ e. P e ⊎ IsEntryAmong number until cells n e) (m + n)
 counted_placed P m number until cells zero h apart =
-    counted_same P (λ e. P e ⊎ IsPlaced number until cells 0 e) m (m + 0) h
+    counted_same P (λ e. P e ⊎ IsEntryAmong number until cells 0 e) m (m + 0) h
     (λ e. (λ k. elim k [ inl old ↦ old | inr placed ↦ absurd (none_placed number until cells e placed) ], λ k. inl k)) (omega arith)
 counted_placed P m number until cells (suc n) h apart =
     let x = entry_of (cell_in cells n) until number in
     let fewer = counted_placed P m number until cells n h (λ e placed. apart e (placed.0, (let l = placed.1 in omega arith), placed.2)) in
-    let more : (e : Entry) → (P e ⊎ IsPlaced number until cells (n + 1) e) ↔ ((P e ⊎ IsPlaced number until cells n e) ⊎ (e ≡ x)) = λ e.
+    let more : (e : Entry) → (P e ⊎ IsEntryAmong number until cells (n + 1) e) ↔ ((P e ⊎ IsEntryAmong number until cells n e) ⊎ (e ≡ x)) = λ e.
     (let step = placed_more number until cells n (cell_in cells n) refl e in (
       λ k. elim k [
         | inl old ↦ inl (inl old)
@@ -77,14 +77,14 @@ counted_placed P m number until cells (suc n) h apart =
         | inr last ↦ inr (step.1 (inr last))
       ],
     )) in
-    let new : ¬ (P x ⊎ IsPlaced number until cells n x) = λ k. elim k [
+    let new : ¬ (P x ⊎ IsEntryAmong number until cells n x) = λ k. elim k [
       | inl old ↦ apart x (n, omega arith, refl) old
       | inr placed ↦ not_placed number until cells n placed
     ] in
     let next : n + 1 ≡ suc n = omega arith in
-    let all : AreCounted (λ e. P e ⊎ IsPlaced number until cells (n + 1) e) ((m + n) + 1) = counted_more (λ e. P e ⊎ IsPlaced number until cells n e) (λ e. P e ⊎ IsPlaced number until cells (n + 1) e) (m + n) x fewer new more in
-    counted_same (λ e. P e ⊎ IsPlaced number until cells (n + 1) e) (λ e. P e ⊎ IsPlaced number until cells (suc n) e) ((m + n) + 1) (m + suc n) all
-    (λ e. subst (λ (k : ℕ). (P e ⊎ IsPlaced number until cells k e) ↔ (P e ⊎ IsPlaced number until cells (n + 1) e)) next (λ k. k, λ k. k)) (omega arith)
+    let all : AreCounted (λ e. P e ⊎ IsEntryAmong number until cells (n + 1) e) ((m + n) + 1) = counted_more (λ e. P e ⊎ IsEntryAmong number until cells n e) (λ e. P e ⊎ IsEntryAmong number until cells (n + 1) e) (m + n) x fewer new more in
+    counted_same (λ e. P e ⊎ IsEntryAmong number until cells (n + 1) e) (λ e. P e ⊎ IsEntryAmong number until cells (suc n) e) ((m + n) + 1) (m + suc n) all
+    (λ e. subst (λ (k : ℕ). (P e ⊎ IsEntryAmong number until cells k e) ↔ (P e ⊎ IsEntryAmong number until cells (n + 1) e)) next (λ k. k, λ k. k)) (omega arith)
 
 bool_cases : (b : Bool) → (b ≡ true) ⊎ (b ≡ false)
 bool_cases true = inl refl
@@ -108,7 +108,7 @@ counted_below few number a until (suc k) low =
           let both = counted_placed P (entries_below a k) number until (hull_of a k) (cell_count (hull_of a k)) fewer
           (λ e there before. (let here = ((placed e).1 there).1 in let l = before.1 in omega arith)) in
           let n = count_met a k met in
-          counted_same (λ e. P e ⊎ IsPlaced number until (hull_of a k) (cell_count (hull_of a k)) e) (IsEntryBelow number a until (suc k)) (entries_below a k + cell_count (hull_of a k)) (entries_below a (suc k)) both
+          counted_same (λ e. P e ⊎ IsEntryAmong number until (hull_of a k) (cell_count (hull_of a k)) e) (IsEntryBelow number a until (suc k)) (entries_below a k + cell_count (hull_of a k)) (entries_below a (suc k)) both
           (λ e. (
             λ h. elim ((more e).0 h) [ inl before ↦ inl before | inr here ↦ inr ((placed e).0 here) ],
             λ h. (more e).1 (elim h [ inl before ↦ inl before | inr there ↦ inr ((placed e).1 there) ]),

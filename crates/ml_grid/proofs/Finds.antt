@@ -13,7 +13,7 @@ use Rattle.ml_spans.specs.Search.{is_within, IsValueOf, HasPassing}
 use Rattle.ml_grid.specs.Cell.{cell_cmp}
 use Rattle.ml_grid.specs.Column.{IsInColumn, IsInColumnFrom, IsAmongFrom}
 use Rattle.ml_grid.proofs.Partial.{IsAmongFirst, IsAmongFirstFrom}
-use Rattle.ml_grid.specs.Count.{span_of}
+use Rattle.ml_grid.specs.Count.{count_between}
 use Rattle.ml_grid.specs.Entry.{Entry}
 use Rattle.ml_grid.specs.Found.{IsNumberOf, HasEntry, Finds, IsAmong}
 use Rattle.ml_grid.proofs.Columns.{in_column, of_column}
@@ -108,7 +108,7 @@ first_more cells i e = (
   ],
 )
 
-pub first_all : (cells : Cells) (n : ℕ) → cells.x0 ≤ℤ cells.x1 → n ≡ span_of cells.x0 cells.x1 → (e : Entry) → IsAmong cells e ↔ IsAmongFirst cells n e
+pub first_all : (cells : Cells) (n : ℕ) → cells.x0 ≤ℤ cells.x1 → n ≡ count_between cells.x0 cells.x1 → (e : Entry) → IsAmong cells e ↔ IsAmongFirst cells n e
 first_all cells n h is e = (
   λ k. let a = k.1.1 in (k.0, k.1.0, omega (arith, ints), k.1.2, k.1.3),
   λ k. let a = k.2 in (k.0, (k.1, omega (arith, ints), k.3, k.4)),
@@ -125,7 +125,7 @@ first_more_from cells s i e = (
   λ h. elim h [ inl before ↦ ((first_more cells i e).1 (inl before.0), before.1) | inr here ↦ ((first_more cells i e).1 (inr here.0), here.1) ],
 )
 
-pub first_all_from : (cells : Cells) (s : Ratio) (n : ℕ) → cells.x0 ≤ℤ cells.x1 → n ≡ span_of cells.x0 cells.x1 → (e : Entry) → IsAmongFrom cells s e ↔ IsAmongFirstFrom cells s n e
+pub first_all_from : (cells : Cells) (s : Ratio) (n : ℕ) → cells.x0 ≤ℤ cells.x1 → n ≡ count_between cells.x0 cells.x1 → (e : Entry) → IsAmongFrom cells s e ↔ IsAmongFirstFrom cells s n e
 first_all_from cells s n h is e = (λ k. ((first_all cells n h is e).0 k.0, k.1), λ k. ((first_all cells n h is e).1 k.0, k.1))
 
 -- ---- whether there is one at all
@@ -143,8 +143,8 @@ lacks_more cells s i entries before here h =
       | inr one ↦ here (h.0, h.1, one)
     ]
 
-pub has_here : (cells : Cells) (s : Ratio) (i n : ℕ) (entries : List Entry) → i < n → cells.x0 ≤ℤ cells.x1 → n ≡ span_of cells.x0 cells.x1 → HasEntry (IsInColumnFrom cells (cells.x0 +ℤ pos i) s) entries → HasEntry (IsAmongFrom cells s) entries
+pub has_here : (cells : Cells) (s : Ratio) (i n : ℕ) (entries : List Entry) → i < n → cells.x0 ≤ℤ cells.x1 → n ≡ count_between cells.x0 cells.x1 → HasEntry (IsInColumnFrom cells (cells.x0 +ℤ pos i) s) entries → HasEntry (IsAmongFrom cells s) entries
 has_here cells s i n entries low some is h = (h.0, h.1, (first_all_from cells s n some is h.0).1 (first_upto cells s (i + 1) n h.0 (omega arith) ((first_more_from cells s i h.0).1 (inr h.2))))
 
-pub lacks_all_from : (cells : Cells) (s : Ratio) (n : ℕ) (entries : List Entry) → cells.x0 ≤ℤ cells.x1 → n ≡ span_of cells.x0 cells.x1 → ¬ (HasEntry (IsAmongFirstFrom cells s n) entries) → ¬ (HasEntry (IsAmongFrom cells s) entries)
+pub lacks_all_from : (cells : Cells) (s : Ratio) (n : ℕ) (entries : List Entry) → cells.x0 ≤ℤ cells.x1 → n ≡ count_between cells.x0 cells.x1 → ¬ (HasEntry (IsAmongFirstFrom cells s n) entries) → ¬ (HasEntry (IsAmongFrom cells s) entries)
 lacks_all_from cells s n entries some is none h = none (h.0, h.1, (first_all_from cells s n some is h.0).0 h.2)

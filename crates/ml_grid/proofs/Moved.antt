@@ -8,7 +8,7 @@ use Rattle.ml_cone.specs.declared.cells.Cells.{Cells}
 use Rattle.ml_cone.specs.declared.label.Label.{Label}
 use Rattle.ml_grid.specs.Count.{cell_in}
 use Rattle.ml_grid.specs.Entry.{Entry, Replaces, IsEntryOf, AreEntriesOf}
-use Rattle.ml_grid.specs.Placed.{IsPlaced}
+use Rattle.ml_grid.specs.Placed.{IsEntryAmong}
 use Rattle.ml_grid.proofs.Places.{place_once}
 
 pub replaces_none : (P Q : Entry → Type 0) (a : List Entry) → ((e : Entry) → ¬ (P e)) → ((e : Entry) → ¬ (Q e)) → Replaces P Q a a
@@ -47,7 +47,7 @@ replaces_same P Q R S a b h r s e = (
 )
 
 -- the next cell's entry is not among those of the cells before, whatever their ends
-pub other_cell : (number : ℕ) (from to : Ratio) (cells : Cells) (n : ℕ) (e : Entry) → IsPlaced number to cells n e → ¬ (e ≡ entry_of (cell_in cells n) from number)
+pub other_cell : (number : ℕ) (from to : Ratio) (cells : Cells) (n : ℕ) (e : Entry) → IsEntryAmong number to cells n e → ¬ (e ≡ entry_of (cell_in cells n) from number)
 other_cell number from to cells n e h is =
     let same : n ≡ h.0 = place_once cells n h.0 (ap (λ (d : Entry). d.key) (sym is ∙ h.2)) in
     let m = h.1 in omega arith

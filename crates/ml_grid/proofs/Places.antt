@@ -6,16 +6,16 @@ use Rattle.std.specs.Int.RustNames.{unsigned_abs}
 use Rattle.ml_cone.specs.Cells.{IsAmongCells}
 use Rattle.ml_cone.specs.declared.cells.Cells.{Cells}
 use Rattle.ml_grid.specs.Cell.{same_cell}
-use Rattle.ml_grid.specs.Count.{span_of, cell_count, cell_in}
+use Rattle.ml_grid.specs.Count.{count_between, cell_count, cell_in}
 use Rattle.ml_grid.specs.declared.cell.Cell.{Cell}
 
 span_is : (c x : ℤ) → c ≤ℤ x → (c +ℤ pos (unsigned_abs (x -ℤ c))) ≡ x
 span_is c x h = omega (arith, ints)
 
-span_less : (c x d : ℤ) → c ≤ℤ x → x ≤ℤ d → unsigned_abs (x -ℤ c) < span_of c d
+span_less : (c x d : ℤ) → c ≤ℤ x → x ≤ℤ d → unsigned_abs (x -ℤ c) < count_between c d
 span_less c x d h i = omega (arith, ints)
 
-pub span_in : (c d : ℤ) (n : ℕ) → c ≤ℤ d → n < span_of c d → (c ≤ℤ (c +ℤ pos n)) × ((c +ℤ pos n) ≤ℤ d)
+pub span_in : (c d : ℤ) (n : ℕ) → c ≤ℤ d → n < count_between c d → (c ≤ℤ (c +ℤ pos n)) × ((c +ℤ pos n) ≤ℤ d)
 span_in c d n h i = (omega (arith, ints), omega (arith, ints))
 
 span_one : (c : ℤ) (m n : ℕ) → (c +ℤ pos m) ≡ (c +ℤ pos n) → m ≡ n
@@ -24,19 +24,19 @@ span_one c m n e = omega (arith, ints)
 -- the cell at a place is among the cells
 pub among_at : (cells : Cells) → cells.x0 ≤ℤ cells.x1 → cells.y0 ≤ℤ cells.y1 → (i : ℕ) → i < cell_count cells → IsAmongCells cells (cell_in cells i).x (cell_in cells i).y
 among_at cells h k i low =
-    let rows = span_of cells.y0 cells.y1 in
-    let x = span_in cells.x0 cells.x1 (i / rows) h (div_below i rows (span_of cells.x0 cells.x1) (omega arith) low) in
+    let rows = count_between cells.y0 cells.y1 in
+    let x = span_in cells.x0 cells.x1 (i / rows) h (div_below i rows (count_between cells.x0 cells.x1) (omega arith) low) in
     let y = span_in cells.y0 cells.y1 (i % rows) k (mod_below i rows (omega arith)) in
     (x.0, x.1, y.0, y.1)
 
 -- each cell has a place
 pub place_of_cell : (cells : Cells) (x y : ℤ) → IsAmongCells cells x y → (i : ℕ) × (i < cell_count cells) × (cell_in cells i ≡ (record { band = cells.band; x = x; y = y }))
 place_of_cell cells x y among =
-    let rows = span_of cells.y0 cells.y1 in
+    let rows = count_between cells.y0 cells.y1 in
     let p = unsigned_abs (x -ℤ cells.x0) in
     let q = unsigned_abs (y -ℤ cells.y0) in
     let q_low : q < rows = span_less cells.y0 y cells.y1 among.2 among.3 in
-    let low : p * rows + q < rows * span_of cells.x0 cells.x1 = mul-add-lt p rows q (span_of cells.x0 cells.x1) (span_less cells.x0 x cells.x1 among.0 among.1) q_low in
+    let low : p * rows + q < rows * count_between cells.x0 cells.x1 = mul-add-lt p rows q (count_between cells.x0 cells.x1) (span_less cells.x0 x cells.x1 among.0 among.1) q_low in
     let at_x : (cells.x0 +ℤ pos ((p * rows + q) / rows)) ≡ x = ap (λ (n : ℕ). cells.x0 +ℤ pos n) (div-mul-add p rows q q_low) ∙ span_is cells.x0 x among.0 in
     let at_y : (cells.y0 +ℤ pos ((p * rows + q) % rows)) ≡ y = ap (λ (n : ℕ). cells.y0 +ℤ pos n) (mod-mul-add p rows q q_low) ∙ span_is cells.y0 y among.2 in
     (p * rows + q, (omega arith), same_cell _ _ _ _ _ _ refl at_x at_y)
@@ -44,7 +44,7 @@ place_of_cell cells x y among =
 -- two places with one cell are one
 pub place_once : (cells : Cells) (i j : ℕ) → cell_in cells i ≡ cell_in cells j → i ≡ j
 place_once cells i j e =
-    let rows = span_of cells.y0 cells.y1 in
+    let rows = count_between cells.y0 cells.y1 in
     let x = span_one cells.x0 (i / rows) (j / rows) (ap (λ (c : Cell). c.x) e) in
     let y = span_one cells.y0 (i % rows) (j % rows) (ap (λ (c : Cell). c.y) e) in
     sym (div-add-mod' i rows) ∙ (ap (λ (n : ℕ). n * rows + i % rows) x ∙ ap (λ (n : ℕ). j / rows * rows + n) y) ∙ div-add-mod' j rows

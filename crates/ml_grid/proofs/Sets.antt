@@ -15,8 +15,8 @@ use Rattle.ml_cone.specs.declared.label.Label.{Label}
 use Rattle.ml_grid.specs.Cell.{same_cell}
 use Rattle.ml_grid.proofs.Sums.{meets_of, of_meets}
 use Rattle.ml_grid.specs.Count.{cell_in, cell_count, meets_band}
-use Rattle.ml_grid.specs.Entry.{Entry, Adds, Drops, IsEntryOf, IsFree, AreEntriesOf}
-use Rattle.ml_grid.specs.Placed.{IsPlaced, IsEntryAt}
+use Rattle.ml_grid.specs.Entry.{Entry, Adds, LosesEntries, IsEntryOf, IsFree, AreEntriesOf}
+use Rattle.ml_grid.specs.Placed.{IsEntryAmong, IsEntryAt}
 use Rattle.ml_grid.proofs.Partial.{IsEntryBelow}
 use Rattle.ml_grid.specs.declared.cell.Cell.{Cell}
 use Rattle.ml_grid.proofs.Places.{place_once, among_at, place_of_cell}
@@ -45,10 +45,10 @@ adds_same P Q a b h r e = (
   λ old. elim old [ inl in_a ↦ (h e).1 (inl in_a) | inr some ↦ (h e).1 (inr ((r e).0 some)) ],
 )
 
-pub drops_none : (P : Entry → Type 0) (a : List Entry) → ((e : Entry) → ¬ (P e)) → Drops P a a
+pub drops_none : (P : Entry → Type 0) (a : List Entry) → ((e : Entry) → ¬ (P e)) → LosesEntries P a a
 drops_none P a none e = (λ h. (h, none e), λ h. h.0)
 
-pub drops_both : (P Q R : Entry → Type 0) (a b c : List Entry) → Drops P a b → Drops Q b c → ((e : Entry) → R e ↔ (P e ⊎ Q e)) → Drops R a c
+pub drops_both : (P Q R : Entry → Type 0) (a b c : List Entry) → LosesEntries P a b → LosesEntries Q b c → ((e : Entry) → R e ↔ (P e ⊎ Q e)) → LosesEntries R a c
 drops_both P Q R a b c h k r e = (
   λ left.
       let in_b = (k e).0 left in
@@ -57,16 +57,16 @@ drops_both P Q R a b c h k r e = (
   λ old. (k e).1 ((h e).1 (old.0, λ first. old.1 ((r e).1 (inl first))), λ second. old.1 ((r e).1 (inr second))),
 )
 
-pub drops_same : (P Q : Entry → Type 0) (a b : List Entry) → Drops P a b → ((e : Entry) → Q e ↔ P e) → Drops Q a b
+pub drops_same : (P Q : Entry → Type 0) (a b : List Entry) → LosesEntries P a b → ((e : Entry) → Q e ↔ P e) → LosesEntries Q a b
 drops_same P Q a b h r e =
     (λ left. let in_a = (h e).0 left in (in_a.0, λ some. in_a.1 ((r e).0 some)), λ old. (h e).1 (old.0, λ some. old.1 ((r e).1 some)))
 
 -- ---- the entries of a hull's cells
 
-pub none_placed : (number : ℕ) (until : Ratio) (cells : Cells) (e : Entry) → ¬ (IsPlaced number until cells 0 e)
+pub none_placed : (number : ℕ) (until : Ratio) (cells : Cells) (e : Entry) → ¬ (IsEntryAmong number until cells 0 e)
 none_placed number until cells e h = let m = h.1 in omega arith
 
-pub placed_more : (number : ℕ) (until : Ratio) (cells : Cells) (n : ℕ) (c : Cell) → c ≡ cell_in cells n → (e : Entry) → IsPlaced number until cells (n + 1) e ↔ (IsPlaced number until cells n e ⊎ (e ≡ (entry_of c until number)))
+pub placed_more : (number : ℕ) (until : Ratio) (cells : Cells) (n : ℕ) (c : Cell) → c ≡ cell_in cells n → (e : Entry) → IsEntryAmong number until cells (n + 1) e ↔ (IsEntryAmong number until cells n e ⊎ (e ≡ (entry_of c until number)))
 placed_more number until cells n c is e = (
   λ h. elim (cases_lt h.0 n) [
     | inl less ↦ inl (h.0, less, h.2)
@@ -79,7 +79,7 @@ placed_more number until cells n c is e = (
 )
 
 -- the next cell's entry is not among those before
-pub not_placed : (number : ℕ) (until : Ratio) (cells : Cells) (n : ℕ) → ¬ (IsPlaced number until cells n (entry_of (cell_in cells n) until number))
+pub not_placed : (number : ℕ) (until : Ratio) (cells : Cells) (n : ℕ) → ¬ (IsEntryAmong number until cells n (entry_of (cell_in cells n) until number))
 not_placed number until cells n h =
     let same : n ≡ h.0 = place_once cells n h.0 (ap (λ (e : Entry). e.key) h.2) in
     let m = h.1 in omega arith
@@ -98,7 +98,7 @@ abbrev pub HasFewCells : Label → ℕ → Type 0
 HasFewCells a k = AreFew (hull_of a k).x0 (hull_of a k).x1 × AreFew (hull_of a k).y0 (hull_of a k).y1
 
 -- what is placed in the hull of band k is the label's
-pub placed_is_entry : ((a : Label) (k : ℕ) → HasFewCells a k) → (number : ℕ) (a : Label) (until : Ratio) (k : ℕ) → k < 28 → MeetsBand k (value_of a.min) (value_of a.max) → (e : Entry) → IsPlaced number until (hull_of a k) (cell_count (hull_of a k)) e → IsEntryOf number a until e × (e.key.band ≡ k)
+pub placed_is_entry : ((a : Label) (k : ℕ) → HasFewCells a k) → (number : ℕ) (a : Label) (until : Ratio) (k : ℕ) → k < 28 → MeetsBand k (value_of a.min) (value_of a.max) → (e : Entry) → IsEntryAmong number until (hull_of a k) (cell_count (hull_of a k)) e → IsEntryOf number a until e × (e.key.band ≡ k)
 unfolding hull_of
 placed_is_entry few number a until k low meets e h =
     let among = among_at (hull_of a k) (few a k).0.0 (few a k).1.0 h.0 h.1 in
@@ -109,7 +109,7 @@ placed_is_entry few number a until k low meets e h =
     )
 
 -- and the label's entries in band k are placed there
-pub entry_is_placed : (number : ℕ) (a : Label) (until : Ratio) (k : ℕ) (e : Entry) → IsEntryOf number a until e → e.key.band ≡ k → IsPlaced number until (hull_of a k) (cell_count (hull_of a k)) e
+pub entry_is_placed : (number : ℕ) (a : Label) (until : Ratio) (k : ℕ) (e : Entry) → IsEntryOf number a until e → e.key.band ≡ k → IsEntryAmong number until (hull_of a k) (cell_count (hull_of a k)) e
 unfolding hull_of
 entry_is_placed number a until k e h is =
     let among : IsAmongCells (hull_of a k) e.key.x e.key.y = subst (λ (m : ℕ). IsAmongCells (hull_of a m) e.key.x e.key.y) is h.in_cell.among in
@@ -119,7 +119,7 @@ entry_is_placed number a until k e h is =
 
 -- the entries of band k are those placed in the hull there, where the band meets the label's range
 pub at_is_placed : ((a : Label) (k : ℕ) → HasFewCells a k) → (number : ℕ) (a : Label) (until : Ratio) (k : ℕ) → k < 28 → meets_band a k ≡ true → (e : Entry) →
-    IsEntryAt number a until k e ↔ IsPlaced number until (hull_of a k) (cell_count (hull_of a k)) e
+    IsEntryAt number a until k e ↔ IsEntryAmong number until (hull_of a k) (cell_count (hull_of a k)) e
 at_is_placed few number a until k low met e =
     (λ h. entry_is_placed number a until k e h.0 h.1, λ h. placed_is_entry few number a until k low (meets_of a k met) e h)
 

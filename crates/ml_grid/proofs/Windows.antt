@@ -10,7 +10,7 @@ use Rattle.ml_cone.specs.Cell.{ColumnInWindow}
 use Rattle.ml_ratio.proofs.lemmas.Rounding.{quotient_low, quotient_high, stretch_le, scaled_le, sum_scaled}
 use Rattle.ml_cone.specs.declared.cells.Cells.{Cells}
 use Rattle.ml_cone.specs.declared.view.View.{View}
-use Rattle.ml_grid.specs.Count.{AreUpToNine, span_of, cell_count}
+use Rattle.ml_grid.specs.Count.{AreUpToNine, count_between, cell_count}
 use Rattle.ml_grid.specs.Window.{HasFewCells}
 
 -- the columns from floor((m - h) / side) to floor((m + h - 1) / side) are those that the open stretch from m - h to m + h meets
@@ -75,12 +75,12 @@ window_few c w h k s e some low above below positive =
 
 -- ---- how many cells there are
 
-span_few : (c d : ℤ) (n : ℕ) → c ≤ℤ d → d ≤ℤ (c +ℤ pos n) → span_of c d ≤ n + 1
+span_few : (c d : ℤ) (n : ℕ) → c ≤ℤ d → d ≤ℤ (c +ℤ pos n) → count_between c d ≤ n + 1
 span_few c d n from until = omega (arith, ints)
 
 -- a rectangle of so many columns and rows
 pub cells_few : (cells : Cells) (n : ℕ) → cells.x0 ≤ℤ cells.x1 → cells.x1 ≤ℤ (cells.x0 +ℤ pos n) → cells.y0 ≤ℤ cells.y1 → cells.y1 ≤ℤ (cells.y0 +ℤ pos n) → cell_count cells ≤ (n + 1) * (n + 1)
-cells_few cells n a b c d = mul-le (span_of cells.x0 cells.x1) (span_of cells.y0 cells.y1) (n + 1) (n + 1) (span_few cells.x0 cells.x1 n a b) (span_few cells.y0 cells.y1 n c d)
+cells_few cells n a b c d = mul-le (count_between cells.x0 cells.x1) (count_between cells.y0 cells.y1) (n + 1) (n + 1) (span_few cells.x0 cells.x1 n a b) (span_few cells.y0 cells.y1 n c d)
 
 -- the first and the last column that a window meets
 first_of : ℤ → ℕ → ℕ → Fraction → ℤ

@@ -12,16 +12,16 @@ abbrev pub AreUpToNine : ℤ → ℤ → Type 0
 AreUpToNine c d = (c ≤ℤ d) × (d ≤ℤ (c +ℤ pos 8))
 
 -- how many columns, or rows, there are from c to d
-abbrev pub span_of : ℤ → ℤ → ℕ
-span_of c d = unsigned_abs (d -ℤ c) + 1
+abbrev pub count_between : ℤ → ℤ → ℕ
+count_between c d = unsigned_abs (d -ℤ c) + 1
 
 -- how many cells there are
 abbrev pub cell_count : Cells → ℕ
-cell_count cells = span_of cells.x0 cells.x1 * span_of cells.y0 cells.y1
+cell_count cells = count_between cells.x0 cells.x1 * count_between cells.y0 cells.y1
 
 -- the i-th of the cells, column by column
 abbrev pub cell_in : Cells → ℕ → Cell
-cell_in cells i = record { band = cells.band; x = cells.x0 +ℤ pos (i / span_of cells.y0 cells.y1); y = cells.y0 +ℤ pos (i % span_of cells.y0 cells.y1) }
+cell_in cells i = record { band = cells.band; x = cells.x0 +ℤ pos (i / count_between cells.y0 cells.y1); y = cells.y0 +ℤ pos (i % count_between cells.y0 cells.y1) }
 
 -- whether band k meets the label's selectable range, both ends counted in
 unfoldable pub meets_band : Label → ℕ → Bool

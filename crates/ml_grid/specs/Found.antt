@@ -31,8 +31,8 @@ pub record AreFirst (P : Entry → Type 0) (entries : List Entry) (numbers : Lis
   pub first : (n m : ℕ) → IsNumberOf P entries n → n < m → Contains numbers m → Contains numbers n
 
 -- the numbers of the entries with the property were appended
-abbrev pub Appends : (Entry → Type 0) → List Entry → List ℕ → List ℕ → Type 0
-Appends P entries before after = (numbers : List ℕ) × (after ≡ before ++ numbers) × AreNumbers P entries numbers
+abbrev pub AppendsNumbers : (Entry → Type 0) → List Entry → List ℕ → List ℕ → Type 0
+AppendsNumbers P entries before after = (numbers : List ℕ) × (after ≡ before ++ numbers) × AreNumbers P entries numbers
 
 -- the first of them were appended
 abbrev pub AppendsFirst : (Entry → Type 0) → List Entry → List ℕ → List ℕ → Type 0

@@ -7,8 +7,8 @@ use Rattle.ml_grid.specs.Entry.{Entry, IsEntryOf}
 use Rattle.ml_cone.specs.declared.label.Label.{Label}
 
 -- the entry is one of the first n of the cells, with this number and this end
-abbrev pub IsPlaced : ℕ → Ratio → Cells → ℕ → Entry → Type 0
-IsPlaced number until cells n e = (i : ℕ) × (i < n) × (e ≡ (entry_of (cell_in cells i) until number))
+abbrev pub IsEntryAmong : ℕ → Ratio → Cells → ℕ → Entry → Type 0
+IsEntryAmong number until cells n e = (i : ℕ) × (i < n) × (e ≡ (entry_of (cell_in cells i) until number))
 
 -- the entry is one of the label's in band k
 abbrev pub IsEntryAt : ℕ → Label → Ratio → ℕ → Entry → Type 0

@@ -1,6 +1,6 @@
 //! In which bands a label is kept, and in how many cells.
 ghost use Rattle.std.specs.Prelude.{◌≡◌, ◌≤◌, ◌<◌, ◌*◌, ◌+◌, ◌^◌, pos, ◌+ℤ◌, ◌≤ℤ◌};
-ghost use Rattle.ml_grid.specs.Count.{meets_band, AreUpToNine, span_of, cell_count, cell_in, band_count, entry_count};
+ghost use Rattle.ml_grid.specs.Count.{meets_band, AreUpToNine, count_between, cell_count, cell_in, band_count, entry_count};
 
 use crate::cell::Cell;
 use ml_cone::{Cells, Label, hull};
@@ -24,7 +24,7 @@ pub fn is_kept(label: &Label, band: u8) -> bool
 /// How many columns, or rows, there are from `from` to `until`.
 pub fn span_len(from: i64, until: i64) -> usize
     requires few { AreUpToNine from until }
-    ensures len { result ≡ span_of from until }
+    ensures len { result ≡ count_between from until }
     ensures few { result < 10 }
 {
     (until - from) as usize + 1

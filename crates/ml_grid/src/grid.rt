@@ -7,8 +7,8 @@ ghost use Rattle.ml_ratio.specs.RatioOrder.{ratio_cmp};
 ghost use Rattle.ml_spans.specs.Order.{entry_order, IsRising};
 ghost use Rattle.ml_grid.specs.Cell.{cell_cmp};
 ghost use Rattle.ml_grid.specs.Count.{AreUpToNine, entry_count};
-ghost use Rattle.ml_grid.specs.Entry.{IsEntryOf, Adds, Drops, Replaces, IsFree, AreEntriesOf};
-ghost use Rattle.ml_grid.specs.Found.{Appends, AppendsFirst, IsInHull, IsNumberOf, HasEntry, IsSeen};
+ghost use Rattle.ml_grid.specs.Entry.{IsEntryOf, Adds, LosesEntries, Replaces, IsFree, AreEntriesOf};
+ghost use Rattle.ml_grid.specs.Found.{AppendsNumbers, AppendsFirst, IsInHull, IsNumberOf, HasEntry, IsSeen};
 ghost use Rattle.ml_grid.specs.Column.{IsAmongFrom};
 
 use crate::bands::entries_of;
@@ -124,7 +124,7 @@ impl Grid {
     pub fn drop_label(&mut self, number: u32, label: &Label, span: &Span)
         requires begins { span.now.min ≡ label.now.min }
         requires its { AreEntriesOf number label.now span.now.until self.old.entries }
-        ensures entries { Drops (IsEntryOf number label.now span.now.until) self.old.entries self.new.entries }
+        ensures entries { LosesEntries (IsEntryOf number label.now span.now.until) self.old.entries self.new.entries }
         ensures spare { self.new.spare ≡ self.old.spare + entry_count label.now }
     {
         drop_all(&mut self.tree, number, span.until, label);
@@ -140,14 +140,14 @@ impl Grid {
         move_all(&mut self.tree, number, label, from, to);
     }
 
-    /// Appends the numbers that have an entry in the band in a cell of the label's hull there, ascending
+    /// AppendsNumbers the numbers that have an entry in the band in a cell of the label's hull there, ascending
     /// and each once. The band is at most 27. The label itself need not be in the grid.
     ///
     /// # Errors
     /// Want of memory; the first of them were appended.
     pub fn near(&self, label: &Label, band: u8, out: &mut Seq<u32>) -> Result<(), AllocError>
         requires { band ≤ 27 }
-        ensures ok { OnOk result (Appends (IsInHull label.now band) self.now.entries out.old out.new) }
+        ensures ok { OnOk result (AppendsNumbers (IsInHull label.now band) self.now.entries out.old out.new) }
         ensures err { OnErr result (AppendsFirst (IsInHull label.now band) self.now.entries out.old out.new) }
     {
         let mut found = out.emptied();
@@ -183,7 +183,7 @@ impl Grid {
         has_in_cells(&self.tree, cells, scale)
     }
 
-    /// Appends the numbers that have an entry in the band of the view's scale, in a cell whose square meets
+    /// AppendsNumbers the numbers that have an entry in the band of the view's scale, in a cell whose square meets
     /// the window (lower sides counted in, upper sides left out), with an end of at least that scale;
     /// ascending and each once. It spends a step for each number appended.
     ///
@@ -195,7 +195,7 @@ impl Grid {
         out: &mut Seq<u32>,
         looks: &mut Steps<L>,
     ) -> Result<(), AllocError>
-        ensures ok { OnOk result (Appends (IsSeen view.now) self.now.entries out.old out.new) }
+        ensures ok { OnOk result (AppendsNumbers (IsSeen view.now) self.now.entries out.old out.new) }
         ensures err { OnErr result (AppendsFirst (IsSeen view.now) self.now.entries out.old out.new) }
         ensures spent { looks.new + length out.old ≡ looks.old + length out.new }
     {

@@ -2,8 +2,8 @@
 ghost use Rattle.std.specs.Prelude.{ℕ, ◌≡◌, ◌+◌, ◌<◌, ◌≤◌, ◌≤ℤ◌, ◌↔◌, Contains};
 ghost use Rattle.ml_ratio.specs.declared.ratio.Ratio.{Ratio};
 ghost use Rattle.ml_grid.specs.Count.{AreUpToNine, cell_count, cell_in, band_count, entry_count};
-ghost use Rattle.ml_grid.specs.Entry.{Entry, IsEntryOf, Adds, Drops, Replaces, IsFree, AreEntriesOf};
-ghost use Rattle.ml_grid.specs.Placed.{IsPlaced, IsEntryAt};
+ghost use Rattle.ml_grid.specs.Entry.{Entry, IsEntryOf, Adds, LosesEntries, Replaces, IsFree, AreEntriesOf};
+ghost use Rattle.ml_grid.specs.Placed.{IsEntryAmong, IsEntryAt};
 ghost use Rattle.ml_spans.specs.Spans.{entry_of};
 
 use crate::bands::{BANDS, cell_at, cells_of, is_kept};
@@ -32,7 +32,7 @@ fn add_cells(tree: &mut Tree, number: u32, until: Ratio, cells: &Cells)
     requires few_rows { AreUpToNine cells.now.y0 cells.now.y1 }
     requires room { cell_count cells.now ≤ tree.old.spare }
     requires new { (i : ℕ) → i < cell_count cells.now → ¬ (Contains tree.old.entries (entry_of (cell_in cells.now i) until number)) }
-    ensures entries { Adds (IsPlaced number until cells.now (cell_count cells.now)) tree.old.entries tree.new.entries }
+    ensures entries { Adds (IsEntryAmong number until cells.now (cell_count cells.now)) tree.old.entries tree.new.entries }
     ensures spare { tree.new.spare + cell_count cells.now ≡ tree.old.spare }
 {
     for i in 0..cells_of(cells) {
@@ -43,7 +43,7 @@ fn add_cells(tree: &mut Tree, number: u32, until: Ratio, cells: &Cells)
 // Takes out an entry that is there.
 fn take_out(tree: &mut Tree, number: u32, until: Ratio, cell: Cell)
     requires there { Contains tree.old.entries (entry_of cell until number) }
-    ensures entries { Drops (λ e. e ≡ entry_of cell until number) tree.old.entries tree.new.entries }
+    ensures entries { LosesEntries (λ e. e ≡ entry_of cell until number) tree.old.entries tree.new.entries }
     ensures spare { tree.new.spare ≡ tree.old.spare + 1 }
 {
     let _there = tree.remove(&cell, &until, &number);
@@ -54,7 +54,7 @@ fn drop_cells(tree: &mut Tree, number: u32, until: Ratio, cells: &Cells)
     requires few_columns { AreUpToNine cells.now.x0 cells.now.x1 }
     requires few_rows { AreUpToNine cells.now.y0 cells.now.y1 }
     requires there { (i : ℕ) → i < cell_count cells.now → Contains tree.old.entries (entry_of (cell_in cells.now i) until number) }
-    ensures entries { Drops (IsPlaced number until cells.now (cell_count cells.now)) tree.old.entries tree.new.entries }
+    ensures entries { LosesEntries (IsEntryAmong number until cells.now (cell_count cells.now)) tree.old.entries tree.new.entries }
     ensures spare { tree.new.spare ≡ tree.old.spare + cell_count cells.now }
 {
     for i in 0..cells_of(cells) {
@@ -80,7 +80,7 @@ fn add_band(tree: &mut Tree, number: u32, until: Ratio, label: &Label, band: u8)
 fn drop_band(tree: &mut Tree, number: u32, until: Ratio, label: &Label, band: u8)
     requires low { band < 28 }
     requires there { (e : Entry) → IsEntryAt number label.now until band e → Contains tree.old.entries e }
-    ensures entries { Drops (IsEntryAt number label.now until band) tree.old.entries tree.new.entries }
+    ensures entries { LosesEntries (IsEntryAt number label.now until band) tree.old.entries tree.new.entries }
     ensures spare { tree.new.spare ≡ tree.old.spare + band_count label.now band }
 {
     if is_kept(label, band) {
@@ -104,7 +104,7 @@ pub fn add_all(tree: &mut Tree, number: u32, until: Ratio, label: &Label)
 /// Takes out the entries of a label, which are those with its number.
 pub fn drop_all(tree: &mut Tree, number: u32, until: Ratio, label: &Label)
     requires its { AreEntriesOf number label.now until tree.old.entries }
-    ensures entries { Drops (IsEntryOf number label.now until) tree.old.entries tree.new.entries }
+    ensures entries { LosesEntries (IsEntryOf number label.now until) tree.old.entries tree.new.entries }
     ensures spare { tree.new.spare ≡ tree.old.spare + entry_count label.now }
 {
     for band in 0..BANDS {
@@ -126,7 +126,7 @@ fn move_cells(tree: &mut Tree, number: u32, from: &Ratio, to: &Ratio, cells: &Ce
     requires few_columns { AreUpToNine cells.now.x0 cells.now.x1 }
     requires few_rows { AreUpToNine cells.now.y0 cells.now.y1 }
     requires its { (i : ℕ) → i < cell_count cells.now → (until : Ratio) → Contains tree.old.entries (entry_of (cell_in cells.now i) until number) ↔ (until ≡ from.now) }
-    ensures entries { Replaces (IsPlaced number from.now cells.now (cell_count cells.now)) (IsPlaced number to.now cells.now (cell_count cells.now)) tree.old.entries tree.new.entries }
+    ensures entries { Replaces (IsEntryAmong number from.now cells.now (cell_count cells.now)) (IsEntryAmong number to.now cells.now (cell_count cells.now)) tree.old.entries tree.new.entries }
     ensures spare { tree.new.spare ≡ tree.old.spare }
 {
     for i in 0..cells_of(cells) {

@@ -7,7 +7,7 @@ ghost use Rattle.ml_cone.specs.Choice.{ActiveUntil, IsEnd};
 ghost use Rattle.ml_cone.specs.Shown.{IsInView};
 ghost use Rattle.ml_cone.specs.declared.label.Label.{Label};
 ghost use Rattle.ml_cone.specs.declared.view.View.{View};
-ghost use Rattle.ml_grid.specs.Entry.{Entry, IsEntryOf, Adds, Drops, Replaces, IsFree, AreEntriesOf};
+ghost use Rattle.ml_grid.specs.Entry.{Entry, IsEntryOf, Adds, LosesEntries, Replaces, IsFree, AreEntriesOf};
 ghost use Rattle.ml_ratio.specs.Band.{IsInBand};
 ghost use Rattle.ml_grid.specs.Count.{AreCounted, entry_count};
 ghost use Rattle.ml_grid.specs.Window.{HasFewCells};

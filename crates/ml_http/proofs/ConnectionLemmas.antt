@@ -9,7 +9,7 @@ use Rattle.ml_http.specs.declared.connection_end.ConnEnd.TheVariants.{Shut, Star
 use Rattle.ml_http.specs.declared.connection_end.Turn.{Turn}
 use Rattle.ml_http.specs.declared.connection_end.Turn.TheVariants.{Open, Over}
 use Rattle.ml_http.specs.Stream.{BeginsWith, HasNoEvent, closes, Reads, AreFirstEvents}
-use Rattle.ml_http.specs.Connection.{memory_reply, brought, IsCut, Exchange, IsEnd, IsServed, IsOpenTurn, IsTurn, IsReply, IsStarved}
+use Rattle.ml_http.specs.Connection.{memory_reply, brought, IsCut, Exchange, IsConnEnd, IsServed, IsOpenTurn, IsTurn, IsReply, IsStarved}
 use Rattle.ml_http.proofs.StreamLemmas.{event_grows}
 use Rattle.ml_http.proofs.TakesLemmas.{takes_nothing, takes_twice, appends_nothing, appends_twice}
 
@@ -96,7 +96,7 @@ all_bytes a b c held taken rest takes later = ap (λ xs. held ++ xs) (brought_st
 -- the end of a connection after one more turn before it
 end_after : {A : Type 0} (text : A → List ℕ) (left : ℕ) (held held_after taken : List ℕ) (event : Event) (answer : A) (x : Exchange A) (a b c u v w : Option (List ℕ)) (end : ConnEnd) →
     0 < left → Draws a b taken → Draws b c x.taken → BeginsWith (left == 1) (held ++ taken) event held_after → closes event ≡ false → Appends u v (text answer) →
-    IsEnd text (left - 1) held_after x b c v w end → IsEnd text left held (after_turn taken event answer x) a c u w end
+    IsConnEnd text (left - 1) held_after x b c v w end → IsConnEnd text left held (after_turn taken event answer x) a c u w end
 end_after text left held held_after taken event answer x a b c u v w Closed some takes more begins stays wrote is = (
   reads_turn HasNoEvent left (held ++ taken) (brought b x.taken) held_after _ event x.events begins stays (all_bytes a b c held taken x.taken takes more) is.0,
   omega (arith, is.1),

@@ -9,10 +9,10 @@ use Rattle.ml_http.specs.declared.connection_end.ConnEnd.TheVariants.{Shut, Star
 use Rattle.ml_http.specs.Run.{Run}
 use Rattle.ml_http.specs.Connection.{IsServed, IsLeft}
 use Rattle.ml_http.specs.Step.{LinkAnswer, MapStep}
-use Rattle.ml_http.specs.Link.{LinkState, LinkStep, LinkIdles, IsSpent, IsLinkServed, AreTexts}
+use Rattle.ml_http.specs.Link.{LinkState, LinkStep, LinkIdles, IsSpent, IsLinkServed, AreTexts, HoldsTexts}
 use Rattle.ml_http.specs.TileWork.{IsDoneTo}
 use Rattle.ml_editor.specs.State.{State}
-use Rattle.ml_tile.specs.Cache.{Cache}
+use Rattle.ml_tile.specs.Cache.{Cache, HeldTile}
 
 -- watchers that were told nothing are as they were, and those that were told twice were told all
 module _ {W : Type 0} (hearing : W → Hearing)
@@ -64,27 +64,31 @@ link_served hearing nothing twice old new a b u w end served = record {
 pub idles : {W : Type 0} (s : LinkState W) → LinkIdles s s
 idles s = record { map_state = refl; crowd = refl; tiles = refl }
 
+-- bodies of tiles that are right are so of the same map and the same tiles
+pub same_texts : (s t : State) (old new : List HeldTile) → s ≡ t → old ≡ new → AreTexts s old → AreTexts t new
+same_texts s t old new map tiles texts = subst (AreTexts t) tiles (subst (λ z. AreTexts z old) map texts)
+
 -- the bodies of tiles stay right over answers, and so over a whole connection
 module _ (right : (s t : State) (event : Event) (answer : LinkAnswer) (old new : Cache) → MapStep s event answer t → IsDoneTo answer.work answer.changes old new → AreTexts s old.tiles → AreTexts t new.tiles) where
-  pub texts_stay : {W : Type 0} (hearing : W → Hearing) (old new : LinkState W) (event : Event) (answer : LinkAnswer) → LinkStep hearing old event answer new → AreTexts old.map_state old.tiles.tiles → AreTexts new.map_state new.tiles.tiles
-  texts_stay hearing old new event answer step texts = right old.map_state new.map_state event answer old.tiles new.tiles step.step step.done texts
+  pub texts_stay : {W : Type 0} (hearing : W → Hearing) (old new : LinkState W) (event : Event) (answer : LinkAnswer) → LinkStep hearing old event answer new → HoldsTexts old → HoldsTexts new
+  texts_stay hearing old new event answer step texts = right old.map_state new.map_state event answer old.tiles new.tiles step.by_rule step.done texts
 
-  texts_run : {W : Type 0} (hearing : W → Hearing) (old last : LinkState W) (events : List Event) (answers : List LinkAnswer) → Run (LinkStep hearing) old events answers last → AreTexts old.map_state old.tiles.tiles → AreTexts last.map_state last.tiles.tiles
-  texts_run hearing old last [] [] run texts = subst (λ s. AreTexts s.map_state s.tiles.tiles) (sym run) texts
+  texts_run : {W : Type 0} (hearing : W → Hearing) (old last : LinkState W) (events : List Event) (answers : List LinkAnswer) → Run (LinkStep hearing) old events answers last → HoldsTexts old → HoldsTexts last
+  texts_run hearing old last [] [] run texts = subst HoldsTexts (sym run) texts
   texts_run hearing old last [] (a ∷ answers) run texts = absurd run
   texts_run hearing old last (e ∷ events) [] run texts = absurd run
   texts_run hearing old last (e ∷ events) (a ∷ answers) run texts = texts_run hearing run.0 last events answers run.2 (texts_stay hearing old run.0 e a run.1 texts)
 
-  idle_texts : {W : Type 0} (last new : LinkState W) → LinkIdles last new → AreTexts last.map_state last.tiles.tiles → AreTexts new.map_state new.tiles.tiles
+  idle_texts : {W : Type 0} (last new : LinkState W) → LinkIdles last new → HoldsTexts last → HoldsTexts new
   idle_texts last new idle texts = subst (λ c. AreTexts new.map_state c.tiles) (sym idle.tiles) (subst (λ s. AreTexts s last.tiles.tiles) (sym idle.map_state) texts)
 
-  texts_left : {W : Type 0} (end : ConnEnd) (last new : LinkState W) → IsLeft LinkIdles end last new → AreTexts last.map_state last.tiles.tiles → AreTexts new.map_state new.tiles.tiles
-  texts_left Closed last new left texts = subst (λ s. AreTexts s.map_state s.tiles.tiles) (sym left) texts
-  texts_left Shut last new left texts = subst (λ s. AreTexts s.map_state s.tiles.tiles) (sym left) texts
-  texts_left ReadFault last new left texts = subst (λ s. AreTexts s.map_state s.tiles.tiles) (sym left) texts
+  texts_left : {W : Type 0} (end : ConnEnd) (last new : LinkState W) → IsLeft LinkIdles end last new → HoldsTexts last → HoldsTexts new
+  texts_left Closed last new left texts = subst HoldsTexts (sym left) texts
+  texts_left Shut last new left texts = subst HoldsTexts (sym left) texts
+  texts_left ReadFault last new left texts = subst HoldsTexts (sym left) texts
   texts_left Starved last new left texts = idle_texts last new left texts
-  texts_left WriteFault last new (inl left) texts = subst (λ s. AreTexts s.map_state s.tiles.tiles) (sym left) texts
+  texts_left WriteFault last new (inl left) texts = subst HoldsTexts (sym left) texts
   texts_left WriteFault last new (inr left) texts = idle_texts last new left texts
 
-  pub texts_served : {W : Type 0} (hearing : W → Hearing) (old new : LinkState W) (a b u w : Option (List ℕ)) (end : ConnEnd) → IsServed (LinkStep hearing) LinkIdles (λ x. x.reply) 1000 [] old new a b u w end → AreTexts old.map_state old.tiles.tiles → AreTexts new.map_state new.tiles.tiles
+  pub texts_served : {W : Type 0} (hearing : W → Hearing) (old new : LinkState W) (a b u w : Option (List ℕ)) (end : ConnEnd) → IsServed (LinkStep hearing) LinkIdles (λ x. x.reply) 1000 [] old new a b u w end → HoldsTexts old → HoldsTexts new
   texts_served hearing old new a b u w end served texts = texts_left end served.last new served.leaves (texts_run hearing old served.last served.exchange.events served.exchange.answers served.run texts)

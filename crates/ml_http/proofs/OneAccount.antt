@@ -9,13 +9,13 @@ use Rattle.ml_editor.specs.State.{State, IsState, step}
 use Rattle.ml_editor.specs.declared.edit.Edit.{Edit}
 use Rattle.ml_editor.specs.declared.edit.Edit.TheVariants.{Remove as Removes}
 use Rattle.ml_editor.specs.declared.fault.EditFault.{EditFault}
-use Rattle.ml_http.specs.Connection.{IsEnd, brought}
+use Rattle.ml_http.specs.Connection.{IsConnEnd, brought}
 use Rattle.ml_http.specs.Link.{LinkState, LinkStep, IsLinkServed}
 use Rattle.ml_http.specs.Once.{AreOneAnswer, EndsWell}
 use Rattle.ml_http.specs.Request.{RequestParts}
 use Rattle.ml_http.specs.Routes.{path_of, query_of, route_of, query_pairs, named, revision_in, id_in}
 use Rattle.ml_http.specs.Run.{Run}
-use Rattle.ml_http.specs.Step.{LinkAnswer, Query, Stays, IsTileFor, IsTileAnswer, IsEditAnswered, IsEdited, IsRouted, MapStep}
+use Rattle.ml_http.specs.Step.{LinkAnswer, Query, Stays, IsTileFor, IsTileAnswer, IsEditAnswered, IsEditReply, IsRouted, MapStep}
 use Rattle.ml_http.specs.Stream.{AreEvents}
 use Rattle.ml_http.specs.declared.connection_end.ConnEnd.{ConnEnd}
 use Rattle.ml_http.specs.declared.connection_end.ConnEnd.TheVariants.{Shut, Starved, Closed, ReadFault, WriteFault}
@@ -49,7 +49,7 @@ module _ (reaches : Reaches) (s : State) (is : IsState s) where
   given_state p a t None P each x = stays_state p a t x
   given_state p a t (Some y) P each x = each y x
 
-  route_state : (route : EditRoute) (closes : Bool) (query : Query) (body : List ℕ) (a : LinkAnswer) (t : State) → IsEdited route s closes query body a t → IsState t
+  route_state : (route : EditRoute) (closes : Bool) (query : Query) (body : List ℕ) (a : LinkAnswer) (t : State) → IsEditReply route s closes query body a t → IsState t
   route_state edits.Add closes query body a t x = given_state _ a t (revision_in (named (codes "rev") query)) _ (λ rev p. edited_state closes _ _ _ a t (λ good edit makes. reaches.add s rev body edit is good makes) p) x
   route_state edits.Replace closes query body a t x = given_state _ a t (revision_in (named (codes "rev") query)) _ (λ rev p. edited_state closes _ _ _ a t (λ good edit makes. reaches.replace s rev body edit is good makes) p) x
   route_state edits.Remove closes query body a t x =
@@ -89,8 +89,8 @@ same_run reaches one hearing [] u v (a ∷ xs) ys p q same is x y = absurd x
 same_run reaches one hearing (event ∷ events) u v [] ys p q same is x y = absurd x
 same_run reaches one hearing (event ∷ events) u v (a ∷ xs) [] p q same is x y = absurd y
 same_run reaches one hearing (event ∷ events) u v (a ∷ xs) (b ∷ ys) p q same is x y =
-    let steps = x.1.step in
-    let also = rw (sym same) at y.1.step in
+    let steps = x.1.by_rule in
+    let also = rw (sym same) at y.1.by_rule in
     let answers = one u.map_state event a b x.0.map_state y.0.map_state is steps also in
     let rest = same_run reaches one hearing events x.0 y.0 xs ys p q answers.state (next_state reaches u.map_state is event a x.0.map_state steps) x.2 y.2 in
     ap (λ (r : List ℕ). r ++ flat_map (λ (c : LinkAnswer). c.reply) xs) answers.reply ∙ ap (λ (r : List ℕ). b.reply ++ r) rest

@@ -29,7 +29,7 @@ use Rattle.ml_follow.specs.StateText.{state_text}
 use Rattle.ml_http.specs.declared.kind.Kind.TheVariants as kinds
 use Rattle.ml_http.specs.declared.route.ReadRoute.{ReadRoute}
 use Rattle.ml_http.specs.declared.route.ReadRoute.TheVariants as reads
-use Rattle.ml_http.specs.Alike.{AreAlike}
+use Rattle.ml_http.specs.Alike.{LookAlike}
 use Rattle.ml_http.specs.Replies.{json_reply, query_reply}
 use Rattle.ml_http.specs.Reply.{reply_text}
 use Rattle.ml_http.specs.Routes.{id_in}
@@ -39,7 +39,7 @@ use Rattle.ml_http.proofs.SameLabels.{same_labels, its_feature}
 use Rattle.ml_http.proofs.SameReplies.{OneLabel, json_made, svg_made, same_view_reply}
 use Rattle.ml_http.proofs.SameViews.{KnownChoice, row_of, same_untils}
 
-itself : (s : State) → AreAlike s s
+itself : (s : State) → LookAlike s s
 itself s = record { style = refl; features = λ f. (λ h. h, λ h. h) }
 
 module _ (one : OneLabel) (known : KnownChoice) (s : State) where

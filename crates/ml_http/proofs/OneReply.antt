@@ -25,7 +25,7 @@ use Rattle.ml_http.specs.Once.{AreOneAnswer}
 use Rattle.ml_http.specs.Replies.{json_reply, fault_code, fault_reply}
 use Rattle.ml_http.specs.Request.{RequestParts}
 use Rattle.ml_http.specs.Routes.{path_of, query_of, route_of, query_pairs, named, revision_in, id_in}
-use Rattle.ml_http.specs.Step.{LinkAnswer, Query, Stays, plain, IsTileFor, IsTileAnswer, IsCarriedOut, IsTurnedDown, IsEditAnswered, ForRevision, IsEdited, IsRouted, MapStep}
+use Rattle.ml_http.specs.Step.{LinkAnswer, Query, Stays, plain, IsTileFor, IsTileAnswer, IsCarriedOut, IsTurnedDown, IsEditAnswered, ForRevision, IsEditReply, IsRouted, MapStep}
 use Rattle.ml_http.specs.declared.request.Event.{Event}
 use Rattle.ml_http.specs.declared.request.Event.TheVariants.{Whole, Refused}
 use Rattle.ml_http.specs.declared.route.EditRoute.{EditRoute}
@@ -107,7 +107,7 @@ module _ (one : OneLabel) (choice : KnownChoice) (known : KnownEdits) (s : State
       let edit = same x.1.0 y.1.0 x.1.1 y.1.1 in
       carried_once closes y.1.0 a b t u (subst (λ (e : Edit). IsCarriedOut s closes e a t) edit x.1.2) y.1.2
 
-  route_once : (route : EditRoute) (closes : Bool) (query : Query) (body : List ℕ) (a b : LinkAnswer) (t u : State) → IsEdited route s closes query body a t → IsEdited route s closes query body b u → AreOneAnswer a b t u
+  route_once : (route : EditRoute) (closes : Bool) (query : Query) (body : List ℕ) (a b : LinkAnswer) (t u : State) → IsEditReply route s closes query body a t → IsEditReply route s closes query body b u → AreOneAnswer a b t u
   route_once edits.Add closes query body a b t u x y =
       given_once s _ a b t u (revision_in (named (codes "rev") query)) _ _ (λ rev p q. edited_once closes _ _ _ a b t u (known.add_refused s rev body) (known.one_add body) p q) x y
   route_once edits.Replace closes query body a b t u x y =

@@ -12,7 +12,7 @@ use Rattle.ml_tile.specs.Words.{WritesTile, SomeColumn, IsDepthWord, IsFirstBadW
 use Rattle.ml_tile.specs.declared.key.TileKey.{TileKey}
 use Rattle.ml_editor.specs.State.{State}
 use Rattle.ml_answer.specs.MapView.{IsViewText, json_body}
-use Rattle.ml_http.specs.Alike.{AreAlike}
+use Rattle.ml_http.specs.Alike.{LookAlike}
 use Rattle.ml_http.specs.Replies.{json_reply}
 use Rattle.ml_http.specs.Routes.{IsTileAsked}
 use Rattle.ml_http.specs.Step.{LinkAnswer, Query, IsTileText, IsTileFor, IsTileAnswer}
@@ -30,7 +30,7 @@ view_of_tile z i j v u p q =
     let same : IsSame (value_of v.scale) (value_of u.scale) = ap (λ (n : ℕ). n * u.scale.den) nums ∙ ap (λ (n : ℕ). u.scale.num * n) (sym dens) in
     same_view v u (p.cx_is ∙ sym q.cx_is) (p.cy_is ∙ sym q.cy_is) (p.w_is ∙ sym q.w_is) (p.h_is ∙ sym q.h_is) (same_ratio v.scale u.scale same)
 
-pub one_body : OneLabel → OneLongest → (s t : State) (key : TileKey) (a b : List ℕ) → AreAlike s t → IsTileText s key a → IsTileText t key b → a ≡ b
+pub one_body : OneLabel → OneLongest → (s t : State) (key : TileKey) (a b : List ℕ) → LookAlike s t → IsTileText s key a → IsTileText t key b → a ≡ b
 one_body one longest s t key a b alike first second =
     let views = view_of_tile key.z key.i key.j second.0 first.0 second.1 first.1 in
     same_text one longest json_body json_made s t first.0 a b alike first.2 (subst (λ (v : View). IsViewText json_body t v b) views second.2)
@@ -81,7 +81,7 @@ one_asked query (Ok a) (Err q) v w = absurd (good_or_bad _ _ _ a q v w)
 one_asked query (Err p) (Ok b) v w = absurd (good_or_bad _ _ _ b p w v)
 one_asked query (Err p) (Err q) v w = ap Err (one_bad _ _ _ p q v w)
 
-replies_for : OneLabel → OneLongest → (s t : State) (closes : Bool) (asked : Result TileKey ℕ) (a b : LinkAnswer) (u v : State) → AreAlike s t → IsTileFor s closes asked a u → IsTileFor t closes asked b v → a.reply ≡ b.reply
+replies_for : OneLabel → OneLongest → (s t : State) (closes : Bool) (asked : Result TileKey ℕ) (a b : LinkAnswer) (u v : State) → LookAlike s t → IsTileFor s closes asked a u → IsTileFor t closes asked b v → a.reply ≡ b.reply
 replies_for one longest s t closes (Err place) a b u v alike first second =
     ap (λ (answer : LinkAnswer). answer.reply) first.is ∙ sym (ap (λ (answer : LinkAnswer). answer.reply) second.is)
 replies_for one longest s t closes (Ok key) a b u v alike first second =
@@ -89,6 +89,6 @@ replies_for one longest s t closes (Ok key) a b u v alike first second =
     ∙ sym (ap (λ (answer : LinkAnswer). answer.reply) second.3)
 
 -- a query for a tile has one reply
-pub one_reply : OneLabel → OneLongest → (s t : State) (closes : Bool) (query : Query) (a b : LinkAnswer) (u v : State) → AreAlike s t → IsTileAnswer s closes query a u → IsTileAnswer t closes query b v → a.reply ≡ b.reply
+pub one_reply : OneLabel → OneLongest → (s t : State) (closes : Bool) (query : Query) (a b : LinkAnswer) (u v : State) → LookAlike s t → IsTileAnswer s closes query a u → IsTileAnswer t closes query b v → a.reply ≡ b.reply
 one_reply one longest s t closes query a b u v alike first second =
     replies_for one longest s t closes first.0 a b u v alike first.2 (subst (λ (asked : Result TileKey ℕ). IsTileFor t closes asked b v) (one_asked query second.0 first.0 second.1 first.1) second.2)

@@ -15,7 +15,7 @@ use Rattle.ml_cone.specs.declared.slot.Slot.{Slot}
 use Rattle.ml_follow.specs.StateText.{begun_text, state_text}
 use Rattle.ml_store.specs.Rows.{labels_in, slots_in, numbers_in, number_at, AreDifferent, HaveOwnNumbers, IsLive}
 use Rattle.ml_store.specs.declared.row.Row.{Row}
-use Rattle.ml_http.specs.StateReply.{ArePlacesOf, IsPlaceOf, IsPlaced, IsRowAdded, IsStateText}
+use Rattle.ml_http.specs.StateReply.{ArePlacesOf, IsPlaceOf, IsToldByPlace, IsRowAdded, IsStateText}
 use Rattle.ml_editor.specs.State.{State}
 use Rattle.ml_label.specs.Labels.{AreLabelsOf}
 use Rattle.ml_repair.specs.Settled.{IsSettled}
@@ -24,7 +24,7 @@ use Rattle.ml_http.proofs.SameViews.{row_of}
 -- the slots of all rows, each with its blocker told by place
 pub record ArePlaced (rows : List Row) (slots : List Slot) : Type 0 where
   pub one_slot : length slots ≡ length rows
-  pub each : (i : ℕ) → i < length rows → IsPlaced rows (get_or (slots_in rows) i no_slot) (get_or slots i no_slot)
+  pub each : (i : ℕ) → i < length rows → IsToldByPlace rows (get_or (slots_in rows) i no_slot) (get_or slots i no_slot)
 
 module _ (rows : List Row) (own : HaveOwnNumbers rows) (are : AreSlots (number_at rows) (labels_in rows) (slots_in rows)) (slots : List Slot) (placed : ArePlaced rows slots) where
   many : length (labels_in rows) ≡ length rows
@@ -84,7 +84,7 @@ module _ (rows : List Row) (own : HaveOwnNumbers rows) (are : AreSlots (number_a
 pub record AreAdded (rows : List Row) (rev count i : ℕ) (text : List ℕ) : Type 0 where
   pub slots : List Slot
   pub size : length slots ≡ i
-  pub each : (k : ℕ) → k < i → IsPlaced rows (get_or (slots_in rows) k no_slot) (get_or slots k no_slot)
+  pub each : (k : ℕ) → k < i → IsToldByPlace rows (get_or (slots_in rows) k no_slot) (get_or slots k no_slot)
   pub so_far : text ≡ begun_text rev count (take i (labels_in rows)) slots
 
 pub none_added : (rows : List Row) (rev count : ℕ) (text : List ℕ) → text ≡ begun_text rev count [] [] → AreAdded rows rev count 0 text
@@ -106,13 +106,13 @@ module _ (rows : List Row) (own : HaveOwnNumbers rows) (rev count i : ℕ) (old 
   at_end : get_or more_slots i no_slot ≡ row.slot
   at_end = subst (λ n. get_or more_slots n no_slot ≡ row.slot) added.size (get_or-append_seam added.slots row.slot [] no_slot)
 
-  each_more : (k : ℕ) → k < i + 1 → IsPlaced rows (get_or (slots_in rows) k no_slot) (get_or more_slots k no_slot)
+  each_more : (k : ℕ) → k < i + 1 → IsToldByPlace rows (get_or (slots_in rows) k no_slot) (get_or more_slots k no_slot)
   each_more k lt = elim (cases_lt k i) [
-    | inl before ↦ subst (IsPlaced rows (get_or (slots_in rows) k no_slot)) (sym (get_or_append_left added.slots (row.slot ∷ []) no_slot k (omega (arith, before, added.size)))) (added.each k before)
+    | inl before ↦ subst (IsToldByPlace rows (get_or (slots_in rows) k no_slot)) (sym (get_or_append_left added.slots (row.slot ∷ []) no_slot k (omega (arith, before, added.size)))) (added.each k before)
     | inr not_before ↦
         let same : i ≡ k = omega (arith, lt, not_before) in
-        subst (λ n. IsPlaced rows (get_or (slots_in rows) n no_slot) (get_or more_slots n no_slot)) same
-        (subst (IsPlaced rows (get_or (slots_in rows) i no_slot)) (sym at_end) (subst (λ s. IsPlaced rows s row.slot) (sym its_slot) row.placed))
+        subst (λ n. IsToldByPlace rows (get_or (slots_in rows) n no_slot) (get_or more_slots n no_slot)) same
+        (subst (IsToldByPlace rows (get_or (slots_in rows) i no_slot)) (sym at_end) (subst (λ s. IsToldByPlace rows s row.slot) (sym its_slot) row.placed))
   ]
 
   pub one_added : AreAdded rows rev count (i + 1) new
@@ -142,7 +142,7 @@ place_told rows places (Some n) new are (r, there, number) told =
 
 -- the slot with its blocker told by place
 pub placed_by : (rows : List Row) (places : List ℕ) (row given : Slot) (blocker : Option ℕ) → ArePlacesOf (numbers_in rows) places → given ≡ row → IfSome given.blocker (IsLive rows) → IsPlaceOf places given.blocker blocker →
-    IsPlaced rows row (record { until = given.until; blocker = blocker })
+    IsToldByPlace rows row (record { until = given.until; blocker = blocker })
 placed_by rows places row given blocker are same live told =
     let told_row = place_told rows places given.blocker blocker are live told in
     (ap (λ s. s.until) same, subst (λ (s : Slot). MatchOption s.blocker (blocker ≡ None) (λ n. (p : ℕ) × (p < length rows) × (number_at rows p ≡ n) × (blocker ≡ Some p))) same told_row)

@@ -23,7 +23,7 @@ use Rattle.ml_http.specs.declared.route.EditRoute.{EditRoute}
 use Rattle.ml_http.specs.declared.route.EditRoute.TheVariants as edits
 use Rattle.ml_http.specs.Request.{RequestParts}
 use Rattle.ml_http.specs.Routes.{path_of, query_of, query_pairs, route_of, named, revision_in, id_in}
-use Rattle.ml_http.specs.Step.{LinkAnswer, Query, Stays, IsTileText, IsTileFor, IsCarriedOut, IsEditAnswered, ForRevision, IsEdited, IsRouted, MapStep, work_of}
+use Rattle.ml_http.specs.Step.{LinkAnswer, Query, Stays, IsTileText, IsTileFor, IsCarriedOut, IsEditAnswered, ForRevision, IsEditReply, IsRouted, MapStep, work_of}
 use Rattle.ml_http.specs.Link.{AreTexts}
 use Rattle.ml_http.specs.TileWork.{TileWork, Untouched, Asked, Changed, Remade, IsAsked, IsDoneTo}
 use Rattle.ml_http.proofs.SameLists.{here, later, cases, none_in_none}
@@ -132,7 +132,7 @@ module _ (one : OneLabel) (longest : OneLongest) (stays_after : StaysAfter) (sta
       revision_right closes query s t (λ rev. IsEditAnswered (IsRemoveFault s rev id) (IsRemoval s rev id) (λ edit. edit ≡ Removes id) s closes) answer (revision_in (named (codes "rev") query)) (query_reply closes (codes "rev"))
       (λ r. edit_right (IsRemoveFault s r id) (IsRemoval s r id) (λ edit. edit ≡ Removes id) s t closes answer) edited
 
-  edited_right : (route : EditRoute) (s t : State) (closes : Bool) (query : Query) (body : List ℕ) (answer : LinkAnswer) → IsEdited route s closes query body answer t → StayRight s t answer
+  edited_right : (route : EditRoute) (s t : State) (closes : Bool) (query : Query) (body : List ℕ) (answer : LinkAnswer) → IsEditReply route s closes query body answer t → StayRight s t answer
   edited_right edits.Add s t closes query body answer is =
       revision_right closes query s t (λ rev. IsEditAnswered (IsAddFault s rev body) (IsAddition s rev body) (IsAdding body) s closes) answer (revision_in (named (codes "rev") query)) (query_reply closes (codes "rev"))
       (λ r. edit_right (IsAddFault s r body) (IsAddition s r body) (IsAdding body) s t closes answer) is

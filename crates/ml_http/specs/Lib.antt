@@ -1,5 +1,6 @@
 pub mod Alike
 pub mod Connection
+pub mod Context
 pub mod Heads
 pub mod Held
 pub mod Link

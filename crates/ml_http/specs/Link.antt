@@ -27,12 +27,28 @@ lent editor crowd tiles spent = record { map_state = editor.state; crowd = crowd
 abbrev pub AreTexts : State → List HeldTile → Type 0
 AreTexts s tiles = (tile : HeldTile) → Contains tiles tile → IsTileText s tile.0 tile.1
 
--- one event is answered: the map makes its step, the watchers are told the changes, the tiles become what the answer is for them, and the steps are spent
-pub record LinkStep {W : Type 0} (hearing : W → Hearing) (old : LinkState W) (event : Event) (answer : LinkAnswer) (new : LinkState W) : Type 0 where
-  pub step : MapStep old.map_state event answer new.map_state
+-- the same of all that is lent
+abbrev pub HoldsTexts : {W : Type 0} → LinkState W → Type 0
+HoldsTexts s = AreTexts s.map_state s.tiles.tiles
+
+-- a rule that leads the map from one state to another was followed with this answer: the watchers were told its changes, the tiles became what it is for them, and its steps were spent
+pub record Follows {W : Type 0} (hearing : W → Hearing) (rule : State → LinkAnswer → State → Type 0) (old : LinkState W) (answer : LinkAnswer) (new : LinkState W) : Type 0 where
+  pub by_rule : rule old.map_state answer new.map_state
   pub hears : AllHear hearing answer.changes old.crowd new.crowd
   pub done : IsDoneTo answer.work answer.changes old.tiles new.tiles
   pub spent : new.spent ≡ old.spent + answer.cost
+
+-- how many requests a connection may have
+abbrev pub most_requests : ℕ
+most_requests = 1000
+
+-- one event is answered by the machine
+abbrev pub LinkStep : {W : Type 0} → (W → Hearing) → LinkState W → Event → LinkAnswer → LinkState W → Type 0
+LinkStep hearing old event answer new = Follows hearing (λ s a t. MapStep s event a t) old answer new
+
+-- a rule was followed with this reply
+abbrev pub IsAnswered : {W : Type 0} → (W → Hearing) → (State → LinkAnswer → State → Type 0) → LinkState W → LinkState W → List ℕ → Type 0
+IsAnswered hearing rule old new reply = (answer : LinkAnswer) × Follows hearing rule old answer new × (answer.reply ≡ reply)
 
 -- memory was wanting: steps may have been spent for nothing, and nothing else has changed
 pub record LinkIdles {W : Type 0} (old new : LinkState W) : Type 0 where
@@ -40,30 +56,14 @@ pub record LinkIdles {W : Type 0} (old new : LinkState W) : Type 0 where
   pub crowd : new.crowd ≡ old.crowd
   pub tiles : new.tiles ≡ old.tiles
 
--- what stands beside the map: the watchers, and the tiles that are held
-pub record Beside (W : Type 0) : Type 0 where
-  pub crowd : List W
-  pub tiles : Cache
-
-abbrev pub beside : {W : Type 0} → List W → Cache → Beside W
-beside crowd tiles = record { crowd = crowd; tiles = tiles }
-
--- a rule was followed with this reply: its changes were told, the tiles became what the answer is for them, and its steps were spent
-pub record Follows {W : Type 0} (hearing : W → Hearing) (rule : LinkAnswer → Type 0) (old new : Beside W) (spent spent_after : ℕ) (reply : List ℕ) : Type 0 where
+-- an edit was carried out with this reply, at this cost, for which the steps were spent before; its changes were told, and the tiles became what it is for them
+pub record IsAccepted {W : Type 0} (hearing : W → Hearing) (closes : Bool) (edit : Edit) (cost : ℕ) (old new : LinkState W) (reply : List ℕ) : Type 0 where
   pub answer : LinkAnswer
-  pub by_rule : rule answer
+  pub carried : IsCarriedOut old.map_state closes edit answer new.map_state
   pub hears : AllHear hearing answer.changes old.crowd new.crowd
   pub done : IsDoneTo answer.work answer.changes old.tiles new.tiles
-  pub steps : spent_after ≡ spent + answer.cost
-  pub is : answer.reply ≡ reply
-
--- an edit was carried out with this reply, at this cost; its changes were told, and the tiles became what it is for them
-pub record IsAccepted {W : Type 0} (hearing : W → Hearing) (old new : State) (closes : Bool) (edit : Edit) (cost : ℕ) (before after : Beside W) (reply : List ℕ) : Type 0 where
-  pub answer : LinkAnswer
-  pub carried : IsCarriedOut old closes edit answer new
-  pub hears : AllHear hearing answer.changes before.crowd after.crowd
-  pub done : IsDoneTo answer.work answer.changes before.tiles after.tiles
   pub costs : answer.cost ≡ cost
+  pub spent : new.spent ≡ old.spent
   pub is : answer.reply ≡ reply
 
 -- the steps are those of the answers; where memory was wanting or the sink failed, nothing is said of them
@@ -76,6 +76,6 @@ IsSpent WriteFault old new answers = Unit {0}
 
 -- the connection was served so; the watchers were told the changes of all its answers in order, and their steps were spent
 pub record IsLinkServed {W : Type 0} (hearing : W → Hearing) (old new : LinkState W) (source source_after written written_after : Option (List ℕ)) (end : ConnEnd) : Type 0 where
-  pub served : IsServed (LinkStep hearing) LinkIdles (λ a. a.reply) 1000 [] old new source source_after written written_after end
+  pub served : IsServed (LinkStep hearing) LinkIdles (λ a. a.reply) most_requests [] old new source source_after written written_after end
   pub hears : AllHear hearing (flat_map (λ a. a.changes) served.exchange.answers) old.crowd new.crowd
   pub spent : IsSpent end old.spent new.spent served.exchange.answers

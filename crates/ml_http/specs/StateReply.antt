@@ -30,8 +30,8 @@ IsPlaceOf places None place = place ≡ None
 IsPlaceOf places (Some number) place = place ≡ slice_get places number
 
 -- the slot ends at the same scale, and its blocker is told by its place among the rows
-abbrev pub IsPlaced : List Row → Slot → Slot → Type 0
-IsPlaced rows slot placed =
+abbrev pub IsToldByPlace : List Row → Slot → Slot → Type 0
+IsToldByPlace rows slot placed =
     (placed.until ≡ slot.until)
     × MatchOption slot.blocker (placed.blocker ≡ None) (λ n. (p : ℕ) × (p < length rows) × (number_at rows p ≡ n) × (placed.blocker ≡ Some p))
 
@@ -41,6 +41,6 @@ pub record IsRowAdded (rows : List Row) (number : ℕ) (old new : List ℕ) : Ty
   pub there : Contains rows row
   pub its_number : row.number ≡ number
   pub slot : Slot
-  pub placed : IsPlaced rows row.slot slot
+  pub placed : IsToldByPlace rows row.slot slot
   pub added : (rev count : ℕ) (labels : List Label) (slots : List Slot) → length slots ≡ length labels →
       old ≡ begun_text rev count labels slots → new ≡ begun_text rev count (labels ++ row.label ∷ []) (slots ++ slot ∷ [])

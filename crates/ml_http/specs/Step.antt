@@ -171,15 +171,15 @@ ForRevision closes query s answered answer t =
     MatchOption (revision_in (named (codes "rev") query)) (Stays s (query_reply closes (codes "rev")) answer t) (λ rev. answered rev answer t)
 
 -- the answer to a request for an edit
-abbrev pub IsEdited : EditRoute → State → Bool → Query → List ℕ → LinkAnswer → State → Type 0
-IsEdited edits.Add s closes query body answer t =
+abbrev pub IsEditReply : EditRoute → State → Bool → Query → List ℕ → LinkAnswer → State → Type 0
+IsEditReply edits.Add s closes query body answer t =
     ForRevision closes query s (λ rev. IsEditAnswered (IsAddFault s rev body) (IsAddition s rev body) (IsAdding body) s closes) answer t
-IsEdited edits.Replace s closes query body answer t =
+IsEditReply edits.Replace s closes query body answer t =
     ForRevision closes query s (λ rev. IsEditAnswered (IsReplaceFault s rev body) (IsReplacement s rev body) (IsReplacing body) s closes) answer t
-IsEdited edits.Remove s closes query body answer t =
+IsEditReply edits.Remove s closes query body answer t =
     MatchOption (id_in query) (Stays s (query_reply closes (codes "id")) answer t)
     (λ id. ForRevision closes query s (λ rev. IsEditAnswered (IsRemoveFault s rev id) (IsRemoval s rev id) (λ edit. edit ≡ Removes id) s closes) answer t)
-IsEdited edits.Restyle s closes query body answer t =
+IsEditReply edits.Restyle s closes query body answer t =
     ForRevision closes query s (λ rev. IsEditAnswered (IsStyleFault s rev body) (IsRestyle s rev body) (IsRestyling body) s closes) answer t
 
 -- the answer to a request that asks for this
@@ -188,7 +188,7 @@ IsRouted (Err none) s request answer t = Stays s (no_route_reply request.closes 
 IsRouted (Ok (routes.Read route)) s request answer t =
     (reply : List ℕ) × IsRead route s request.closes (query_pairs (query_of request.target)) reply × Stays s reply answer t
 IsRouted (Ok routes.Tile) s request answer t = IsTileAnswer s request.closes (query_pairs (query_of request.target)) answer t
-IsRouted (Ok (routes.Edit route)) s request answer t = IsEdited route s request.closes (query_pairs (query_of request.target)) request.body answer t
+IsRouted (Ok (routes.Edit route)) s request answer t = IsEditReply route s request.closes (query_pairs (query_of request.target)) request.body answer t
 
 -- one step of the machine: an event is answered, and the map is in another state or in the same
 abbrev pub MapStep : State → Event → LinkAnswer → State → Type 0

@@ -5,7 +5,8 @@ use Rattle.ml_cone.specs.declared.label.Label.{Label}
 use Rattle.ml_cone.specs.declared.slot.Span.{Span}
 use Rattle.ml_store.specs.declared.row.Row.{Row}
 use Rattle.ml_repair.specs.Changes.{span_of}
-use Rattle.ml_tile.specs.Cache.{Cache, HeldTile, IsHeld, IsHit, ShowsIn, Loses, one_more}
+use Rattle.ml_ratio.specs.Count.{one_more}
+use Rattle.ml_tile.specs.Cache.{Cache, HeldTile, IsHeld, IsHit, ShowsIn, Loses, most_tiles, longest_body}
 use Rattle.ml_tile.specs.declared.key.TileKey.{TileKey}
 
 -- what an answer is for the tiles: nothing; this tile was asked for, and this is its body; the labels were those and are these; or all labels were made anew
@@ -15,11 +16,11 @@ pub data TileWork : Type 0 where
   Changed : List Row → List Row → TileWork
   Remade : TileWork
 
--- a tile that is not held is kept as the first of at most 256, where its body has at most 65,536 bytes; if memory is wanting for that, it is skipped
+-- a tile that is not held is kept as the first of those that may be held, where its body is not too long; if memory is wanting for that, it is skipped
 abbrev pub IsKept : HeldTile → Cache → Cache → Type 0
 IsKept tile old new =
-    ((65536 < length tile.1) × (new ≡ old))
-    ⊎ ((length tile.1 ≤ 65536) × ((new ≡ record old { tiles = take 256 (tile ∷ old.tiles) }) ⊎ (new ≡ record old { skips = one_more old.skips })))
+    ((longest_body < length tile.1) × (new ≡ old))
+    ⊎ ((length tile.1 ≤ longest_body) × ((new ≡ record old { tiles = take most_tiles (tile ∷ old.tiles) }) ⊎ (new ≡ record old { skips = one_more old.skips })))
 
 -- a tile that is asked for is a hit where it is held, and is kept where it is not
 abbrev pub IsAsked : HeldTile → Cache → Cache → Type 0

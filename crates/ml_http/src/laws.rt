@@ -26,7 +26,7 @@ ghost use Rattle.ml_http.specs.Once.{AreOneAnswer, EndsWell};
 ghost use Rattle.ml_http.specs.declared.connection_end.ConnEnd.{ConnEnd};
 ghost use Rattle.ml_watch.specs.Hearing.{Hearing};
 ghost use Rattle.ml_http.specs.TileWork.{IsDoneTo};
-ghost use Rattle.ml_http.specs.Alike.{AreAlike};
+ghost use Rattle.ml_http.specs.Alike.{LookAlike};
 ghost use Rattle.ml_http.specs.Step.{LinkAnswer, Query, IsRead, IsTileText, IsTileAnswer, MapStep};
 ghost use Rattle.ml_http.specs.declared.route.ReadRoute.{ReadRoute};
 ghost use Rattle.ml_http.specs.declared.route.ReadRoute.TheVariants as reads;
@@ -45,9 +45,9 @@ use ml_view::laws::level_labels;
 /// Two maps with one style and the same features, in whatever order, answer each request for a view, as
 /// JSON or as SVG, with the same bytes, whatever edits led to them.
 pub fn l4()
-    ensures json { (s t : State) (closes : Bool) (query : Query) (a b : List ℕ) → AreAlike s t →
+    ensures json { (s t : State) (closes : Bool) (query : Query) (a b : List ℕ) → LookAlike s t →
         IsRead reads.View s closes query a → IsRead reads.View t closes query b → a ≡ b }
-    ensures svg { (s t : State) (closes : Bool) (query : Query) (a b : List ℕ) → AreAlike s t →
+    ensures svg { (s t : State) (closes : Bool) (query : Query) (a b : List ℕ) → LookAlike s t →
         IsRead reads.Svg s closes query a → IsRead reads.Svg t closes query b → a ≡ b }
 {
     one_label();
@@ -92,8 +92,8 @@ pub fn held_tiles_stay_right()
 /// answer each request for a tile with the same bytes. So a tile that is held, whose body is that of the
 /// present map, is answered as one that is made for the request.
 pub fn one_tile()
-    ensures body { (s t : State) (key : TileKey) (a b : List ℕ) → AreAlike s t → IsTileText s key a → IsTileText t key b → a ≡ b }
-    ensures reply { (s t : State) (closes : Bool) (query : Query) (one other : LinkAnswer) (u v : State) → AreAlike s t →
+    ensures body { (s t : State) (key : TileKey) (a b : List ℕ) → LookAlike s t → IsTileText s key a → IsTileText t key b → a ≡ b }
+    ensures reply { (s t : State) (closes : Bool) (query : Query) (one other : LinkAnswer) (u v : State) → LookAlike s t →
         IsTileAnswer s closes query one u → IsTileAnswer t closes query other v → one.reply ≡ other.reply }
 {
     one_label();

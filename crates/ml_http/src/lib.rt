@@ -1,13 +1,14 @@
 //! Connections: which requests a stream of bytes holds, and the replies to them (a part of HTTP/1.1,
 //! RFC 9112).
 //!
-//! - [`serve`]: one connection is served ([`serve_link`]); [`connection_end`]: how it ends;
+//! - [`serve`]: one connection is served ([`serve_link`]); [`connection_end`]: how it ends; `context`:
+//!   what it works on;
 //! - [`request`]: what the bytes of a connection ask for; `reader`: reads it in whatever pieces the
 //!   source gives, over `held`, the bytes held, and `mark`, where a head ends; `head` and `fields`: how
 //!   a head is judged;
 //! - [`route`]: what a request may ask for; `target`: which path and method ask for it; `query`: the
 //!   names and values of a query;
-//! - `answer`: what an event is answered; `read` with `view`, `why` and `state`: requests that change
+//! - [`context`]: what answering works on ([`Context`]); `answer`: what an event is answered; `read` with `view`, `why` and `state`: requests that change
 //!   nothing;
 //!   `tile`: tiles, whose bodies may be held; `edit`: requests that edit; `forget`: which tiles an edit
 //!   drops;
@@ -17,6 +18,7 @@
 
 mod answer;
 pub mod connection_end;
+pub mod context;
 mod edit;
 mod fields;
 mod forget;
@@ -40,5 +42,6 @@ mod view;
 mod why;
 
 pub use connection_end::ConnEnd;
+pub use context::Context;
 pub use request::{Event, Refusal, Request};
 pub use serve::{MEMORY_REPLY, serve_link};

@@ -1,5 +1,6 @@
 //! The whole state of the labels, for a follower that judges it before it adopts it.
 ghost use Rattle.std.specs.Prelude.{◌≡◌, ◌<◌, ◌≤◌, ℕ, List, length, All, IfOk, OnOk, IfSome};
+ghost use Rattle.ml_ratio.specs.Limits.{most_labels};
 ghost use Rattle.ml_store.specs.Rows.{AreDifferent, IsLive, numbers_in};
 ghost use Rattle.ml_http.specs.StateReply.{ArePlacesOf, IsPlaceOf, IsRowAdded, IsStateReply, IsStateText};
 
@@ -7,9 +8,8 @@ use crate::kind::Kind;
 use crate::reply::reply;
 use http::StatusCode;
 use ml_editor::Editor;
-use ml_editor::editor::MOST_FEATURES;
 use ml_follow::StateText;
-use ml_ratio::Seq;
+use ml_ratio::{MOST_LABELS, Seq};
 use std::alloc::{AllocError, Global};
 
 /// The text of the state: the revision, and all labels in priority order with their ends and blockers.
@@ -47,12 +47,12 @@ fn state_text(alloc: Global, editor: &Editor) -> Result<Seq<u8>, AllocError>
 
 // The place of each number among these, by number.
 fn places_of(alloc: Global, numbers: &[u32]) -> Result<Vec<u32>, AllocError>
-    requires low { All (λ n. n < 32768) numbers.now }
-    requires few { length numbers.now ≤ 32768 }
+    requires low { All (λ n. n < most_labels) numbers.now }
+    requires few { length numbers.now ≤ most_labels }
     requires own { AreDifferent numbers.now }
     ensures { IfOk result (λ places. ArePlacesOf numbers.now places.items) }
 {
-    let mut places = vec![in alloc; 0u32; MOST_FEATURES]?;
+    let mut places = vec![in alloc; 0u32; MOST_LABELS]?;
     for place in 0..numbers.len() {
         places[numbers[place] as usize] = place as u32;
     }

@@ -1,6 +1,6 @@
 -- A door in memory of which listed calls fail.
 use Rattle.std.specs.Prelude.{◌≡◌, ℕ, List, Result, is_ok, if◌then◌else◌}
-use Rattle.ml_io.specs.Causes.{one_more}
+use Rattle.ml_ratio.specs.Count.{one_more}
 use Rattle.ml_io.specs.LinkList.{LinkListState, fresh_links}
 use Rattle.ml_io.specs.declared.link.Link.{Link}
 

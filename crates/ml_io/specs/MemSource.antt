@@ -1,6 +1,6 @@
 -- A source in memory.
 use Rattle.std.specs.Prelude.{◌≡◌, ℕ, List, Result, is_ok, if◌then◌else◌}
-use Rattle.ml_io.specs.Causes.{one_more}
+use Rattle.ml_ratio.specs.Count.{one_more}
 
 -- the bytes that are left, the most that a call gives, the calls that fail, the calls made, the faults
 pub record MemSourceState : Type 0 where

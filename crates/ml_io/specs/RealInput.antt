@@ -1,6 +1,6 @@
 -- A source over a reader of std.
 use Rattle.std.specs.Prelude.{ℕ, ◌==◌, nat_lt, Bool, false, ◌&&◌, List, [], Option, Some, None, Result, Ok, Err, is_ok, if◌then◌else◌}
-use Rattle.ml_io.specs.Causes.{one_more}
+use Rattle.ml_ratio.specs.Count.{one_more}
 
 -- the reader, the faults, and whether it has said that the input is over
 pub record RealInputState (R : Type 0) : Type 0 where

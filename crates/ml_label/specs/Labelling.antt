@@ -8,7 +8,7 @@ use Rattle.ml_style.specs.declared.font.Font.{Font}
 use Rattle.ml_style.specs.declared.style.Style.{Style}
 use Rattle.ml_style.specs.Matching.{first_match}
 use Rattle.ml_style.specs.Fonts.{font_named}
-use Rattle.ml_label.specs.Name.{name_of, rank_of}
+use Rattle.ml_label.specs.Name.{label_name, rank_of}
 use Rattle.ml_label.specs.Placing.{Placing, IsPlacing, HasNoPlace}
 use Rattle.ml_label.specs.declared.reason.Reason.{Reason}
 use Rattle.ml_label.specs.declared.reason.Reason.TheVariants.{NoGeometry, NoClass, NoName, TooWide}
@@ -22,7 +22,7 @@ pub record IsNamed (style : Style) (feature : Feature) (shape : Geometry) (class
   pub shape_is : feature.geometry ≡ Some shape
   pub class_is : IsClassOf style feature class
   pub font_is : font_named style.fonts class.font ≡ Some font
-  pub text_is : name_of style feature ≡ Some text
+  pub text_is : label_name style feature ≡ Some text
 
 -- the order of a feature's label, the scales at which it may be shown and its margin are those of its class
 pub record IsOrdered (style : Style) (feature : Feature) (class : Class) (label : Label) : Type 0 where
@@ -62,7 +62,7 @@ pub record HasNoClass (style : Style) (feature : Feature) : Type 0 where
 pub record HasNoName (style : Style) (feature : Feature) : Type 0 where
   pub class : Class
   pub class_is : IsClassOf style feature class
-  pub unnamed : name_of style feature ≡ None
+  pub unnamed : label_name style feature ≡ None
 
 -- a feature with a class and a name, whose label would be too wide
 pub record IsTooWideLabel (style : Style) (feature : Feature) : Type 0 where

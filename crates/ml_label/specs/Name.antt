@@ -30,8 +30,8 @@ abbrev pub unless_blank : List ℕ → Option (List ℕ)
 unless_blank text = if is_blank text then None else Some text
 
 -- the text of a feature's label: its name with spaces for what cannot be shown
-abbrev pub name_of : Style → Feature → Option (List ℕ)
-name_of style feature = option_and_then (λ name. unless_blank (label_text name)) (name_in (property style.name_key feature.props))
+abbrev pub label_name : Style → Feature → Option (List ℕ)
+label_name style feature = option_and_then (λ name. unless_blank (label_text name)) (name_in (property style.name_key feature.props))
 
 -- the whole part of a number, and 0 for anything else
 abbrev pub rank_in : Option Scalar → ℕ

@@ -6,7 +6,7 @@ ghost use Rattle.ml_style.specs.Fonts.{HasFont};
 ghost use Rattle.ml_label.specs.Seen.{placing_of};
 ghost use Rattle.ml_label.specs.Labelling.{IsClassOf, IsLabelling, IsOrdered, IsPutAt};
 
-use crate::name::{name_of, rank_of};
+use crate::name::{label_name, rank_of};
 use crate::placed::PlacedText;
 use crate::placing::place;
 use crate::reason::Reason;
@@ -81,7 +81,7 @@ pub fn label_of(
     let Some(class) = class_for(style, feature) else {
         return Ok(Err(Reason::NoClass));
     };
-    let Some(text) = name_of(alloc, style, feature)? else {
+    let Some(text) = label_name(alloc, style, feature)? else {
         return Ok(Err(Reason::NoName));
     };
     match place(alloc, style.font(class), class, shape, text)? {

@@ -4,7 +4,7 @@ ghost use Rattle.std.specs.List.{list_all};
 ghost use Rattle.std.specs.Option.{option_copied};
 ghost use Rattle.std.specs.Str.{chars};
 ghost use Rattle.ml_text.specs.Label.{label_text as spec_label_text, shown as spec_shown};
-ghost use Rattle.ml_label.specs.Name.{property as spec_property, name_in as spec_name_in, is_blank as spec_is_blank, name_of as spec_name_of, rank_in as spec_rank_in, rank_of as spec_rank_of};
+ghost use Rattle.ml_label.specs.Name.{property as spec_property, name_in as spec_name_in, is_blank as spec_is_blank, label_name as spec_name_of, rank_in as spec_rank_in, rank_of as spec_rank_of};
 
 use ml_json::whole_part;
 use ml_ratio::{Feature, Prop, Scalar, Text};
@@ -42,7 +42,11 @@ fn is_blank(text: &str) -> bool
 ///
 /// # Errors
 /// Want of memory.
-pub fn name_of(alloc: Global, style: &Style, feature: &Feature) -> Result<Option<Text>, AllocError>
+pub fn label_name(
+    alloc: Global,
+    style: &Style,
+    feature: &Feature,
+) -> Result<Option<Text>, AllocError>
     ensures name { IfOk result (λ text. text ≡ spec_name_of style.now feature.now) }
     ensures some { IfOk result (λ text. IfSome text (λ t. 0 < length t)) }
     ensures utf8 { IfOk result (λ text. IfSome text IsUtf8) }

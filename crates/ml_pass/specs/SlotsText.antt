@@ -9,8 +9,8 @@ abbrev pub ids : List Label → List (List ℕ)
 ids labels = map (λ label. label.order.id) labels
 
 -- the blocker, if any, is the place of a label
-abbrev pub IsPlaced : List Label → Option ℕ → Type 0
-IsPlaced labels blocker = MatchOption blocker (Unit {0}) (λ j. j < length labels)
+abbrev pub IsBlockerPlace : List Label → Option ℕ → Type 0
+IsBlockerPlace labels blocker = MatchOption blocker (Unit {0}) (λ j. j < length labels)
 
 -- a blocker's id, and a minus where there is none
 abbrev pub blocker_name : List (List ℕ) → Option ℕ → List ℕ

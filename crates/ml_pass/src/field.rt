@@ -1,5 +1,6 @@
 //! Labels in order from west to east, to find those that may bound one.
 ghost use Rattle.std.specs.Prelude.{◌≡◌, ◌≤◌, ◌<◌, length, IfOk, IsTrue};
+ghost use Rattle.ml_ratio.specs.Limits.{most_labels};
 ghost use Rattle.ml_ratio.specs.World.{IsInWorld};
 ghost use Rattle.ml_pass.specs.Field.{IsSpotOf, IsFieldOf, IsBeyond};
 
@@ -22,7 +23,7 @@ impl Field {
     /// # Errors
     /// Want of memory.
     pub fn of(alloc: Global, labels: &[Label]) -> Result<Field, AllocError>
-        requires { length labels.now ≤ 32768 }
+        requires { length labels.now ≤ most_labels }
         ensures { IfOk result (λ field. IsFieldOf labels.now field.spots.items field.reach) }
     {
         let mut spots = Vec::with_capacity(alloc, labels.len())?;
@@ -37,7 +38,7 @@ impl Field {
 
 // The spot of the label at `i`.
 fn spot_of(labels: &[Label], i: usize) -> Spot
-    requires few { length labels.now ≤ 32768 }
+    requires few { length labels.now ≤ most_labels }
     requires there { i < length labels.now }
     ensures spot { IsSpotOf labels.now result }
     ensures place { result.place ≡ i }

@@ -1,10 +1,11 @@
 //! The choice in one pass over the labels.
 ghost use Rattle.std.specs.Prelude.{ℕ, ◌≡◌, ◌+◌, ◌≤◌, ◌<◌, [], length, IfOk, OnOk, All};
+ghost use Rattle.ml_ratio.specs.Limits.{most_labels};
 ghost use Rattle.ml_cone.specs.Slots.{AreSlots, IsOwnSlot};
 ghost use Rattle.ml_conflict.specs.Reach.{Reaches};
 ghost use Rattle.ml_pass.specs.Field.{IsFieldOf};
 ghost use Rattle.ml_pass.specs.Search.{rivals_in};
-ghost use Rattle.ml_pass.specs.SlotsText.{IsPlaced};
+ghost use Rattle.ml_pass.specs.SlotsText.{IsBlockerPlace};
 
 use crate::field::Field;
 use crate::found::Found;
@@ -25,9 +26,9 @@ use std::sync::ledger::{Blank, Ledger};
 /// # Errors
 /// Want of memory.
 pub fn assign(alloc: Global, labels: &[Label]) -> Result<Seq<Slot>, AllocError>
-    requires { length labels.now ≤ 32768 }
+    requires { length labels.now ≤ most_labels }
     ensures slots { IfOk result (λ slots. AreSlots (λ j. j) labels.now slots) }
-    ensures placed { IfOk result (λ slots. All (λ slot. IsPlaced labels.now slot.blocker) slots) }
+    ensures placed { IfOk result (λ slots. All (λ slot. IsBlockerPlace labels.now slot.blocker) slots) }
 {
     assign_counted::<Brand>(alloc, labels, Blank::new(1))
 }
@@ -38,12 +39,12 @@ fn assign_counted<L: Ledger>(
     labels: &[Label],
     blank: Blank,
 ) -> Result<Seq<Slot>, AllocError>
-    requires few { length labels.now ≤ 32768 }
+    requires few { length labels.now ≤ most_labels }
     requires name { blank.name ≡ L.name }
     requires parts { blank.parts ≡ L.parts }
     requires some { 0 < blank.parts }
     ensures slots { IfOk result (λ slots. AreSlots (λ j. j) labels.now slots) }
-    ensures placed { IfOk result (λ slots. All (λ slot. IsPlaced labels.now slot.blocker) slots) }
+    ensures placed { IfOk result (λ slots. All (λ slot. IsBlockerPlace labels.now slot.blocker) slots) }
 {
     let mut steps: Steps<L> = Steps::new(blank);
     choose(alloc, labels, &mut steps)
@@ -55,9 +56,9 @@ fn choose<L: Ledger>(
     labels: &[Label],
     steps: &mut Steps<L>,
 ) -> Result<Seq<Slot>, AllocError>
-    requires { length labels.now ≤ 32768 }
+    requires { length labels.now ≤ most_labels }
     ensures slots { IfOk result (λ slots. AreSlots (λ j. j) labels.now slots) }
-    ensures placed { IfOk result (λ slots. All (λ slot. IsPlaced labels.now slot.blocker) slots) }
+    ensures placed { IfOk result (λ slots. All (λ slot. IsBlockerPlace labels.now slot.blocker) slots) }
     ensures spent { OnOk result (steps.new ≡ steps.old + length labels.now) }
 {
     same_rivals();

@@ -1,7 +1,7 @@
 //! The text of a choice: one line `ID UNTIL BLOCKER` for each label.
 ghost use Rattle.std.specs.Prelude.{◌≡◌, length, All, IfOk};
 ghost use Rattle.std.specs.String.{string_bytes};
-ghost use Rattle.ml_pass.specs.SlotsText.{IsPlaced, ids, blocker_name, slot_line, slots_text};
+ghost use Rattle.ml_pass.specs.SlotsText.{IsBlockerPlace, ids, blocker_name, slot_line, slots_text};
 
 use ml_cone::{Label, Slot};
 use ml_ratio::{Ratio, Seq};
@@ -14,7 +14,7 @@ use std::alloc::{AllocError, Global};
 /// Want of memory.
 pub fn write_slots(alloc: Global, labels: &[Label], slots: &[Slot]) -> Result<Seq<u8>, AllocError>
     requires one_each { length slots.now ≡ length labels.now }
-    requires places { All (λ slot. IsPlaced labels.now slot.blocker) slots.now }
+    requires places { All (λ slot. IsBlockerPlace labels.now slot.blocker) slots.now }
     ensures { IfOk result (λ text. text ≡ slots_text labels.now slots.now) }
 {
     let mut text = Vec::new(alloc);
@@ -29,7 +29,7 @@ pub fn write_slots(alloc: Global, labels: &[Label], slots: &[Slot]) -> Result<Se
 
 // The blocker's id, or `-` for none.
 fn blocker_of(labels: &[Label], blocker: Option<u32>) -> &str
-    requires { IsPlaced labels.now blocker }
+    requires { IsBlockerPlace labels.now blocker }
     ensures { result.now ≡ blocker_name (ids labels.now) blocker }
 {
     match blocker {

@@ -1,9 +1,11 @@
 pub mod Band
+pub mod Count
 pub mod Feature
 pub mod Floor
 pub mod Fraction
 pub mod Geometry
 pub mod JsonNumber
+pub mod Limits
 pub mod Lines
 pub mod Lists
 pub mod Lowest

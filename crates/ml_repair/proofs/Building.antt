@@ -1,74 +1,69 @@
--- A label that comes in behind all others.
-use Rattle.std.proofs.Common.{◌≡◌, ◌≢◌, ℕ, ◌<◌, ◌≤◌, List, [], ◌∷◌, ◌++◌, length, get_or, reverse, None, inl, inr, refl, sym, ap, ◌∙◌, subst, arith, true, false}
-use Rattle.std.specs.Prelude.{insert}
-use Rattle.std.proofs.lemmas.Bool.{cases_eq}
-use Rattle.std.proofs.lemmas.List.{map-append, append_assoc, reverse-append, length-append}
+-- Labels that come in behind all others, each with its slot.
+use Rattle.std.proofs.Common.{◌≡◌, ℕ, ◌+◌, ◌<◌, ◌≤◌, List, [], ◌∷◌, ◌++◌, length, get_or, take, reverse, map, inl, inr, refl, sym, ap, ◌∙◌, arith}
+use Rattle.std.specs.Prelude.{insert, All}
+use Rattle.std.proofs.lemmas.Bool.{cases_lt}
+use Rattle.std.proofs.lemmas.List.{map-append, append_assoc, reverse-append, length-append, length-map, get_or_default, get_or_push, take_more}
 use Rattle.std.proofs.Math.ListN.{get_or-append}
-use Rattle.std.proofs.lemmas.List.Edits.{length-insert}
 use Rattle.ml_cone.specs.Label.{IsLabelList}
-use Rattle.ml_cone.specs.Slots.{IsOwnSlot, row, no_slot}
+use Rattle.ml_cone.specs.Slots.{Rival, IsOwnSlot, HaveOwnSlots, AreSlots, row, no_slot}
 use Rattle.ml_cone.specs.declared.label.Label.{Label}
-use Rattle.ml_store.specs.Rows.{labels_in, number_at, HasId, IsFresh}
+use Rattle.ml_cone.specs.declared.slot.Slot.{Slot}
+use Rattle.ml_store.specs.Rows.{numbers_in, labels_in, slots_in, number_at, HasId, IsFresh, HaveOwnNumbers}
 use Rattle.ml_store.specs.declared.row.Row.{Row}
-use Rattle.ml_repair.specs.Repair.{AreOwn, AreSettled, IsSettledAt, Stands, present_slots}
-use Rattle.ml_repair.specs.Settled.{IsSettled}
-use Rattle.ml_repair.specs.declared.edit.Moved.{Moved}
-use Rattle.ml_repair.proofs.Carrying.{CarriedLaw, own_same}
+use Rattle.ml_repair.specs.Settled.{IsSettled, AreInTurn}
 use Rattle.ml_repair.proofs.Carries.{id_once}
-use Rattle.ml_repair.proofs.Edited.{OwnLaw, come_start, come_end, moved_none}
-use Rattle.ml_repair.proofs.NearRosters.{numbered_with}
+use Rattle.ml_repair.proofs.Edited.{OwnLaw}
 use Rattle.ml_repair.proofs.Present.{length-labels}
-use Rattle.ml_repair.proofs.Shapes.{settled_after, low_of_rows}
+use Rattle.ml_repair.proofs.Shapes.{low_rows}
 
 -- at the end
 pub insert_last : {X : Type 0} (xs : List X) (x : X) → insert xs (length xs) x ≡ xs ++ x ∷ []
 insert_last [] x = refl
 insert_last (y ∷ xs) x = ap (λ ys. y ∷ ys) (insert_last xs x)
 
-module _ (own_law : OwnLaw) (carried_law : CarriedLaw) (rows : List Row) (r : Row) (moved : List Moved) (none : moved ≡ []) (settled : IsSettled rows) where
-  abbrev all : List Row
-  all = insert rows (length rows) r
-
-  start_settled : AreSettled rows moved
-  start_settled = rw (none, moved_none rows) settled.slots
-
-  -- the slots of the others stay
-  last_own : IsSettledAt (insert rows (length rows) r) moved (length rows) → AreOwn (number_at (insert rows (length rows) r)) (labels_in (insert rows (length rows) r)) (present_slots (insert rows (length rows) r) moved) (length rows) true true
-  last_own here =
-      let start = come_start own_law carried_law rows (length rows) r moved moved (omega arith) start_settled in
-      let many = length-labels (insert rows (length rows) r) in
-      let long = length-insert rows (length rows) r (omega arith) in
-      record {
-        one_slot = start.one_slot;
-        own = λ d i in' there.
-            elim (cases_eq i (length rows)) [
-              | inl e ↦ subst (λ (k : ℕ). IsOwnSlot (row (number_at (insert rows (length rows) r)) (labels_in (insert rows (length rows) r)) (present_slots (insert rows (length rows) r) moved) d) (Stands true true (length rows) k) (get_or (labels_in (insert rows (length rows) r)) k d) (get_or (present_slots (insert rows (length rows) r) moved) k no_slot)) (sym e) (here d)
-              | inr other ↦
-                  let ne : i ≢ length rows = other in
-                  own_same (row (number_at (insert rows (length rows) r)) (labels_in (insert rows (length rows) r)) (present_slots (insert rows (length rows) r) moved) d) (Stands true false (length rows) i) (Stands true true (length rows) i)
-                  (λ j. (λ s. (s.0, λ e. refl), λ s. (s.0, λ e. absurd (let l : j < i = s.0 in let f : j ≡ length rows = e in omega arith))))
-                  (get_or (labels_in (insert rows (length rows) r)) i d) (get_or (present_slots (insert rows (length rows) r) moved) i no_slot) (start.own d i in' (λ e. absurd (other e)))
-            ];
-      }
-
-  pub last_settled : IsSettledAt (insert rows (length rows) r) moved (length rows) → length rows < 32768 → IsFresh r.number rows → r.number < 32768 → IsLabelList (labels_in rows ++ r.label ∷ []) → IsSettled (insert rows (length rows) r)
-  last_settled here few fresh low up =
-      subst IsSettled (rw none (moved_none (insert rows (length rows) r)))
-      (settled_after (insert rows (length rows) r) moved
-      (numbered_with None rows r (length rows) tt (omega arith) few fresh low settled.own_numbers (low_of_rows rows settled.low_numbers))
-      (rw last_labels up)
-      (come_end own_law carried_law rows (length rows) r moved moved (omega arith) (last_own here)))
-    where
-      last_labels : labels_in (insert rows (length rows) r) ≡ labels_in rows ++ r.label ∷ []
-      last_labels = ap labels_in (insert_last rows r) ∙ map-append (λ (t : Row). t.label) rows (r ∷ [])
-
--- the labels after it came in
-pub last_labels : (rows : List Row) (r : Row) → labels_in (insert rows (length rows) r) ≡ labels_in rows ++ r.label ∷ []
-last_labels rows r = ap labels_in (insert_last rows r) ∙ map-append (λ (t : Row). t.label) rows (r ∷ [])
+-- what is read of rows, after one came in behind them
+pub last_read : {A : Type 0} (read : Row → A) (rows : List Row) (r : Row) → map read (insert rows (length rows) r) ≡ map read rows ++ read r ∷ []
+last_read read rows r = ap (map read) (insert_last rows r) ∙ map-append read rows (r ∷ [])
 
 -- no other label has its id
 pub last_id : (rows : List Row) (a : Label) → IsLabelList (labels_in rows ++ a ∷ []) → ¬ (HasId (labels_in rows) a.order.id)
 last_id rows a up = id_once (labels_in rows) (length (labels_in rows)) a (omega arith) (rw (insert_last (labels_in rows) a) up)
+
+-- no rows are in turn
+pub none_in_turn : AreInTurn []
+none_in_turn k lt = absurd (omega arith)
+
+-- where numbers are places, the next place is a number that no row has
+pub next_fresh : (rows : List Row) → AreInTurn rows → IsFresh (length rows) rows
+next_fresh rows turn there =
+    let many = length-map rows (λ (r : Row). r.number) in
+    let k : ℕ = there.0 in
+    let lt : k < length (numbers_in rows) = there.1 in
+    let here : get_or (numbers_in rows) k (length rows) ≡ length rows = there.2 in
+    let e : number_at rows k ≡ k = turn k (omega arith) in
+    let same : get_or (numbers_in rows) k 0 ≡ get_or (numbers_in rows) k (length rows) = get_or_default (numbers_in rows) k 0 (length rows) lt in
+    omega arith
+
+-- a row whose number is the next place is in turn
+pub next_in_turn : (rows : List Row) (r : Row) → AreInTurn rows → r.number ≡ length rows → AreInTurn (insert rows (length rows) r)
+next_in_turn rows r turn its k lt =
+    let many = length-map rows (λ (r : Row). r.number) in
+    let long : length (insert rows (length rows) r) ≡ length rows + 1 = ap length (insert_last rows r) ∙ length-append rows (r ∷ []) in
+    rw (last_read (λ (t : Row). t.number) rows r)
+    (elim (cases_lt k (length rows)) [
+      | inl low ↦ get_or-append (numbers_in rows) (r.number ∷ []) 0 k (omega arith) ∙ turn k low
+      | inr high ↦ let e : k ≡ length (numbers_in rows) = omega arith in get_or_push (numbers_in rows) r.number 0 k (sym e) ∙ its ∙ omega arith
+    ])
+
+-- the slots so far, after a label came in with the next one
+pub next_slots : (before after : List Row) (slots : List Slot) (slot : Slot) → length before < length slots → slot ≡ get_or slots (length before) slot → slots_in before ≡ take (length before) slots → slots_in after ≡ slots_in before ++ slot ∷ [] →
+    slots_in after ≡ take (length after) slots
+next_slots before after slots slot lt read so_far came =
+    let one = length-map before (λ (r : Row). r.slot) in
+    let more = length-map after (λ (r : Row). r.slot) in
+    let long = ap length came ∙ length-append (slots_in before) (slot ∷ []) in
+    let n : length after ≡ length before + 1 = omega arith in
+    came ∙ ap (λ (ss : List Slot). ss ++ slot ∷ []) so_far ∙ ap (λ (s : Slot). take (length before) slots ++ s ∷ []) read ∙ sym (take_more slots (length before) slot lt) ∙ ap (λ (k : ℕ). take k slots) (sym n)
 
 -- the first labels of a list
 pub prefix_labels : (front back : List Label) → IsLabelList (front ++ back) → IsLabelList front
@@ -84,28 +79,40 @@ module _ (rows : List Row) (rest : List Label) (label : Label) (labels : List La
   pub next_up : IsLabelList labels → IsLabelList (labels_in rows ++ label ∷ [])
   next_up up = prefix_labels (labels_in rows ++ label ∷ []) (reverse rest) (rw next_coming up)
 
-  pub next_few : length labels ≤ 32768 → length rows < 32768
-  next_few few =
+  pub next_few : (n : ℕ) → length labels ≤ n → length rows < n
+  next_few n few =
       let a = ap length next_coming in
       let b = length-append (labels_in rows ++ label ∷ []) (reverse rest) in
       let c = length-append (labels_in rows) (label ∷ []) in
       let d = length-labels rows in
       omega arith
 
--- no rows are settled
-pub none_settled : IsSettled []
-none_settled = record {
-  few = omega arith;
-  in_order = λ j i d less lt. absurd (omega arith);
-  own_numbers = λ i j d less lt. absurd (omega arith);
-  low_numbers = λ k d lt. absurd (omega arith);
-  slots = record {
-    one_slot = refl;
-    longest = record {
-      is_choice = λ i d lt. absurd (omega arith);
-      free = λ j i d less lt. absurd (omega arith);
-      greatest = λ b choice free i lt. absurd (omega arith);
-    };
-    blockers = λ i lt. absurd (omega arith);
-  };
+-- a label has the same slot among the same rivals at the same places
+abbrev pub LikeRivals : Type 0
+LikeRivals = (low : Label) (rivals others : ℕ → Rival) (n : ℕ) → ((j : ℕ) → j < n → rivals j ≡ others j) → (slot : Slot) → IsOwnSlot rivals (λ j. j < n) low slot → IsOwnSlot others (λ j. j < n) low slot
+
+-- slots are the longest choice under other numbers too, where these agree at the labels' places
+pub numbered_alike : OwnLaw → LikeRivals → (one other : ℕ → ℕ) (labels : List Label) (slots : List Slot) → ((j : ℕ) → j < length labels → one j ≡ other j) → AreSlots one labels slots → AreSlots other labels slots
+numbered_alike own_law like one other labels slots alike are =
+    let own = (own_law one labels slots).1 are in
+    (own_law other labels slots).0
+    (record {
+      one_slot = own.one_slot;
+      own = λ d i lt.
+          like (get_or labels i d) (row one labels slots d) (row other labels slots d) i
+          (λ j less. ap (λ (n : ℕ). let r : Rival = record { number = n; label = get_or labels j d; until = (get_or slots j no_slot).until } in r) (alike j (omega arith)))
+          (get_or slots i no_slot) (own.own d i lt);
+    })
+
+-- rows in turn with the slots of the longest choice are settled
+pub in_turn_settled : OwnLaw → LikeRivals → (rows : List Row) (labels : List Label) (slots : List Slot) → length rows ≤ 32768 → HaveOwnNumbers rows → All (λ n. n < 32768) (numbers_in rows) → AreInTurn rows →
+    IsLabelList labels → labels_in rows ≡ labels → slots_in rows ≡ slots → AreSlots (λ j. j) labels slots → IsSettled rows
+in_turn_settled own_law like rows labels slots few differ low turn up are_labels are_slots are = record {
+  few = few;
+  in_order = rw are_labels up;
+  own_numbers = differ;
+  low_numbers = low_rows rows low;
+  slots =
+      let many = length-labels rows in
+      rw (are_labels, are_slots) (numbered_alike own_law like (λ j. j) (number_at rows) labels slots (λ j lt. sym (turn j (let n = ap length are_labels in omega arith))) are);
 }

@@ -17,7 +17,7 @@ use Rattle.ml_cone.specs.Slots.{Rival, RivalAllows, IsOwnSlot, IsSlotAmong, riva
 use Rattle.ml_cone.specs.declared.label.Label.{Label}
 use Rattle.ml_cone.specs.declared.slot.Slot.{Slot}
 use Rattle.ml_conflict.specs.Begin.{SetsNoneUpTo}
-use Rattle.ml_conflict.specs.Carried.{AreAlike}
+use Rattle.ml_conflict.specs.Carried.{AreSameRival}
 use Rattle.ml_store.specs.Rows.{number_at, labels_in}
 use Rattle.ml_store.specs.declared.row.Row.{Row}
 use Rattle.ml_repair.specs.declared.edit.Moved.{Moved}
@@ -179,7 +179,7 @@ module _ (free_law : FreeLaw) (rival_law : RivalLaw) (bound_law : BoundLaw) (blo
   unfolding rivals
   rival_is k lt = chosen_is rows moved low places k (record { number = 0; label = low; until = low.max }) lt
 
-  alike : (d : Label) (k : ℕ) → k < length places → AreAlike (rival_at low rivals k) (others d (get_or places k 0))
+  alike : (d : Label) (k : ℕ) → k < length places → AreSameRival (rival_at low rivals k) (others d (get_or places k 0))
   unfolding others
   alike d k lt =
       let many = length-labels rows in
@@ -259,15 +259,15 @@ module _ (free_law : FreeLaw) (rival_law : RivalLaw) (bound_law : BoundLaw) (blo
         ]
       ]
 
-  gathered : (d : Label) (j : ℕ) → Contains places j → (k : ℕ) × (k < length rivals) × AreAlike (rival_at low rivals k) (others d j) × Linked k j
+  gathered : (d : Label) (j : ℕ) → Contains places j → (k : ℕ) × (k < length rivals) × AreSameRival (rival_at low rivals k) (others d j) × Linked k j
   gathered d j there =
       let k = there.0 in
       let lt : k < length places = there.1 in
       let n = rivals_length in
       let e : get_or places k 0 ≡ j = get_or_default places k 0 j lt ∙ there.2 in
-      (k, omega arith, subst (λ (p : ℕ). AreAlike (rival_at low rivals k) (others d p)) e (alike d k lt), (lt, e))
+      (k, omega arith, subst (λ (p : ℕ). AreSameRival (rival_at low rivals k) (others d p)) e (alike d k lt), (lt, e))
 
-  forward : (d : Label) (k : ℕ) → k < length rivals → (j : ℕ) × Stands comes true at i j × AreAlike (rival_at low rivals k) (others d j) × Linked k j
+  forward : (d : Label) (k : ℕ) → k < length rivals → (j : ℕ) × Stands comes true at i j × AreSameRival (rival_at low rivals k) (others d j) × Linked k j
   forward d k lt =
       let n = rivals_length in
       let h : k < length places = omega arith in

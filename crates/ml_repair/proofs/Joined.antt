@@ -9,7 +9,7 @@ use Rattle.ml_cone.specs.Choice.{Choice, IsEnd, IsLongest}
 use Rattle.ml_cone.specs.Slots.{IsOwnSlot, HaveOwnSlots, row, ends, no_slot}
 use Rattle.ml_cone.specs.declared.label.Label.{Label}
 use Rattle.ml_cone.specs.declared.slot.Slot.{Slot}
-use Rattle.ml_conflict.specs.Carried.{AreAlike}
+use Rattle.ml_conflict.specs.Carried.{AreSameRival}
 use Rattle.ml_repair.specs.Repair.{Stands, AreOwn}
 use Rattle.ml_repair.specs.Touched.{left_out}
 use Rattle.ml_repair.proofs.Carrying.{CarriedLaw, carried_by, own_same, stand_test, is_standing, is_below, both_tests, is_same}
@@ -67,12 +67,12 @@ is_place at j k =
 
 module _ (carried_law : CarriedLaw) (at : ℕ) (number shorter_number : ℕ → ℕ) (labels shorter_labels : List Label) (slots shorter_slots : List Slot)
     (of_numbers : (j k : ℕ) → IsPlaceOf at j k → number j ≡ shorter_number k) (of_labels : IsWithout at labels shorter_labels) (of_slots : IsWithout at slots shorter_slots) (comes after : Bool) (apart : ¬ (comes ≡ after)) where
-  row_joined : (d : Label) (j k : ℕ) → IsPlaceOf at j k → AreAlike (row number labels slots d j) (row shorter_number shorter_labels shorter_slots d k)
+  row_joined : (d : Label) (j k : ℕ) → IsPlaceOf at j k → AreSameRival (row number labels slots d j) (row shorter_number shorter_labels shorter_slots d k)
   row_joined d j k p =
       let e = of_slots.same j k no_slot p in
       record { number = of_numbers j k p; label = of_labels.same j k d p; until = rw e refl }
 
-  row_back : (d : Label) (j k : ℕ) → IsPlaceOf at j k → AreAlike (row shorter_number shorter_labels shorter_slots d k) (row number labels slots d j)
+  row_back : (d : Label) (j k : ℕ) → IsPlaceOf at j k → AreSameRival (row shorter_number shorter_labels shorter_slots d k) (row number labels slots d j)
   row_back d j k p =
       let e = of_slots.same j k no_slot p in
       record { number = sym (of_numbers j k p); label = sym (of_labels.same j k d p); until = rw e refl }

@@ -1,13 +1,16 @@
 -- What a search finds in a list of which one row may go, and into which one may come.
-use Rattle.std.proofs.Common.{◌≡◌, ◌≢◌, ℕ, zero, suc, ◌+◌, ◌-◌, ◌<◌, ◌≤◌, List, [], ◌∷◌, length, get_or, take, Contains, ◌⊎◌, inl, inr, refl, sym, ap, ◌∙◌, subst, arith, Option, Some, None}
+use Rattle.std.proofs.Common.{◌≡◌, ◌≢◌, ℕ, zero, suc, ◌+◌, ◌-◌, ◌*◌, ◌^◌, ◌<◌, ◌≤◌, List, [], ◌∷◌, length, get_or, take, Contains, ◌⊎◌, inl, inr, refl, sym, ap, ◌∙◌, subst, arith, Option, Some, None}
 use Rattle.std.specs.Prelude.{insert, All, IfSome, IsSome, remove}
 use denote.Ref.{Bor}
 use Rattle.std.proofs.lemmas.Bool.{cases_lt, cases_eq, false≢true}
 use Rattle.std.proofs.lemmas.List.{get_or_default, get_or-map, length-map, take_more, take_all}
-use Rattle.std.proofs.lemmas.List.Edits.{length-insert, get_or-insert_below}
-use Rattle.std.proofs.lemmas.List.Elements.{Contains-append_left, Contains-push, Contains-push_cases, All-cons, All-tail}
+use Rattle.std.proofs.lemmas.Nat.{mul-le}
+use Rattle.std.proofs.Math.Nat.{pow-le-pow_right}
+use Rattle.std.proofs.lemmas.List.Edits.{length-insert, get_or-insert_at, get_or-insert_below}
+use Rattle.std.proofs.lemmas.List.Elements.{Contains-append_left, Contains-push, Contains-push_cases, All-cons, All-contains, All-tail}
 use Rattle.ml_ratio.specs.Fraction.{value_of, IsAtMost}
 use Rattle.ml_ratio.specs.declared.ratio.Ratio.{Ratio}
+use Rattle.ml_cone.specs.Cell.{IsLastBand}
 use Rattle.ml_cone.specs.Slots.{no_slot}
 use Rattle.ml_cone.specs.Outline.{OverlapIn}
 use Rattle.ml_cone.specs.declared.label.Label.{Label}
@@ -138,6 +141,43 @@ clear_before come at gone rows a i k m scale in' le behind none p n before from 
           none r n some.1 from upto (subst (λ (b : Label). OverlapIn a b n) (label_read all p r r.label over.0 some.2) (over.1 r.label))
           (subst (λ (s : Slot). IsAtMost (value_of scale) (value_of s.until)) (slot_read all p r no_slot over.0 some.2) lasts)
     ]
+
+-- a band that a range reaches into is none behind its last one
+pub last_after : (a : Label) (k last : ℕ) → k < 28 → (0 < k → 2 ^ k * a.max.den ≤ a.max.num) → IsLastBand a last → k ≤ last
+last_after a k last low reaches is =
+    elim (cases_lt last k) [
+      | inl less ↦
+          let p : 2 ^ (last + 1) ≤ 2 ^ k = pow-le-pow_right (omega arith) (omega arith) in
+          let q = mul-le (2 ^ (last + 1)) a.max.den (2 ^ k) a.max.den p (omega arith) in
+          let r = reaches (omega arith) in
+          let t = is.ends (omega arith) in
+          absurd (omega arith)
+      | inr more ↦ more
+    ]
+
+-- in no band before the first the range of a label ends
+abbrev pub EndsFrom : ℕ → List Row → Type 0
+EndsFrom first rows = (p k : ℕ) → p < length rows → ((d : Label) → IsLastBand (get_or (labels_in rows) p d) k) → first ≤ k
+
+-- where the one that is to come ends no earlier either
+pub ends_from : (come : Option (Bor Row)) (at : ℕ) (gone : Option ℕ) (rows : List Row) (first : ℕ) → IfSome gone (λ g. g < length rows) → IfSome come (λ row. at ≤ length (left_rows gone rows)) →
+    All (λ r. (k : ℕ) → IsLastBand r.label k → first ≤ k) rows → IfSome come (λ row. (k : ℕ) → IsLastBand row.now.label k → first ≤ k) → EndsFrom first (joined_rows come at (left_rows gone rows))
+ends_from come at gone rows first in' le ends come_ends p k lt last =
+    elim (row_from come at gone rows p in' le lt) [
+      | inl one ↦ ends_here come le one come_ends last
+      | inr some ↦
+          let r : Row = some.0 in
+          All-contains (λ (t : Row). (m : ℕ) → IsLastBand t.label m → first ≤ m) rows r ends some.1 k (subst (λ (b : Label). IsLastBand b k) (label_read (joined_rows come at (left_rows gone rows)) p r r.label lt some.2) (last r.label))
+    ]
+  where
+    ends_here : (come : Option (Bor Row)) → IfSome come (λ row. at ≤ length (left_rows gone rows)) → IsSome come × (p ≡ at) → IfSome come (λ row. (j : ℕ) → IsLastBand row.now.label j → first ≤ j) →
+        ((d : Label) → IsLastBand (get_or (labels_in (joined_rows come at (left_rows gone rows))) p d) k) → first ≤ k
+    ends_here None le one come_ends last = absurd (false≢true one.0)
+    ends_here (Some row) le one come_ends last =
+        let left = left_rows gone rows in
+        let long = length-insert left at row.now le in
+        let read : row.now ≡ get_or (insert left at row.now) p row.now = rw one.1 (sym (get_or-insert_at left at row.now row.now le)) in
+        come_ends k (subst (λ (b : Label). IsLastBand b k) (label_read (insert left at row.now) p row.now row.now.label (let e = one.1 in omega arith) read) (last row.now.label))
 
 -- ---- places of numbers, a number at a time
 

@@ -7,7 +7,7 @@ use Rattle.ml_cone.specs.Choice.{Choice}
 use Rattle.ml_cone.specs.Slots.{IsOwnSlot, row, ends, no_slot}
 use Rattle.ml_cone.specs.declared.label.Label.{Label}
 use Rattle.ml_cone.specs.declared.slot.Slot.{Slot}
-use Rattle.ml_conflict.specs.Carried.{AreAlike}
+use Rattle.ml_conflict.specs.Carried.{AreSameRival}
 use Rattle.ml_repair.specs.Size.{IsSize}
 use Rattle.ml_repair.specs.Touched.{IsRivalBefore}
 use Rattle.ml_repair.specs.Repair.{Stands}
@@ -67,7 +67,7 @@ module _ (carried_law : CarriedLaw) (number : ℕ → ℕ) (labels : List Label)
       })
       slot own
     where
-      alike : (d : Label) (j : ℕ) → j < i → AreAlike (row number labels slots d j) (row number labels next d j)
+      alike : (d : Label) (j : ℕ) → j < i → AreSameRival (row number labels slots d j) (row number labels next d j)
       alike d j lt =
           let e : ends next j ≡ ends slots j = end_same j lt in
           record { number = refl; label = refl; until = rw e refl }

@@ -9,7 +9,7 @@ use Rattle.ml_cone.specs.Rivals.{AreRivals}
 use Rattle.ml_cone.specs.Slots.{IsOwnSlot, row, ends, no_slot}
 use Rattle.ml_cone.specs.declared.label.Label.{Label}
 use Rattle.ml_cone.specs.declared.slot.Slot.{Slot}
-use Rattle.ml_conflict.specs.Carried.{AreAlike}
+use Rattle.ml_conflict.specs.Carried.{AreSameRival}
 use Rattle.ml_repair.specs.Touched.{IsRivalBefore}
 use Rattle.ml_repair.specs.Repair.{Stands, AreOwn}
 use Rattle.ml_repair.proofs.Carrying.{CarriedLaw, carried_by, stand_test, is_standing, is_same}
@@ -28,7 +28,7 @@ module _ (free_law : FreeLaw) (smaller_law : SmallerLaw) (carried_law : CarriedL
   before : (d : Label) (j : ℕ) → j < i → AreRivals (get_or labels i d) (get_or labels j d) → IsRivalBefore labels j i
   before d j lt r = (lt, rivals_at labels i j d in' (omega arith) r)
 
-  alike : (d : Label) (j : ℕ) → j < i → AreRivals (get_or labels i d) (get_or labels j d) → AreAlike (row number labels old d j) (row number labels slots d j)
+  alike : (d : Label) (j : ℕ) → j < i → AreRivals (get_or labels i d) (get_or labels j d) → AreSameRival (row number labels old d j) (row number labels slots d j)
   alike d j lt r = record {
     number = refl;
     label = refl;

@@ -1,19 +1,21 @@
 -- Later rivals, and labels that wait.
-use Rattle.std.proofs.Common.{◌≡◌, ℕ, ◌+◌, ◌<◌, ◌≤◌, Bool, true, false, List, [], length, get_or, set, Contains, ◌⊎◌, inl, inr, refl, sym, ap, ◌∙◌, subst, arith, get_or-set_same, get_or-set_other}
+use Rattle.std.proofs.Common.{◌≡◌, ℕ, ◌+◌, ◌<◌, ◌≤◌, Bool, true, false, List, [], length, get_or, set, max, min, Contains, ◌⊎◌, inl, inr, refl, sym, ap, ◌∙◌, subst, arith, get_or-set_same, get_or-set_other}
 use Rattle.std.specs.Prelude.{◌↔◌, All}
 use Rattle.std.proofs.lemmas.Bool.{cases_lt, cases_eq}
 use Rattle.std.proofs.lemmas.List.{get_or_default}
 use Rattle.ml_ratio.specs.Fraction.{value_of}
 use Rattle.ml_ratio.specs.Band.{IsInBand}
 use Rattle.ml_cone.specs.Rivals.{AreRivals}
-use Rattle.ml_cone.specs.Cell.{SharedCell}
+use Rattle.ml_cone.specs.Cell.{IsLastBand}
+use Rattle.ml_cone.specs.Outline.{LastCell}
 use Rattle.ml_cone.specs.declared.label.Label.{Label}
 use Rattle.ml_store.specs.Rows.{labels_in}
 use Rattle.ml_store.specs.declared.row.Row.{Row}
 use Rattle.ml_repair.specs.Roster.{AreFound, IsFoundAt}
 use Rattle.ml_repair.specs.Repair.{AreSuspects, IsWokenBy}
 use Rattle.ml_repair.specs.Touched.{IsRivalBefore}
-use Rattle.ml_repair.proofs.Gathering.{band_from, band_up_to}
+use Rattle.ml_repair.proofs.Gathering.{band_from}
+use Rattle.ml_repair.proofs.NearRosters.{EndsFrom, last_after}
 use Rattle.ml_repair.proofs.Present.{length-labels}
 
 -- ---- band by band
@@ -38,21 +40,31 @@ suspects_more rows a first band places more so_far are = record {
 }
 
 abbrev pub ShareLaw : Type 0
-ShareLaw = (a b : Label) → AreRivals a b → SharedCell a b
+ShareLaw = (a b : Label) → AreRivals a b → LastCell a b
 
-pub suspects_all : ShareLaw → (rows : List Row) (a : Label) (first band last : ℕ) (places : List ℕ) → SuspectsBelow rows a first band places → IsInBand (value_of a.min) first → IsInBand (value_of a.max) last → (last < band) ⊎ (28 ≤ band) → AreSuspects rows a places
-suspects_all law rows a first band last places done starts ends' stop = record {
+-- the bands from the first in which a range ends up to the label's last one are enough
+pub suspects_all : ShareLaw → (rows : List Row) (a : Label) (first band last ends begins : ℕ) (places : List ℕ) → SuspectsBelow rows a first band places → IsInBand (value_of a.min) begins → IsLastBand a last →
+    EndsFrom ends rows → first ≡ max (min ends last) begins → last < band → AreSuspects rows a places
+suspects_all law rows a first band last ends begins places done starts is from least stop = record {
   within = λ k d lt. done.within (get_or places k d) (k, lt, get_or_default places k (get_or places k d) d lt);
   whole = λ p p_in rivals.
       let many = length-labels rows in
       let b : Label = get_or (labels_in rows) p a in
-      let cell = law b a (rivals a) in
+      let both = law b a (rivals a) in
+      let cell = both.cell in
       let k = cell.band in
-      let from = band_from (value_of a.min) (value_of a.max) k first cell.second.meets starts in
-      let upto = band_up_to (value_of a.min) (value_of a.max) k last cell.second.meets ends' in
-      let few : k < 28 = cell.first.low in
-      let below : k < band = elim stop [ inl h ↦ omega arith | inr h ↦ omega arith ] in
-      done.whole p k (p_in, λ d. rw (get_or_default (labels_in rows) p d a (omega arith)) (record { x = cell.x; y = cell.y; among = cell.second.among; kept = cell.first })) from below;
+      let begun = band_from (value_of a.min) (value_of a.max) k begins cell.second.meets starts in
+      let upto = last_after a k last cell.second.low cell.second.meets.reaches is in
+      let after : first ≤ k =
+      elim both.last [
+        | inl of_other ↦
+            let e : ends ≤ k = from p k p_in (λ d. subst (λ (l : Label). IsLastBand l k) (get_or_default (labels_in rows) p a d (omega arith)) of_other) in
+            omega arith
+        | inr of_label ↦
+            let e : last ≤ k = last_after a last k is.low is.reaches of_label in
+            omega arith
+      ] in
+      done.whole p k (p_in, λ d. rw (get_or_default (labels_in rows) p d a (omega arith)) (record { x = cell.x; y = cell.y; among = cell.second.among; kept = cell.first })) after (omega arith);
 }
 
 -- ---- places one after another

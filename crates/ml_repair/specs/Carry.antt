@@ -1,5 +1,6 @@
 -- What carrying out a plan needs.
 use Rattle.std.specs.Prelude.{ℕ, ◌<◌, ◌≤◌, List, ⊤}
+use Rattle.ml_ratio.specs.Limits.{most_labels}
 use Rattle.ml_grid.specs.Count.{entry_count}
 use Rattle.ml_store.specs.Pairs.{pair_count}
 use Rattle.ml_store.specs.Rows.{labels_in, HasId, IsFresh, Stored}
@@ -10,7 +11,7 @@ use Rattle.ml_repair.specs.declared.edit.LabelEdit.TheVariants.{Add, Remove, Rep
 -- the row has a number and an id that none of the rows has
 pub record CanComeIn (row : Row) (rows : List Row) : Type 0 where
   pub fresh : IsFresh row.number rows
-  pub low : row.number < 32768
+  pub low : row.number < most_labels
   pub new_id : ¬ (HasId (labels_in rows) row.label.order.id)
 
 -- how many labels an edit takes out

@@ -1,5 +1,6 @@
 -- The labels that an edit is planned over: the live ones but one that is passed over, and one that is to come.
 use Rattle.std.specs.Prelude.{ℕ, ◌≡◌, ◌+◌, ◌<◌, ◌≤◌, List, length, All, insert, remove, slice_index_or, Option, Some, None, Contains, ◌⊎◌, ◌↔◌}
+use Rattle.ml_ratio.specs.Limits.{most_labels}
 use denote.Ref.{Bor}
 use Rattle.ml_ratio.specs.Fraction.{value_of, IsAtMost}
 use Rattle.ml_ratio.specs.declared.ratio.Ratio.{Ratio}
@@ -23,9 +24,9 @@ joined_rows (Some row) at rows = insert rows at row.now
 
 -- there are not too many rows, and each has a low number of its own
 pub record AreNumbered (rows : List Row) : Type 0 where
-  pub few : length rows ≤ 32768
+  pub few : length rows ≤ most_labels
   pub differ : HaveOwnNumbers rows
-  pub low : All (λ n. n < 32768) (numbers_in rows)
+  pub low : All (λ n. n < most_labels) (numbers_in rows)
 
 -- a search for the label in band k finds that at the place
 abbrev pub IsFoundAt : List Row → Label → ℕ → ℕ → Type 0

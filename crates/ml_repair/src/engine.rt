@@ -1,6 +1,7 @@
 //! The engine.
 ghost use Rattle.std.specs.Prelude.{ℕ, ◌≡◌, ◌≢◌, ◌+◌, ◌<◌, ◌≤◌, ◌↔◌, IsTrue, Some, None, List, length, All, Contains, OnOk, IfOk, IfSome, MatchOption};
 ghost use Rattle.std.specs.List.{AllPairs};
+ghost use Rattle.ml_ratio.specs.Limits.{most_labels};
 ghost use Rattle.ml_cone.specs.declared.label.Label.{Label};
 ghost use Rattle.ml_store.specs.Rows.{numbers_in, labels_in, slots_in, IsLive, HasId, IsNumberOf};
 ghost use Rattle.ml_store.specs.declared.row.Row.{Row};
@@ -51,7 +52,7 @@ impl Engine {
     /// Want of memory.
     pub fn build(alloc: Global, labels: Seq<Label>) -> Result<Engine, AllocError>
         requires differ { AllPairs (λ one other. one.order.id ≢ other.order.id) labels }
-        requires few { length labels ≤ 32768 }
+        requires few { length labels ≤ most_labels }
         ensures labels { IfOk result (λ engine. (label : Label) → Contains (labels_in engine.rows) label ↔ Contains labels label) }
         ensures settled { IfOk result (λ engine. IsSettled engine.rows) }
     {
@@ -122,7 +123,7 @@ impl Engine {
         steps: &mut Steps<L>,
     ) -> Result<Plan, AllocError>
         requires new_id { ¬ (HasId (labels_in self.now.rows) label.order.id) }
-        requires few { length self.now.rows < 32768 }
+        requires few { length self.now.rows < most_labels }
         ensures { IfOk result (λ plan. IsPlanFor plan self.now.rows label.order.id (Some label) steps.old steps.new) }
     {
         plan_in(alloc, &self.store, label, steps)

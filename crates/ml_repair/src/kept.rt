@@ -1,6 +1,7 @@
 //! The slot of a label whose blocker stands as it did.
 ghost use Rattle.std.specs.Prelude.{ℕ, ◌≡◌, ◌+◌, ◌<◌, ◌⊎◌, ◌↔◌, true, Some, List, length, All, Contains, IfOk, IfSome, MatchBool, slice_index_or};
 ghost use Rattle.std.specs.List.Sorted.{IsStrictlyIncreasing};
+ghost use Rattle.ml_ratio.specs.Limits.{most_labels};
 ghost use Rattle.ml_cone.specs.Choice.{IsEnd};
 ghost use Rattle.ml_cone.specs.Slots.{ends};
 ghost use Rattle.ml_cone.specs.declared.label.Label.{Label};
@@ -63,7 +64,7 @@ fn given_places(
     changed: &[u32],
     blocker: Option<usize>,
 ) -> Result<Vec<u32>, AllocError>
-    requires { IfSome blocker (λ b. b < 32768) }
+    requires { IfSome blocker (λ b. b < most_labels) }
     ensures { IfOk result (λ places. (p : ℕ) → Contains places.items p ↔ (Contains changed.now p ⊎ (blocker ≡ Some p))) }
 {
     let mut places = changed.to_vec(alloc)?;
@@ -82,7 +83,7 @@ fn places_with(
     changed: &[u32],
     blocker: Option<usize>,
 ) -> Result<Vec<u32>, AllocError>
-    requires { IfSome blocker (λ b. b < 32768) }
+    requires { IfSome blocker (λ b. b < most_labels) }
     ensures ascending { IfOk result (λ places. IsStrictlyIncreasing places.items) }
     ensures same { IfOk result (λ places. (p : ℕ) → Contains places.items p ↔ (Contains changed.now p ⊎ (blocker ≡ Some p))) }
 {

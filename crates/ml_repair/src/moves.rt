@@ -1,5 +1,6 @@
 //! New slots of labels, found by number.
 ghost use Rattle.std.specs.Prelude.{ℕ, ◌≡◌, ◌<◌, ◌≤◌, ◌==◌, [], List, length, All, IfOk, if◌then◌else◌};
+ghost use Rattle.ml_ratio.specs.Limits.{most_labels};
 ghost use Rattle.ml_cone.specs.declared.slot.Slot.{Slot};
 ghost use Rattle.ml_store.specs.Rows.{AreDifferent};
 ghost use Rattle.ml_repair.specs.Plan.{slot_for};
@@ -7,6 +8,7 @@ ghost use Rattle.ml_repair.specs.Moves.{numbers_of};
 
 use crate::edit::Moved;
 use ml_cone::Slot;
+use ml_ratio::MOST_LABELS;
 use std::alloc::{AllocError, Global};
 use std::marker::Model;
 
@@ -37,7 +39,7 @@ impl Moves {
     pub fn new(alloc: Global) -> Result<Moves, AllocError>
         ensures { IfOk result (λ moves. moves ≡ []) }
     {
-        let column = vec![in alloc; 0; 32768]?;
+        let column = vec![in alloc; 0; MOST_LABELS]?;
         Ok(Moves {
             moved: Vec::new(alloc),
             column,
@@ -46,7 +48,7 @@ impl Moves {
 
     /// The slot of the label with this number, whose own slot is `own`.
     pub fn slot(&self, number: u32, own: Slot) -> Slot
-        requires { number < 32768 }
+        requires { number < most_labels }
         ensures { result ≡ slot_for number own self.now }
     {
         let at = self.column[number as usize] as usize;
@@ -58,7 +60,7 @@ impl Moves {
     /// # Errors
     /// Want of memory.
     pub fn put(&mut self, number: u32, slot: Slot) -> Result<(), AllocError>
-        requires { number < 32768 }
+        requires { number < most_labels }
         ensures { IfOk result (λ _. (n : ℕ) (own : Slot) → slot_for n own self.new ≡ (if n == number then slot else slot_for n own self.old)) }
     {
         let at = self.column[number as usize] as usize;
@@ -82,7 +84,7 @@ impl Moves {
     /// The new slots as a vector.
     pub fn into_vec(self) -> Vec<Moved>
         ensures moved { result.items ≡ self }
-        ensures few { length self ≤ 32768 }
+        ensures few { length self ≤ most_labels }
     {
         let Moves { moved, column: _ } = self;
         moved

@@ -1,5 +1,6 @@
 //! One label goes, or one comes.
 ghost use Rattle.std.specs.Prelude.{ℕ, ◌≡◌, ◌+◌, ◌<◌, ◌≤◌, [], true, false, List, length, insert, remove, Some, IfSome, IfOk};
+ghost use Rattle.ml_ratio.specs.Limits.{most_labels};
 ghost use Rattle.ml_cone.specs.Slots.{AreSlots};
 ghost use Rattle.ml_cone.specs.declared.slot.Slot.{Slot};
 ghost use Rattle.ml_store.specs.Rows.{labels_in, number_at, IsFresh};
@@ -37,7 +38,7 @@ pub fn pass_out<L: Ledger>(
     ensures after { IfOk result (λ _. AreSettled (remove store.now.rows at) moves.new) }
     ensures touched { IfOk result (AreTouched (labels_in store.now.rows) at false) }
     ensures kept { IfOk result (λ _. (own : Slot) → slot_for (number_at store.now.rows at) own moves.new ≡ slot_for (number_at store.now.rows at) own moves.old) }
-    ensures few { IfOk result (λ n. n ≤ 32768) }
+    ensures few { IfOk result (λ n. n ≤ most_labels) }
     ensures spent { IfOk result (λ n. steps.new ≡ steps.old + n) }
 {
     own_slots();
@@ -62,9 +63,9 @@ pub fn settle_coming<L: Ledger>(
 ) -> Result<(), AllocError>
     requires gone { IfSome gone (λ g. g < length store.now.rows) }
     requires is_place { at ≤ length (left_rows gone store.now.rows) }
-    requires few { length (left_rows gone store.now.rows) < 32768 }
+    requires few { length (left_rows gone store.now.rows) < most_labels }
     requires fresh { IsFresh row.old.number (left_rows gone store.now.rows) }
-    requires low { row.old.number < 32768 }
+    requires low { row.old.number < most_labels }
     requires before { AreSettled (left_rows gone store.now.rows) moves.now }
     requires kept { (own : Slot) → slot_for row.old.number own moves.now ≡ own }
     ensures number { row.new.number ≡ row.old.number }
@@ -97,9 +98,9 @@ pub fn pass_in<L: Ledger>(
 ) -> Result<u32, AllocError>
     requires gone { IfSome gone (λ g. g < length store.now.rows) }
     requires is_place { at ≤ length (left_rows gone store.now.rows) }
-    requires few { length (left_rows gone store.now.rows) < 32768 }
+    requires few { length (left_rows gone store.now.rows) < most_labels }
     requires fresh { IsFresh row.old.number (left_rows gone store.now.rows) }
-    requires low { row.old.number < 32768 }
+    requires low { row.old.number < most_labels }
     requires before { AreSettled (left_rows gone store.now.rows) moves.old }
     requires kept { (own : Slot) → slot_for row.old.number own moves.old ≡ own }
     ensures number { row.new.number ≡ row.old.number }
@@ -107,7 +108,7 @@ pub fn pass_in<L: Ledger>(
     ensures after { IfOk result (λ _. AreSettled (insert (left_rows gone store.now.rows) at row.new) moves.new) }
     ensures touched { IfOk result (AreTouched (labels_in (insert (left_rows gone store.now.rows) at row.new)) at true) }
     ensures kept { IfOk result (λ _. (own : Slot) → slot_for row.new.number own moves.new ≡ own) }
-    ensures few { IfOk result (λ n. n ≤ 32768) }
+    ensures few { IfOk result (λ n. n ≤ most_labels) }
     ensures spent { IfOk result (λ n. steps.new ≡ steps.old + n) }
 {
     own_slots();

@@ -1,5 +1,6 @@
 //! Plans of edits.
 ghost use Rattle.std.specs.Prelude.{◌≡◌, ◌≤◌, length};
+ghost use Rattle.ml_ratio.specs.Limits.{most_labels};
 ghost use Rattle.ml_grid.specs.Count.{entry_count};
 ghost use Rattle.ml_store.specs.Pairs.{pair_count};
 ghost use Rattle.ml_repair.specs.Plan.{room_of, labels_needed, cells_needed, pairs_needed, moved_pairs};
@@ -27,13 +28,14 @@ pub struct Plan {
 
 impl Model for Plan {
     ghost use Rattle.std.specs.Prelude.{length, ◌≤◌};
+    ghost use Rattle.ml_ratio.specs.Limits.{most_labels};
     ghost use Rattle.ml_repair.specs.Plan.{Planned};
 
     ghost Value = { Planned };
 
     ghost view = { λ p. record { edit = p.edit; moved = p.moved.items; changes = p.changes; evaluated = p.evaluated } };
 
-    ghost invariant = { λ p. length p.moved.items ≤ 32768 };
+    ghost invariant = { λ p. length p.moved.items ≤ most_labels };
 }
 
 impl Plan {
@@ -122,9 +124,9 @@ fn pairs_for(edit: &LabelEdit) -> usize
 
 // How many pairs come with new slots.
 fn pairs_for_moved(moved: &[Moved]) -> usize
-    requires { length moved.now ≤ 32768 }
+    requires { length moved.now ≤ most_labels }
     ensures count { result ≡ moved_pairs moved.now }
-    ensures low { result ≤ 32768 }
+    ensures low { result ≤ most_labels }
 {
     let mut count = 0;
     for m in moved {

@@ -1,5 +1,6 @@
 //! How plans are made.
 ghost use Rattle.std.specs.Prelude.{ℕ, ◌≡◌, ◌+◌, ◌<◌, Some, None, List, length, IfOk, slice_index_or};
+ghost use Rattle.ml_ratio.specs.Limits.{most_labels};
 ghost use Rattle.ml_cone.specs.declared.label.Label.{Label};
 ghost use Rattle.ml_store.specs.Rows.{labels_in, slots_in, HasId};
 ghost use Rattle.ml_store.specs.declared.row.Row.{Row};
@@ -93,7 +94,7 @@ pub fn plan_in<L: Ledger>(
 ) -> Result<Plan, AllocError>
     requires settled { IsSettled store.now.rows }
     requires new_id { ¬ (HasId (labels_in store.now.rows) label.order.id) }
-    requires few { length store.now.rows < 32768 }
+    requires few { length store.now.rows < most_labels }
     ensures { IfOk result (λ plan. IsPlanFor plan store.now.rows label.order.id (Some label) steps.old steps.new) }
 {
     let number = store.free();

@@ -1,5 +1,6 @@
 //! New slots after one label comes or goes.
 ghost use Rattle.std.specs.Prelude.{ℕ, ◌≡◌, ◌≢◌, ◌+◌, ◌<◌, ◌≤◌, ◌⊎◌, ◌↔◌, ◌++◌, ◌∷◌, [], true, false, IsTrue, List, length, Contains, IfOk, MatchBool, slice_index_or, if◌then◌else◌};
+ghost use Rattle.ml_ratio.specs.Limits.{most_labels};
 ghost use Rattle.ml_ratio.specs.Fraction.{value_of, IsSame};
 ghost use Rattle.ml_cone.specs.Choice.{IsEnd};
 ghost use Rattle.ml_cone.specs.Slots.{ends};
@@ -104,7 +105,7 @@ fn renew<L: Ledger>(
 
 // The places whose labels have other ends before any is evaluated: that of the edited label, where it comes.
 fn first_changed(alloc: Global, at: usize, comes: bool) -> Result<Vec<u32>, AllocError>
-    requires { at < 32768 }
+    requires { at < most_labels }
     ensures { IfOk result (λ places. (p : ℕ) → Contains places.items p ↔ ((p ≡ at) × (comes ≡ true))) }
 {
     let mut places = Vec::new(alloc);

@@ -1,12 +1,14 @@
 //! The labels that an edit is planned over.
 ghost use Rattle.std.specs.Prelude.{ℕ, ◌≡◌, ◌+◌, ◌<◌, ◌≤◌, ◌⊎◌, ◌↔◌, List, length, insert, take, Contains, Option, Some, None, IsTrue, IsSome, IfSome, IfOk, MatchOption, HoldsAt, OnOk, slice_index_or};
+ghost use Rattle.ml_ratio.specs.Limits.{most_labels};
+ghost use Rattle.ml_cone.specs.Cell.{IsLastBand};
 ghost use Rattle.ml_cone.specs.declared.label.Label.{Label};
 ghost use Rattle.ml_store.specs.Rows.{number_at, labels_in, IsFresh};
 ghost use Rattle.ml_store.specs.Search.{Gathers};
 ghost use Rattle.ml_store.specs.Table.{IsRowAt, IsPlaceIn, slot_at};
 ghost use Rattle.ml_repair.specs.Roster.{left_rows, joined_rows, AreNumbered, AreFound, AreOverlapped, NoneBefore, PlacesCame, IsPlaceWithout};
 
-use ml_cone::Label;
+use ml_cone::{Label, last_band};
 use ml_ratio::{Ratio, Seq};
 use ml_store::{Row, Store};
 use std::alloc::{AllocError, Global};
@@ -85,7 +87,7 @@ fn place_without(gone: Option<usize>, at: usize) -> Option<usize>
 
 // The place with one more at `at` in the list.
 fn place_with(at: usize, place: Option<usize>) -> Option<usize>
-    requires { IfSome place (λ p. p < 32768) }
+    requires { IfSome place (λ p. p < most_labels) }
     ensures { MatchOption result (place ≡ None) (λ q. (p : ℕ) × (place ≡ Some p) × IsPlaceWithout (Some at) q p) }
 {
     match place {
@@ -180,7 +182,7 @@ pub fn push_places(
 
 // Appends the place of the row that is to come, if one is.
 fn push_come(come: Option<&Row>, at: usize, out: &mut Seq<u32>) -> Result<(), AllocError>
-    requires { IfSome come (λ row. at ≤ 32768) }
+    requires { IfSome come (λ row. at ≤ most_labels) }
     ensures { IfOk result (λ _. Gathers (λ p. IsSome come.entry × (p ≡ at)) out.old out.new) }
 {
     match come {
@@ -224,9 +226,9 @@ impl<'a> Roster<'a> {
     pub fn with(store: &'a Store, gone: Option<usize>, come: &'a Row, at: usize) -> Roster<'a>
         requires gone { IfSome gone (λ g. g < length store.now.rows) }
         requires at { at ≤ length (left_rows gone store.now.rows) }
-        requires few { length (left_rows gone store.now.rows) < 32768 }
+        requires few { length (left_rows gone store.now.rows) < most_labels }
         requires fresh { IsFresh come.now.number (left_rows gone store.now.rows) }
-        requires low { come.now.number < 32768 }
+        requires low { come.now.number < most_labels }
         ensures { result ≡ insert (left_rows gone store.now.rows) at come.now }
     {
         let _many = store.len();
@@ -269,6 +271,19 @@ impl<'a> Roster<'a> {
         ensures { IsPlaceIn self.now number result }
     {
         joined_place(self.store, self.gone, self.come, self.at, number)
+    }
+
+    /// A band, at most 27, up to that in which the selectable range of some label ends first: in no band
+    /// before it the range of any ends.
+    pub fn first_end(&self) -> u8
+        ensures low { result ≤ 27 }
+        ensures ends { (p k : ℕ) → p < length self.now → ((d : Label) → IsLastBand (slice_index_or (labels_in self.now) p d) k) → result ≤ k }
+    {
+        let first = self.store.first_end();
+        match self.come {
+            Some(row) => first.min(last_band(&row.label)),
+            None => first,
+        }
     }
 
     /// Appends places, among them those of all labels that are kept in a cell of the label's hull in the

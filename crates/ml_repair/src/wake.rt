@@ -4,23 +4,23 @@ ghost use Rattle.ml_repair.specs.Repair.{AreSuspects, IsWokenBy};
 ghost use Rattle.ml_repair.specs.Touched.{IsRivalBefore};
 ghost use Rattle.ml_store.specs.Rows.{labels_in};
 
-use crate::gather::ascending;
 use crate::roster::Roster;
-use ml_cone::Label;
 use ml_cone::laws::rivals_share;
+use ml_cone::{Label, last_band};
 use ml_conflict::are_rivals;
 use ml_ratio::Seq;
 use std::alloc::{AllocError, Global};
 
-// Places, among them those of all rivals of the label: all bands of its range are searched.
+// Places, among them those of all rivals of the label: rivals share a cell in the last band of one of them, so the
+// bands of the label's range are searched from that on in which a range ends first.
 fn suspects(alloc: Global, roster: &Roster<'_>, label: &Label) -> Result<Seq<u32>, AllocError>
     ensures { IfOk result (AreSuspects roster.now label.now) }
 {
     rivals_share();
     let mut places = Seq::new(alloc);
-    let last = label.max().band();
-    let mut band = label.min().band();
-    while band <= last && band < 28 {
+    let last = last_band(label);
+    let mut band = roster.first_end().min(last).max(label.min().band());
+    while band <= last {
         roster.near(alloc, label, band, &mut places)?;
         band += 1;
     }
@@ -54,8 +54,7 @@ fn wake_among(roster: &Roster<'_>, places: &[u32], i: usize, waits: &mut Vec<boo
     }
 }
 
-/// The later rivals of the label at `i` wait from now on. A label that is found in several bands is judged
-/// once.
+/// The later rivals of the label at `i` wait from now on.
 ///
 /// # Errors
 /// Want of memory.
@@ -72,7 +71,7 @@ pub fn wake(
         IsTrue (slice_index_or waits.new.items k false) ↔ (IsTrue (slice_index_or waits.old.items k false) ⊎ IsRivalBefore (labels_in roster.now) i k)) }
 {
     let row = roster.row(i);
-    let places = ascending(suspects(alloc, roster, &row.label)?);
-    wake_among(roster, &places, i, waits);
+    let places = suspects(alloc, roster, &row.label)?;
+    wake_among(roster, places.as_slice(), i, waits);
     Ok(())
 }

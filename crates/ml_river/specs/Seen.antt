@@ -5,9 +5,9 @@ use Rattle.ml_river.specs.Run.{span, line_at, IsRunOf, IsBefore}
 use Rattle.ml_river.specs.declared.runs.Run.{Run}
 
 -- how far the ends of a run lie apart, 0 without one
-abbrev pub span_of : Option Run → ℕ
-span_of None = 0
-span_of (Some run) = run.span
+abbrev pub extent_of : Option Run → ℕ
+extent_of None = 0
+extent_of (Some run) = run.span
 
 -- the run is the widest of those that begin before place a of line i, the first at a tie
 pub record IsWidestBefore (lines : List (List Pos)) (i a : ℕ) (run : Run) : Type 0 where

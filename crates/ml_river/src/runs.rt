@@ -1,7 +1,7 @@
 //! Runs: the stretches of a line on which x strictly rises or strictly falls.
 ghost use Rattle.std.specs.Prelude.{nat_lt, if◌then◌else◌, Some, ◌≡◌, ◌+◌, ◌<◌, ◌≤◌, ◌↔◌, IsTrue, length, MatchOption};
-ghost use Rattle.ml_river.specs.Seen.{span_of, IsBestBefore};
-ghost use Rattle.ml_river.specs.Run.{step, span, line_at, IsEnd, IsWidestRun, HasNoRun};
+ghost use Rattle.ml_river.specs.Seen.{extent_of, IsBestBefore};
+ghost use Rattle.ml_river.specs.Run.{step, span, line_at, IsLastStep, IsWidestRun, HasNoRun};
 
 use ml_ratio::{Pos, Seq};
 use std::cmp::Ordering;
@@ -36,7 +36,7 @@ fn goes_alike(line: &[Pos], a: usize, b: usize) -> bool
 // The last place to which all steps from `from` on go the same way.
 fn end_of(line: &[Pos], from: usize) -> usize
     requires { from + 1 < length line.now }
-    ensures { IsEnd line.now from result }
+    ensures { IsLastStep line.now from result }
 {
     let mut end = from + 1;
     while end + 1 < line.len() && goes_alike(line, end, from) {
@@ -56,7 +56,7 @@ fn span(line: &[Pos], a: usize, b: usize) -> u64
 
 // The run, where it is wider than the best so far.
 fn better(best: Option<Run>, run: Run) -> Option<Run>
-    ensures { result ≡ (if nat_lt (span_of best) run.span then Some run else best) }
+    ensures { result ≡ (if nat_lt (extent_of best) run.span then Some run else best) }
 {
     let widest = match best {
         Some(best) => best.span,

@@ -1,8 +1,10 @@
 -- What the command printed, and the connections that it served.
 use Rattle.std.proofs.Common.{◌≡◌, ℕ, ◌<◌, ◌≤◌, ◌⊎◌, inl, inr, true, false, List, [], ◌∷◌, ◌++◌, length, take, flat_map, codes, Option, refl, sym, ap, ◌∙◌, append-nil, arith}
 use Rattle.std.proofs.lemmas.List.{length-append, take-append-le}
+use Rattle.ml_io.specs.Calls.{Passed, LinkEnds}
 use Rattle.ml_io.specs.declared.link.Link.{Link}
-use Rattle.ml_io.specs.Causes.{one_more, Appends, AppendsPart}
+use Rattle.ml_ratio.specs.Count.{one_more}
+use Rattle.ml_io.specs.Causes.{Appends, AppendsPart}
 use Rattle.ml_io.specs.Takes.{HasRunOut}
 use Rattle.ml_watch.specs.Hearing.{Hearing}
 use Rattle.ml_http.specs.Connection.{IsCut}
@@ -72,11 +74,11 @@ pub served_from : {S I O A : Type 0} (one : S → Visit I O A → S → Type 0) 
 served_from one n b c c' a d d' old new same same_done served = rw (sym same, sym same_done) served
 
 -- the connections served, and the end of the command
-pub headline_of : {W I O : Type 0} (hearing : W → Hearing) → NothingHeard hearing → HeardTwice hearing → (left : I → Option (List ℕ)) (read_faults : I → ℕ) (written : O → Option (List ℕ)) (write_faults : O → ℕ) (old new : LinkState W) (c c' d d' : Option (List (Link I O))) (count n : ℕ) (door : DoorSaid (Link I O)) (w w' : Option (List ℕ)) (status : ServeEnd) →
-    HasServed (IsVisit hearing left read_faults written write_faults) n c c' d d' old new → IsEndOfServing count n door w w' status →
-    (visits : List (Visit I O LinkAnswer)) × Headline (IsVisit hearing left read_faults written write_faults) (λ s. s.crowd) hearing old new c c' d d' visits × IsEndOfServing count (length visits) door w w' status
-headline_of hearing none twice left read_faults written write_faults old new c c' d d' count n door w w' status served end = (
+pub headline_of : {W I O : Type 0} (hearing : W → Hearing) → NothingHeard hearing → HeardTwice hearing → (ends : LinkEnds I O) (old new : LinkState W) (door : Passed I O) (count n : ℕ) (said : DoorSaid (Link I O)) (w w' : Option (List ℕ)) (status : ServeEnd) →
+    HasServed (IsVisit hearing ends) n door.coming door.coming_after door.done door.done_after old new → IsEndOfServing count n said w w' status →
+    (visits : List (Visit I O LinkAnswer)) × Headline hearing ends old new door visits × IsEndOfServing count (length visits) said w w' status
+headline_of hearing none twice ends old new door count n said w w' status served end = (
   served.visits,
-  record { came = served.came; gone = served.gone; replies = served.states; hears = hears_follow hearing none twice left read_faults written write_faults old new served.visits served.states },
+  record { came = served.came; gone = served.gone; replies = served.states; hears = hears_follow hearing none twice ends old new served.visits served.states },
   rw served.number end,
 )

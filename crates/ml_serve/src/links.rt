@@ -1,19 +1,17 @@
 //! Connections one after another.
 ghost use Rattle.std.specs.Prelude.{◌≡◌, ◌<◌, ◌≤◌, ◌⊎◌, ℕ, true, false, Ok, IfOk, OnErr};
+ghost use Rattle.ml_io.specs.Calls.{link_ends};
 ghost use Rattle.ml_io.specs.Causes.{HasCause};
 ghost use Rattle.ml_io.specs.Takes.{HasRunOut};
-ghost use Rattle.ml_http.specs.Link.{AreTexts, lent};
+ghost use Rattle.ml_http.specs.Context.{IsSameLoan, state_of};
+ghost use Rattle.ml_http.specs.Link.{HoldsTexts};
 ghost use Rattle.ml_serve.specs.Session.{HasServed, links_in};
 ghost use Rattle.ml_serve.specs.Visit.{IsVisit};
 
-use ml_editor::Editor;
-use ml_http::serve_link;
+use ml_http::Context;
 use ml_io::laws::{append_nothing, append_twice, take_nothing, take_twice};
 use ml_io::{Door, Failed, Link};
-use ml_ratio::Steps;
-use ml_tile::Tiles;
-use ml_watch::{Crowd, Watcher};
-use std::alloc::Global;
+use ml_watch::Watcher;
 use std::sync::ledger::Ledger;
 
 /// Serves connections one after another, until so many were served or the door gives none. Each finds
@@ -24,27 +22,24 @@ use std::sync::ledger::Ledger;
 /// `Failed` comes only where the door's count of faults rose in this call; the connections before
 /// stay served.
 pub fn serve_links<D: Door, W: Watcher, L: Ledger>(
-    alloc: Global,
-    editor: &mut Editor,
+    context: &mut Context<W, L>,
     door: &mut D,
-    crowd: &mut Crowd<W>,
-    tiles: &mut Tiles,
-    steps: &mut Steps<L>,
     count: u64,
 ) -> Result<u64, Failed>
     requires listens { D.listens door.old ≡ true }
     requires out { D.is_out door.old ≡ false }
-    requires texts { AreTexts editor.old.state tiles.old.tiles }
-    ensures texts { AreTexts editor.new.state tiles.new.tiles }
+    requires texts { HoldsTexts (state_of context.old) }
+    ensures loan { IsSameLoan context.old context.new }
+    ensures texts { HoldsTexts (state_of context.new) }
     ensures ok { IfOk result (λ k. (k ≤ count)
-        × HasServed (IsVisit W.hearing D.In.left D.In.faults D.Out.written D.Out.faults) k
+        × HasServed (IsVisit W.hearing (link_ends D.In.left D.In.faults D.Out.written D.Out.faults)) k
         (D.coming door.old) (D.coming door.new) (D.served door.old) (D.served door.new)
-        (lent editor.old crowd.old tiles.old steps.old) (lent editor.new crowd.new tiles.new steps.new)
+        (state_of context.old) (state_of context.new)
         × ((k ≡ count) ⊎ HasRunOut (D.coming door.new))) }
     ensures err { OnErr result ((k : ℕ) × (k < count)
-        × HasServed (IsVisit W.hearing D.In.left D.In.faults D.Out.written D.Out.faults) k
+        × HasServed (IsVisit W.hearing (link_ends D.In.left D.In.faults D.Out.written D.Out.faults)) k
         (D.coming door.old) (D.coming door.new) (D.served door.old) (D.served door.new)
-        (lent editor.old crowd.old tiles.old steps.old) (lent editor.new crowd.new tiles.new steps.new)) }
+        (state_of context.old) (state_of context.new)) }
     ensures listens { D.listens door.new ≡ true }
     ensures out { D.is_out door.new ≡ false }
     ensures port { D.at_port door.new ≡ D.at_port door.old }
@@ -56,7 +51,7 @@ pub fn serve_links<D: Door, W: Watcher, L: Ledger>(
     append_twice::<Link<D::In, D::Out>>();
     let mut served = 0;
     'links: while served < count {
-        match serve_next(alloc, editor, door, crowd, tiles, steps) {
+        match serve_visit(context, door) {
             Ok(true) => served += 1,
             Ok(false) => return Ok(served),
             Err(_) => return Err(Failed),
@@ -66,21 +61,18 @@ pub fn serve_links<D: Door, W: Watcher, L: Ledger>(
 }
 
 // Serves the next connection, if there is one, and gives it back. How it ended changes nothing.
-fn serve_next<D: Door, W: Watcher, L: Ledger>(
-    alloc: Global,
-    editor: &mut Editor,
+fn serve_visit<D: Door, W: Watcher, L: Ledger>(
+    context: &mut Context<W, L>,
     door: &mut D,
-    crowd: &mut Crowd<W>,
-    tiles: &mut Tiles,
-    steps: &mut Steps<L>,
 ) -> Result<bool, Failed>
     requires listens { D.listens door.old ≡ true }
     requires out { D.is_out door.old ≡ false }
-    requires texts { AreTexts editor.old.state tiles.old.tiles }
-    ensures texts { AreTexts editor.new.state tiles.new.tiles }
-    ensures served { HasServed (IsVisit W.hearing D.In.left D.In.faults D.Out.written D.Out.faults) (links_in result)
+    requires texts { HoldsTexts (state_of context.old) }
+    ensures loan { IsSameLoan context.old context.new }
+    ensures texts { HoldsTexts (state_of context.new) }
+    ensures served { HasServed (IsVisit W.hearing (link_ends D.In.left D.In.faults D.Out.written D.Out.faults)) (links_in result)
         (D.coming door.old) (D.coming door.new) (D.served door.old) (D.served door.new)
-        (lent editor.old crowd.old tiles.old steps.old) (lent editor.new crowd.new tiles.new steps.new) }
+        (state_of context.old) (state_of context.new) }
     ensures ended { result ≡ Ok false → HasRunOut (D.coming door.new) }
     ensures listens { D.listens door.new ≡ true }
     ensures out { D.is_out door.new ≡ false }
@@ -92,15 +84,7 @@ fn serve_next<D: Door, W: Watcher, L: Ledger>(
     match door.next() {
         Ok(Some(link)) => {
             let mut link = link;
-            serve_link(
-                alloc,
-                editor,
-                &mut link.source,
-                &mut link.sink,
-                crowd,
-                tiles,
-                steps,
-            );
+            context.serve(&mut link.source, &mut link.sink);
             door.done(link);
             Ok(true)
         }

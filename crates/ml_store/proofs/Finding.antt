@@ -16,7 +16,7 @@ use Rattle.ml_cone.specs.declared.outline.Outline.{Outline}
 use Rattle.ml_cone.specs.declared.view.View.{View}
 use Rattle.ml_grid.specs.Cell.{cell_of}
 use Rattle.ml_grid.specs.Entry.{Entry, AreEntriesOf}
-use Rattle.ml_grid.specs.Found.{IsNumberOf, HasEntry, IsInHull, IsSeen, Appends}
+use Rattle.ml_grid.specs.Found.{IsNumberOf, HasEntry, IsInHull, IsSeen, AppendsNumbers}
 use Rattle.ml_grid.specs.Column.{IsAmongFrom}
 use Rattle.ml_grid.specs.Near.{IsNear}
 use Rattle.ml_store.specs.Rows.{HaveOwnNumbers, IsLive}
@@ -89,7 +89,7 @@ module _ (rows : List Row) (entries : List Entry) (kept : IsIndex IsEntryIn rows
       let some = (kept h.0).0 h.1 in
       (some.0, some.1, sym some.2.its_number ∙ h.2)
 
-  pub found_near : (a : Label) (k : ℕ) (before after : List ℕ) → Appends (IsInHull a k) entries before after → Gathers (IsNumberWith (λ r. IsFoundIn a r.label k) rows) before after
+  pub found_near : (a : Label) (k : ℕ) (before after : List ℕ) → AppendsNumbers (IsInHull a k) entries before after → Gathers (IsNumberWith (λ r. IsFoundIn a r.label k) rows) before after
   found_near a k before after app n = (
     λ c. elim (Contains-append_cases before app.0 n (subst (λ (l : List ℕ). Contains l n) app.1 c)) [
       | inl old ↦ inl old
@@ -109,7 +109,7 @@ module _ (rows : List Row) (entries : List Entry) (kept : IsIndex IsEntryIn rows
 
   pub found_seen : HaveOwnNumbers rows → All (λ r. IsEnd r.label (value_of r.slot.until)) rows → (v : View) →
       ((a : Label) (n : ℕ) (u : Ratio) (es : List Entry) (w : View) → IsEnd a (value_of u) → AreEntriesOf n a u es → IsNumberOf (IsSeen w) es n ↔ IsNear a u w) →
-      (numbers : List ℕ) → Appends (IsSeen v) entries [] numbers → AreNearNumbers rows v numbers
+      (numbers : List ℕ) → AppendsNumbers (IsSeen v) entries [] numbers → AreNearNumbers rows v numbers
   found_seen differ ends v law numbers app =
       let is : numbers ≡ app.0 = app.1 in
       let the = app.2 in
@@ -136,7 +136,7 @@ module _ (rows : List Row) (entries : List Entry) (kept : IsIndex IsEntryIn rows
 
   pub found_shown : HaveOwnNumbers rows → All (λ r. IsEnd r.label (value_of r.slot.until)) rows → (v : View) →
       ((a : Label) (n : ℕ) (u : Ratio) (es : List Entry) (w : View) → IsEnd a (value_of u) → AreEntriesOf n a u es → ActiveUntil a (value_of u) (value_of w.scale) → IsInView a w → IsNumberOf (IsSeen w) es n) →
-      (numbers : List ℕ) → Appends (IsSeen v) entries [] numbers →
+      (numbers : List ℕ) → AppendsNumbers (IsSeen v) entries [] numbers →
       (r : Row) → Contains rows r → ActiveUntil r.label (value_of r.slot.until) (value_of v.scale) → IsInView r.label v → Contains numbers r.number
   found_shown differ ends v law numbers app r there active meets =
       subst (λ (l : List ℕ). Contains l r.number) (sym app.1) (app.2.whole r.number

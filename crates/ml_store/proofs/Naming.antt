@@ -3,7 +3,7 @@ use Rattle.std.proofs.Common.{◌≡◌, ℕ, ◌<◌, List, length, get_or, map
 use Rattle.std.specs.Prelude.{remove}
 use Rattle.std.proofs.lemmas.List.{get_or_default, get_or-map, length-map}
 use Rattle.ml_store.specs.Rows.{numbers_in, number_at, HaveOwnNumbers}
-use Rattle.ml_store.specs.Names.{Name, name_of, names_in}
+use Rattle.ml_store.specs.Names.{Name, naming_of, names_in}
 use Rattle.ml_store.specs.Boxes.{unboxed}
 use Rattle.ml_store.specs.declared.row.Row.{Row}
 use Rattle.std.specs.declared.alloc.Global.{Global}
@@ -13,12 +13,12 @@ use Rattle.ml_ratio.proofs.lemmas.Lists.{contains_map, map_contains, map_remove,
 use Rattle.std.proofs.lemmas.Simd.{map-map}
 
 pub number_of_names : (rows : List Row) → map (λ (x : Name). x.number) (names_in rows) ≡ numbers_in rows
-number_of_names rows = map-map (λ (x : Name). x.number) name_of rows
+number_of_names rows = map-map (λ (x : Name). x.number) naming_of rows
 
 -- the row that has a name's number has its id
-pub same_name : (rows : List Row) (at : ℕ) (r : Row) (name : Name) → HaveOwnNumbers rows → at < length rows → r ≡ get_or rows at r → r.number ≡ name.number → Contains (names_in rows) name → name_of r ≡ name
+pub same_name : (rows : List Row) (at : ℕ) (r : Row) (name : Name) → HaveOwnNumbers rows → at < length rows → r ≡ get_or rows at r → r.number ≡ name.number → Contains (names_in rows) name → naming_of r ≡ name
 same_name rows at r name differ lt read same there =
-    let some = map_contains name_of rows name there in
+    let some = map_contains naming_of rows name there in
     let s : Row = some.0 in
     let k = some.1.0 in
     let in' : k < length rows = some.1.1 in
@@ -29,7 +29,7 @@ same_name rows at r name differ lt read same there =
     let n : s.number ≡ name.number = ap (λ (x : Name). x.number) some.2 in
     let e : at ≡ k = same_place (numbers_in rows) at k 0 differ (omega arith) (omega arith) (a ∙ same ∙ sym n ∙ sym b) in
     let q : r ≡ s = read ∙ ap (λ i. get_or rows i r) e ∙ get_or_default rows k r s in' ∙ is in
-    ap name_of q ∙ some.2
+    ap naming_of q ∙ some.2
 
 -- what is read from a box
 pub boxed_read : (boxes : List (Box Row Global)) (at : ℕ) (b : Box Row Global) (r : Row) → at < length boxes → b ≡ get_or boxes at b → r ≡ b.value → r ≡ get_or (unboxed boxes) at r
@@ -42,7 +42,7 @@ number_read rows at r lt read = get_or-map (λ (t : Row). t.number) rows at r 0 
 -- no two rows have one number, so no two names have
 pub unique_names : (rows : List Row) → HaveOwnNumbers rows → AreUnique (names_in rows)
 unique_names rows differ a b in_a in_b same =
-    let s = map_contains name_of rows a in_a in
+    let s = map_contains naming_of rows a in_a in
     let r : Row = s.0 in
     let at = s.1.0 in
     let lt : at < length rows = s.1.1 in
@@ -55,7 +55,7 @@ pub name_there : (rows : List Row) (number : ℕ) → Contains (numbers_in rows)
 name_there rows number there =
     let s = map_contains (λ (t : Row). t.number) rows number there in
     let r : Row = s.0 in
-    (name_of r, contains_map name_of rows r s.1, s.2)
+    (naming_of r, contains_map naming_of rows r s.1, s.2)
 
 -- a name's number is in use
 pub number_there : (rows : List Row) (name : Name) → Contains (names_in rows) name → Contains (numbers_in rows) name.number

@@ -8,22 +8,22 @@ use Rattle.ml_ratio.specs.Lists.{IsAdded}
 use Rattle.ml_cone.specs.declared.slot.Slot.{Slot}
 use Rattle.ml_store.specs.Boxes.{unboxed}
 use Rattle.ml_store.specs.Rows.{numbers_in, labels_in, HasId, IsFresh, IsNumberOf}
-use Rattle.ml_store.specs.Names.{Name, name_of, names_in, AreByName, HaveId}
+use Rattle.ml_store.specs.Names.{Name, naming_of, names_in, AreByName, HaveId}
 use Rattle.ml_store.specs.Table.{IsTable, IsRowAt, with_slot, slot_at}
 use Rattle.ml_store.specs.declared.row.Row.{Row}
 use Rattle.ml_ratio.proofs.lemmas.Lists.{contains_map, map_contains, map_insert, map_remove, added_insert}
 
 pub table_in : (rows : List Row) (numbers ids ids' : List ℕ) (at : ℕ) (r : Row) → IsTable rows numbers ids →
-    ((names : List Name) → IsAdded (name_of r) (names_in rows) names → AreByName names ids') → IsTable (insert rows at r) (insert numbers at r.number) ids'
+    ((names : List Name) → IsAdded (naming_of r) (names_in rows) names → AreByName names ids') → IsTable (insert rows at r) (insert numbers at r.number) ids'
 table_in rows numbers ids ids' at r t by = record {
   numbers_are = ap (λ ns. insert ns at r.number) t.numbers_are ∙ sym (map_insert (λ (s : Row). s.number) rows at r);
-  by_name = rw (map_insert name_of rows at r) (by (insert (names_in rows) at (name_of r)) (added_insert (names_in rows) at (name_of r)));
+  by_name = rw (map_insert naming_of rows at r) (by (insert (names_in rows) at (naming_of r)) (added_insert (names_in rows) at (naming_of r)));
 }
 
 pub table_out : (rows : List Row) (numbers ids ids' : List ℕ) (at : ℕ) → IsTable rows numbers ids → AreByName (remove (names_in rows) at) ids' → IsTable (remove rows at) (remove numbers at) ids'
 table_out rows numbers ids ids' at t by = record {
   numbers_are = ap (λ ns. remove ns at) t.numbers_are ∙ sym (map_remove (λ (s : Row). s.number) rows at);
-  by_name = rw (map_remove name_of rows at) by;
+  by_name = rw (map_remove naming_of rows at) by;
 }
 
 pub with_slot_is : (rows : List Row) (i : ℕ) (r : Row) (slot : Slot) → i < length rows → r ≡ get_or rows i r → set rows i (record r { slot = slot }) ≡ with_slot rows i slot
@@ -40,7 +40,7 @@ slot_read (s ∷ rows) (suc i) r lt e = slot_read rows i r (omega arith) e
 pub names-with_slot : (rows : List Row) (i : ℕ) (slot : Slot) → names_in (with_slot rows i slot) ≡ names_in rows
 names-with_slot [] i slot = refl
 names-with_slot (r ∷ rows) zero slot = refl
-names-with_slot (r ∷ rows) (suc i) slot = ap (λ ns. name_of r ∷ ns) (names-with_slot rows i slot)
+names-with_slot (r ∷ rows) (suc i) slot = ap (λ ns. naming_of r ∷ ns) (names-with_slot rows i slot)
 
 pub numbers-with_slot : (rows : List Row) (i : ℕ) (slot : Slot) → numbers_in (with_slot rows i slot) ≡ numbers_in rows
 numbers-with_slot [] i slot = refl
@@ -70,7 +70,7 @@ boxes_moved boxes at b r slot lt read is =
 
 pub label_from_name : (rows : List Row) (id : List ℕ) → HaveId (names_in rows) id → HasId (labels_in rows) id
 label_from_name rows id have =
-    let s = map_contains name_of rows have.0 have.1 in
+    let s = map_contains naming_of rows have.0 have.1 in
     let r : Row = s.0 in
     (r.label, contains_map (λ (t : Row). t.label) rows r s.1, ap (λ (x : Name). x.id) s.2 ∙ have.2)
 
@@ -78,11 +78,11 @@ pub name_from_label : (rows : List Row) (id : List ℕ) → HasId (labels_in row
 name_from_label rows id have =
     let s = map_contains (λ (t : Row). t.label) rows have.0 have.1 in
     let r : Row = s.0 in
-    (name_of r, contains_map name_of rows r s.1, ap (λ l. l.order.id) s.2 ∙ have.2)
+    (naming_of r, contains_map naming_of rows r s.1, ap (λ l. l.order.id) s.2 ∙ have.2)
 
 pub number_from_name : (rows : List Row) (id : List ℕ) (n : ℕ) → Contains (names_in rows) (record { number = n; id = id }) → IsNumberOf rows id n
 number_from_name rows id n there =
-    let s = map_contains name_of rows (record { number = n; id = id }) there in
+    let s = map_contains naming_of rows (record { number = n; id = id }) there in
     (s.0, s.1, ap (λ (x : Name). x.id) s.2, ap (λ (x : Name). x.number) s.2)
 
 -- what is found among the numbers is found among the rows

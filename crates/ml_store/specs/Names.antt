@@ -11,12 +11,12 @@ pub record Name : Type 0 where
   pub id : List ℕ
 
 -- the number and the id of a row
-abbrev pub name_of : Row → Name
-name_of r = record { number = r.number; id = r.label.order.id }
+abbrev pub naming_of : Row → Name
+naming_of r = record { number = r.number; id = r.label.order.id }
 
 -- the numbers and ids of rows
 abbrev pub names_in : List Row → List Name
-names_in rows = map name_of rows
+names_in rows = map naming_of rows
 
 -- the id comes before the other in byte order
 abbrev pub IsIdBefore : List ℕ → List ℕ → Type 0

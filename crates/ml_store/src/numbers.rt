@@ -1,13 +1,12 @@
 //! The numbers by which labels are known.
 ghost use Rattle.std.specs.Prelude.{ℕ, ◌≡◌, ◌≢◌, ◌+◌, ◌<◌, ◌≤◌, ◌↔◌, [], List, length, All, AllPairs, Contains, IsTrue, IfOk, MatchOption, insert, remove, take, slice_index, ◌-◌};
+ghost use Rattle.ml_ratio.specs.Limits.{most_labels};
 ghost use Rattle.ml_store.specs.Rows.{AreDifferent};
 ghost use Rattle.ml_store.specs.Numbers.{ArePlacedBut, AreOrdered, IsAt};
 
+use ml_ratio::MOST_LABELS;
 use std::alloc::{AllocError, Global};
 use std::marker::Model;
-
-/// How many numbers there are: 0 to 32,767.
-pub const NUMBERS: usize = 32768;
 
 /// Different numbers below 32,768 in some order, each found at once.
 #[derive(Drop)]
@@ -30,11 +29,11 @@ impl Model for Numbers {
 
 // All numbers, ascending.
 fn all_numbers(alloc: Global) -> Result<Vec<u32>, AllocError>
-    ensures len { IfOk result (λ all. length all.items ≡ 32768) }
-    ensures numbers { IfOk result (λ all. (k : ℕ) → k < 32768 → slice_index all.items k ≡ k) }
+    ensures len { IfOk result (λ all. length all.items ≡ most_labels) }
+    ensures numbers { IfOk result (λ all. (k : ℕ) → k < most_labels → slice_index all.items k ≡ k) }
 {
-    let mut all = Vec::with_capacity(alloc, NUMBERS)?;
-    for number in 0..32768u32 {
+    let mut all = Vec::with_capacity(alloc, MOST_LABELS)?;
+    for number in 0..MOST_LABELS as u32 {
         all.push(number)?;
     }
     Ok(all)
@@ -42,15 +41,15 @@ fn all_numbers(alloc: Global) -> Result<Vec<u32>, AllocError>
 
 // Writes the places of the numbers from `from` up to `to`.
 fn write_places(order: &[u32], places: &mut Vec<u32>, from: usize, to: usize)
-    requires all_numbers { length order.now ≡ 32768 }
-    requires all_places { length places.old.items ≡ 32768 }
-    requires low { All (λ n. n < 32768) order.now }
+    requires all_numbers { length order.now ≡ most_labels }
+    requires all_places { length places.old.items ≡ most_labels }
+    requires low { All (λ n. n < most_labels) order.now }
     requires differ { AreDifferent order.now }
     requires in_order { from ≤ to }
-    requires within { to ≤ 32768 }
+    requires within { to ≤ most_labels }
     requires but { ArePlacedBut order.now places.old.items from to }
-    ensures all_places { length places.new.items ≡ 32768 }
-    ensures placed { (k : ℕ) → k < 32768 → slice_index places.new.items (slice_index order.now k) ≡ k }
+    ensures all_places { length places.new.items ≡ most_labels }
+    ensures placed { (k : ℕ) → k < most_labels → slice_index places.new.items (slice_index order.now k) ≡ k }
 {
     for k in from..to {
         places[order[k] as usize] = k as u32;
@@ -79,7 +78,7 @@ fn find(order: &[u32], places: &[u32], used: usize, number: u32) -> Option<usize
     requires { AreOrdered order.now places.now used }
     ensures { MatchOption result (¬ (Contains (take used order.now) number)) (IsAt (take used order.now) number) }
 {
-    if number < 32768 {
+    if (number as usize) < MOST_LABELS {
         let at = places[number as usize] as usize;
         if at < used { Some(at) } else { None }
     } else {
@@ -92,10 +91,10 @@ fn put_in(order: &mut Vec<u32>, places: &mut Vec<u32>, used: usize, at: usize, n
     requires ordered { AreOrdered order.old.items places.old.items used }
     requires is_place { at ≤ used }
     requires free { ¬ (Contains (take used order.old.items) number) }
-    requires low { number < 32768 }
+    requires low { number < most_labels }
     ensures ordered { AreOrdered order.new.items places.new.items (used + 1) }
     ensures numbers { take (used + 1) order.new.items ≡ insert (take used order.old.items) at number }
-    ensures few { used < 32768 }
+    ensures few { used < most_labels }
 {
     let from = places[number as usize] as usize;
     shift(order, from, at);
@@ -133,8 +132,8 @@ impl Numbers {
     /// How many numbers are in use: at most 32,768, different ones and each below that.
     pub fn len(&self) -> usize
         ensures count { result ≡ length self.now }
-        ensures few { length self.now ≤ 32768 }
-        ensures low { All (λ n. n < 32768) self.now }
+        ensures few { length self.now ≤ most_labels }
+        ensures low { All (λ n. n < most_labels) self.now }
         ensures differ { AreDifferent self.now }
     {
         self.used
@@ -157,9 +156,9 @@ impl Numbers {
 
     /// A number that is not in use.
     pub fn free(&self) -> u32
-        requires { length self.now < 32768 }
+        requires { length self.now < most_labels }
         ensures free { ¬ (Contains self.now result) }
-        ensures low { result < 32768 }
+        ensures low { result < most_labels }
     {
         self.order[self.used]
     }
@@ -168,7 +167,7 @@ impl Numbers {
     pub fn insert(&mut self, at: usize, number: u32)
         requires is_place { at ≤ length self.old }
         requires free { ¬ (Contains self.old number) }
-        requires low { number < 32768 }
+        requires low { number < most_labels }
         ensures { self.new ≡ insert self.old at number }
     {
         put_in(&mut self.order, &mut self.places, self.used, at, number);

@@ -1,6 +1,8 @@
 //! The live labels with the grid and the index of blockers, which always agree.
 ghost use Rattle.std.specs.Prelude.{ℕ, ◌≡◌, ◌+◌, ◌<◌, ◌≤◌, [], List, length, insert, remove, All, Contains, IsTrue, OnOk, IfOk, MatchOption, HoldsAt, slice_index_or, ◌⊎◌, ◌↔◌};
+ghost use Rattle.ml_ratio.specs.Limits.{most_labels};
 ghost use Rattle.ml_ratio.specs.Fraction.{value_of};
+ghost use Rattle.ml_cone.specs.Cell.{IsLastBand};
 ghost use Rattle.ml_cone.specs.Choice.{IsEnd, ActiveUntil};
 ghost use Rattle.ml_cone.specs.Shown.{IsInView};
 ghost use Rattle.ml_grid.specs.Count.{entry_count};
@@ -8,7 +10,7 @@ ghost use Rattle.ml_store.specs.Pairs.{pair_count};
 ghost use Rattle.ml_cone.specs.declared.label.Label.{Label};
 ghost use Rattle.ml_store.specs.Rows.{numbers_in, number_at, labels_in, IsLive, IsFresh, HasId, HaveOwnNumbers, IsNumberOf};
 ghost use Rattle.ml_store.specs.Search.{IsFoundIn, IsNumberWith, Gathers, AreOverlapping, NoneOverlaps, AreNearNumbers};
-ghost use Rattle.ml_grid.specs.Entry.{IsFree, Adds, Drops, AreEntriesOf};
+ghost use Rattle.ml_grid.specs.Entry.{IsFree, Adds, LosesEntries, AreEntriesOf};
 ghost use Rattle.ml_store.specs.Store.{IsStored, AreWithin, IsIndex, IsEntryIn, IsPairIn, Pair};
 ghost use Rattle.ml_store.specs.Table.{IsPlaceIn, with_slot, slot_at};
 ghost use Rattle.ml_store.specs.declared.row.Row.{Row};
@@ -96,7 +98,7 @@ fn put_parts(grid: &mut Grid, pairs: &mut Pairs, row: &Row)
 fn take_parts(grid: &mut Grid, pairs: &mut Pairs, row: &Row)
     requires its { AreEntriesOf row.now.number row.now.label row.now.slot.until grid.old.entries }
     requires there { (p : Pair) → IsPairIn row.now p → Contains pairs.old.entries p }
-    ensures entries { Drops (IsEntryIn row.now) grid.old.entries grid.new.entries }
+    ensures entries { LosesEntries (IsEntryIn row.now) grid.old.entries grid.new.entries }
     ensures pairs { (p : Pair) → Contains pairs.new.entries p ↔ (Contains pairs.old.entries p × (¬ (IsPairIn row.now p))) }
     ensures cells { grid.new.spare ≡ grid.old.spare + entry_count row.now.label }
     ensures blocks { pairs.new.spare ≡ pairs.old.spare + pair_count row.now.slot.blocker }
@@ -110,7 +112,7 @@ fn put_row(table: &mut Table, grid: &mut Grid, pairs: &mut Pairs, at: usize, row
     requires stored { IsStored table.old.rows grid.old.entries pairs.old.entries }
     requires is_place { at ≤ length table.old.rows }
     requires fresh { IsFresh row.value.number table.old.rows }
-    requires low { row.value.number < 32768 }
+    requires low { row.value.number < most_labels }
     requires new_id { ¬ (HasId (labels_in table.old.rows) row.value.label.order.id) }
     requires labels { 0 < table.old.room }
     requires cells { entry_count row.value.label ≤ grid.old.spare }
@@ -241,8 +243,8 @@ impl Store {
     /// How many labels there are: at most 32,768, with different numbers below that.
     pub fn len(&self) -> usize
         ensures count { result ≡ length self.now.rows }
-        ensures few { length self.now.rows ≤ 32768 }
-        ensures low { All (λ n. n < 32768) (numbers_in self.now.rows) }
+        ensures few { length self.now.rows ≤ most_labels }
+        ensures low { All (λ n. n < most_labels) (numbers_in self.now.rows) }
         ensures differ { HaveOwnNumbers self.now.rows }
     {
         self.table.len()
@@ -275,9 +277,9 @@ impl Store {
 
     /// A number that no label has.
     pub fn free(&self) -> u32
-        requires { length self.now.rows < 32768 }
+        requires { length self.now.rows < most_labels }
         ensures free { IsFresh result self.now.rows }
-        ensures low { result < 32768 }
+        ensures low { result < most_labels }
     {
         self.table.free()
     }
@@ -287,7 +289,7 @@ impl Store {
     pub fn put(&mut self, at: usize, row: Box<Row>)
         requires is_place { at ≤ length self.old.rows }
         requires fresh { IsFresh row.value.number self.old.rows }
-        requires low { row.value.number < 32768 }
+        requires low { row.value.number < most_labels }
         requires new_id { ¬ (HasId (labels_in self.old.rows) row.value.label.order.id) }
         requires labels { 0 < self.old.labels }
         requires cells { entry_count row.value.label ≤ self.old.cells }
@@ -417,6 +419,15 @@ impl Store {
             upto,
             scale,
         )
+    }
+
+    /// A band, at most 27, up to that in which the selectable range of some label ends first: in no band
+    /// before it the range of any ends.
+    pub fn first_end(&self) -> u8
+        ensures low { result ≤ 27 }
+        ensures ends { All (λ r. (k : ℕ) → IsLastBand r.label k → result ≤ k) self.now.rows }
+    {
+        self.outline.first_end().min(27)
     }
 
     /// The numbers of the labels near the view, each once: among them all that it shows. It spends a step

@@ -1,6 +1,7 @@
 //! The table of live labels: rows in order, found by number and by id.
 ghost use Rattle.std.specs.Prelude.{ℕ, ◌≡◌, ◌+◌, ◌<◌, ◌≤◌, [], List, length, All, MatchOption, OnOk, IfOk, HoldsAt, insert, remove, vec_len};
 ghost use Rattle.std.specs.Vec.{vec_capacity};
+ghost use Rattle.ml_ratio.specs.Limits.{most_labels};
 ghost use Rattle.ml_store.specs.Boxes.{unboxed};
 ghost use Rattle.ml_store.specs.Names.{names_in, HaveId};
 ghost use Rattle.ml_store.specs.Rows.{numbers_in, labels_in, HaveOwnNumbers, HasId, IsFresh, IsNumberOf};
@@ -49,7 +50,7 @@ fn put_in(
     requires table { IsTable (unboxed rows.old.items) numbers.old ids.old.items }
     requires is_place { at ≤ length rows.old.items }
     requires fresh { IsFresh row.value.number (unboxed rows.old.items) }
-    requires low { row.value.number < 32768 }
+    requires low { row.value.number < most_labels }
     requires new_id { ¬ (HaveId (names_in (unboxed rows.old.items)) row.value.label.order.id) }
     requires row_room { vec_len rows.old < vec_capacity rows.old }
     requires id_room { vec_len ids.old < vec_capacity ids.old }
@@ -121,8 +122,8 @@ impl Table {
     /// How many rows there are: at most 32,768, whose numbers are different ones and below that.
     pub fn len(&self) -> usize
         ensures count { result ≡ length self.now.rows }
-        ensures few { length self.now.rows ≤ 32768 }
-        ensures low { All (λ n. n < 32768) (numbers_in self.now.rows) }
+        ensures few { length self.now.rows ≤ most_labels }
+        ensures low { All (λ n. n < most_labels) (numbers_in self.now.rows) }
         ensures differ { HaveOwnNumbers self.now.rows }
     {
         self.numbers.len()
@@ -152,9 +153,9 @@ impl Table {
 
     /// A number that no row has.
     pub fn free(&self) -> u32
-        requires { length self.now.rows < 32768 }
+        requires { length self.now.rows < most_labels }
         ensures free { IsFresh result self.now.rows }
-        ensures low { result < 32768 }
+        ensures low { result < most_labels }
     {
         self.numbers.free()
     }
@@ -163,7 +164,7 @@ impl Table {
     pub fn insert(&mut self, at: usize, row: Box<Row>)
         requires is_place { at ≤ length self.old.rows }
         requires fresh { IsFresh row.value.number self.old.rows }
-        requires low { row.value.number < 32768 }
+        requires low { row.value.number < most_labels }
         requires new_id { ¬ (HasId (labels_in self.old.rows) row.value.label.order.id) }
         requires room { 0 < self.old.room }
         ensures rows { self.new.rows ≡ insert self.old.rows at row.value }

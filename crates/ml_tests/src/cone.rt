@@ -5,7 +5,7 @@ use crate::cases::{
     view_told, word,
 };
 use ml_cone::{
-    BoxPx, Label, Order, Outline, Span, active, are_alike, meets, overlaps, same_labels,
+    BoxPx, Label, Order, Outline, Span, active, are_alike, last_band, meets, overlaps, same_labels,
 };
 use ml_ratio::lines::parts_of;
 use ml_ratio::{Seq, Text};
@@ -429,4 +429,28 @@ fn labels_that_do_not_reach_far_are_searched_for_in_small_cells(rt: HostRuntime)
     assert!(rt; near == (0, -1, -1, 0, 0));
     let far = cells_around(&rt, rt.alloc(), "-300,-5,300,5");
     assert!(rt; far == (3, -1, -1, 0, 0));
+}
+
+/// A label whose selectable range ends at `max`.
+fn label_up_to(rt: &impl Abort, alloc: Global, max: &str) -> Label {
+    let text = format!(in alloc; "0 0 0 {max} 0 1 -10,-5,10,5").expect(rt, "memory");
+    good_label(rt, alloc, text.as_str())
+}
+
+/// The first band in which a range ends, of two labels whose ranges end at these scales.
+fn first_end(rt: &impl Abort, alloc: Global, one: &str, other: &str) -> u8 {
+    let outline = Outline::none().with(&label_up_to(rt, alloc, one));
+    outline.with(&label_up_to(rt, alloc, other)).first_end()
+}
+
+// 1,000 lies from 2^9 up to 2^10, and 5 from 2^2 up to 2^3; the greatest maximum, 2^28, counts to the last band.
+#[test]
+fn ranges_end_in_their_last_band(rt: HostRuntime) {
+    assert!(rt; last_band(&label_up_to(&rt, rt.alloc(), "1")) == 0);
+    assert!(rt; last_band(&label_up_to(&rt, rt.alloc(), "1000")) == 9);
+    assert!(rt; last_band(&label_up_to(&rt, rt.alloc(), "268435456")) == 27);
+    assert!(rt; first_end(&rt, rt.alloc(), "1000", "5") == 2);
+    assert!(rt; first_end(&rt, rt.alloc(), "5", "1000") == 2);
+    assert!(rt; first_end(&rt, rt.alloc(), "268435456", "1000") == 9);
+    assert!(rt; Outline::none().first_end() == 27);
 }

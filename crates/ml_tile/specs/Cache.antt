@@ -1,6 +1,7 @@
 -- What contracts see of held tiles.
 use Rattle.std.specs.Prelude.{ℕ, ◌+◌, ◌-◌, ◌^◌, ◌≡◌, ◌≢◌, ◌⊎◌, ◌≤◌, ◌<◌, min, List, [], ◌∷◌, ◌++◌, take, length, Option, MatchOption, Contains, AllPairs}
 use Rattle.std.specs.Map.{keys_of}
+use Rattle.ml_ratio.specs.Count.{one_more}
 use Rattle.ml_ratio.specs.Fraction.{value_of}
 use Rattle.ml_cone.specs.declared.label.Label.{Label}
 use Rattle.ml_cone.specs.declared.slot.Span.{Span}
@@ -9,6 +10,14 @@ use Rattle.ml_cone.specs.Range.{ActiveBetween}
 use Rattle.ml_cone.specs.Shown.{IsInView}
 use Rattle.ml_tile.specs.Tile.{IsTileView}
 use Rattle.ml_tile.specs.declared.key.TileKey.{TileKey}
+
+-- how many tiles are held at most
+abbrev pub most_tiles : ℕ
+most_tiles = 256
+
+-- how many bytes a body has at most that is held
+abbrev pub longest_body : ℕ
+longest_body = 65536
 
 -- a tile with its body
 abbrev pub HeldTile : Type 0
@@ -20,14 +29,10 @@ pub record Cache : Type 0 where
   pub hits : ℕ
   pub skips : ℕ
 
--- each tile is held once, and at most 256 are held
+-- each tile is held once, and no more than may be
 pub record AreFewTiles (tiles : List HeldTile) : Type 0 where
   pub once : AllPairs (λ a b. a ≢ b) (keys_of tiles)
-  pub few : length tiles ≤ 256
-
--- one more, up to 2^64 - 1
-abbrev pub one_more : ℕ → ℕ
-one_more n = min (n + 1) (2 ^ 64 - 1)
+  pub few : length tiles ≤ most_tiles
 
 -- the tile is held
 abbrev pub IsHeld : TileKey → List HeldTile → Type 0

@@ -2,7 +2,7 @@
 ghost use Rattle.std.specs.Prelude.{ℕ, ◌≡◌, ◌≤◌, ◌<◌, List, ◌∷◌, ◌++◌, [], take, length, IfOk, OnErr, OnOk, MatchOption, MatchBool, Contains};
 ghost use Rattle.std.specs.Borrow.{sem};
 ghost use Rattle.std.specs.NonZero.{non_zero_usize_get};
-ghost use Rattle.ml_tile.specs.Cache.{HeldTile, IsHeld, ShowsIn, Turns};
+ghost use Rattle.ml_tile.specs.Cache.{HeldTile, IsHeld, ShowsIn, Turns, most_tiles, longest_body};
 
 use crate::key::TileKey;
 use lru::LruCache;
@@ -31,17 +31,18 @@ pub struct Tiles {
 
 impl Model for Tiles {
     ghost use Rattle.std.specs.Prelude.{◌≡◌};
-    ghost use Rattle.ml_tile.specs.Cache.{Cache};
+    ghost use Rattle.ml_tile.specs.Cache.{Cache, most_tiles};
 
     ghost Value = { Cache };
 
     ghost view = { λ t. record { tiles = t.held.entries; hits = t.hits; skips = t.skips } };
 
-    ghost invariant = { λ t. t.held.cap ≡ 256 };
+    ghost invariant = { λ t. t.held.cap ≡ most_tiles };
 }
 
 impl Tiles {
-    ghost use Rattle.ml_tile.specs.Cache.{IsHeld, IsHit, ShowsIn, Loses, AreFewTiles, one_more};
+    ghost use Rattle.ml_ratio.specs.Count.{one_more};
+    ghost use Rattle.ml_tile.specs.Cache.{IsHeld, IsHit, ShowsIn, Loses, AreFewTiles};
     ghost use Rattle.ml_tile.specs.Ends.{EndsFound};
 
     /// No tiles.
@@ -52,7 +53,7 @@ impl Tiles {
         ensures { IfOk result (λ tiles. tiles ≡ record { tiles = []; hits = 0; skips = 0 }) }
     {
         Ok(Tiles {
-            held: LruCache::new(alloc, most_tiles())?,
+            held: LruCache::new(alloc, cache_size())?,
             hits: 0,
             skips: 0,
         })
@@ -124,9 +125,9 @@ impl Tiles {
     pub fn keep(&mut self, key: TileKey, body: &Seq<u8>) -> Result<bool, AllocError>
         requires { ¬ (IsHeld key self.old.tiles) }
         ensures ok { IfOk result (λ kept. MatchBool kept
-            ((length body.now ≤ 65536) × (self.new ≡ record self.old { tiles = take 256 ((key, body.now) ∷ self.old.tiles) }))
-            ((65536 < length body.now) × (self.new ≡ self.old))) }
-        ensures err { OnErr result ((length body.now ≤ 65536) × (self.new ≡ record self.old { skips = one_more self.old.skips })) }
+            ((length body.now ≤ longest_body) × (self.new ≡ record self.old { tiles = take most_tiles ((key, body.now) ∷ self.old.tiles) }))
+            ((longest_body < length body.now) × (self.new ≡ self.old))) }
+        ensures err { OnErr result ((length body.now ≤ longest_body) × (self.new ≡ record self.old { skips = one_more self.old.skips })) }
     {
         if body.len() > LONGEST_BODY {
             return Ok(false);
@@ -161,8 +162,8 @@ impl Tiles {
 }
 
 // How many tiles are held at most, as the cache takes it.
-fn most_tiles() -> NonZeroUsize
-    ensures { non_zero_usize_get result ≡ 256 }
+fn cache_size() -> NonZeroUsize
+    ensures { non_zero_usize_get result ≡ most_tiles }
 {
     match NonZeroUsize::new(MOST_TILES) {
         Some(most) => most,
@@ -177,10 +178,10 @@ fn store(
     body: &Seq<u8>,
 ) -> Result<(), AllocError>
     requires new { ¬ (IsHeld key held.old.entries) }
-    requires most { held.old.cap ≡ 256 }
-    ensures ok { OnOk result (held.new.entries ≡ take 256 ((key, body.now) ∷ held.old.entries)) }
+    requires most { held.old.cap ≡ most_tiles }
+    ensures ok { OnOk result (held.new.entries ≡ take most_tiles ((key, body.now) ∷ held.old.entries)) }
     ensures err { OnErr result (held.new ≡ held.old) }
-    ensures most { held.new.cap ≡ 256 }
+    ensures most { held.new.cap ≡ most_tiles }
 {
     let copy = Vec::from_slice(*held.allocator(), body.as_slice())?;
     match held.put(key, Seq::of_vec(copy)) {

@@ -5,7 +5,8 @@ use Rattle.std.proofs.Math.Seq.{take-append-add, take-append_seam, take-length}
 use Rattle.std.proofs.lemmas.List.{take-append-le, take-append-drop, take_more, append_cancel_left}
 use Rattle.std.proofs.lemmas.List.Concat.{flat_map-cons}
 use Rattle.std.proofs.lemmas.Grind.{flat_map-append}
-use Rattle.ml_io.specs.Causes.{one_more, Appends, HasCause}
+use Rattle.ml_ratio.specs.Count.{one_more}
+use Rattle.ml_io.specs.Causes.{Appends, HasCause}
 use Rattle.ml_watch.specs.Puts.{Puts, HeldPuts, Grows, with_held}
 use Rattle.ml_watch.proofs.Told.{appends_twice, appends_nothing}
 

@@ -1,7 +1,8 @@
 -- How what a watcher was told grows.
 use Rattle.std.proofs.Common.{◌≡◌, ℕ, List, [], ◌∷◌, ◌++◌, flat_map, Option, Some, None, refl, sym, ap, ◌∙◌, append_assoc, append-nil}
 use Rattle.std.proofs.lemmas.Grind.{flat_map-append}
-use Rattle.ml_io.specs.Causes.{one_more, Appends}
+use Rattle.ml_ratio.specs.Count.{one_more}
+use Rattle.ml_io.specs.Causes.{Appends}
 use Rattle.ml_watch.specs.declared.change.Change.{Change}
 use Rattle.ml_watch.specs.Hearing.{Hearing, Grew, heard_after}
 use Rattle.ml_watch.specs.Line.{change_line}

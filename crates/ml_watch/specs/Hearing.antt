@@ -1,6 +1,7 @@
 -- What watchers are told.
 use Rattle.std.specs.Prelude.{◌≡◌, ℕ, ◌<◌, ◌≤◌, List, [], ◌∷◌, ◌++◌, length, take, flat_map, Option, Result, OnErr, OnOk, slice_index_or}
-use Rattle.ml_io.specs.Causes.{one_more, Rose, Appends}
+use Rattle.ml_ratio.specs.Count.{one_more}
+use Rattle.ml_io.specs.Causes.{Rose, Appends}
 use Rattle.ml_watch.specs.Line.{change_line}
 use Rattle.ml_watch.specs.declared.change.Change.{Change}
 

@@ -1,6 +1,6 @@
 -- A watcher in memory.
 use Rattle.std.specs.Prelude.{◌≡◌, ℕ, ◌<◌, ◌≤◌, List, [], length, Contains, Result, is_ok, if◌then◌else◌}
-use Rattle.ml_io.specs.Causes.{one_more}
+use Rattle.ml_ratio.specs.Count.{one_more}
 use Rattle.ml_watch.specs.declared.change.Change.{Change}
 
 -- the changes kept, the room for all of them, the calls that fail, the calls made, the changes heard, the faults

@@ -1,6 +1,7 @@
 //! A watcher that writes a line for each change.
 ghost use Rattle.std.specs.Prelude.{◌≡◌, None, OnErr, is_ok, if◌then◌else◌};
-ghost use Rattle.ml_io.specs.Causes.{one_more, Rose};
+ghost use Rattle.ml_ratio.specs.Count.{one_more};
+ghost use Rattle.ml_io.specs.Causes.{Rose};
 ghost use Rattle.ml_watch.specs.Hearing.{Hearing, Told};
 
 use crate::change::Change;

@@ -8,7 +8,7 @@ returns-in-Err-clause-followed g c =
 pub returns-in-Ok-print_held-clause-followed : goal.returns-in-Ok-print_held-clause-followed
 returns-in-Ok-print_held-clause-followed g c =
     done g.W.Watcher.hearing c.args.states _ _ _ _ (g.K.Sink.written c.offer_all.new.out) _ _ (g.K.Sink.faults c.offer_all.new.out) _ c.in-Ok.all _
-    (rw c.new-follower.ensures at c.in-Ok.ensures.offered) c.in-Ok-print_held.ensures.printed c.status_of.ensures
+    (rw c.new-follower.ensures at c.in-Ok.ensures.offered) c.in-Ok-print_held.ensures.printed c.status_of_offers.ensures
 
 pub returns-clause-followed : goal.returns-clause-followed
 returns-clause-followed g c =

@@ -36,12 +36,12 @@ returns-in-Err-on_map-clause-end g c =
 pub returns-in-Pipe-clause-end : goal.returns-in-Pipe-clause-end
 returns-in-Pipe-clause-end g c =
     let asks = rw (c.in-Some-Live.field-0-is, c.in-Pipe.is) at c.in-Some-Live.ensures in
-    inl (Live c.in-Some-Live.style c.in-Some-Live.map Pipe, asks, inr (c.in-Ok-load_editor.editor.state, c.in-Ok-load_editor.ensures.ok.0, c.in-Ok-load_editor.ensures.kept, (c.pipe.ensures.served, refl)))
+    inl (Live c.in-Some-Live.style c.in-Some-Live.map Pipe, asks, inr (c.in-Ok-load_editor.site.0.state, c.in-Ok-load_editor.ensures.ok.0, c.in-Ok-load_editor.ensures.kept, (c.pipe.ensures.served, refl)))
 
 pub returns-in-Serve-clause-end : goal.returns-in-Serve-clause-end
 returns-in-Serve-clause-end g c =
     let asks = rw (c.in-Some-Live.field-0-is, c.in-Serve.is) at c.in-Some-Live.ensures in
-    inl (Live c.in-Some-Live.style c.in-Some-Live.map (Serve c.in-Serve.port c.in-Serve.count), asks, inr (c.in-Ok-load_editor.editor.state, c.in-Ok-load_editor.ensures.ok.0, c.in-Ok-load_editor.ensures.kept, (c.serve_at.ensures.served, refl)))
+    inl (Live c.in-Some-Live.style c.in-Some-Live.map (Serve c.in-Serve.port c.in-Serve.count), asks, inr (c.in-Ok-load_editor.site.0.state, c.in-Ok-load_editor.ensures.ok.0, c.in-Ok-load_editor.ensures.kept, (c.serve_at.ensures.served, refl)))
 
 pub returns-in-Ok-totals_of-clause-end : goal.returns-in-Ok-totals_of-clause-end
 returns-in-Ok-totals_of-clause-end g c =

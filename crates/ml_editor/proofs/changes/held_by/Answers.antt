@@ -2,14 +2,14 @@ use Rattle.std.proofs.Common.{Option, sym, subst}
 use Rattle.ml_store.specs.Rows.{labels_in, slots_in}
 use Rattle.ml_repair.specs.Changes.{IsStateOf}
 use Rattle.ml_editor.specs.Changing.{ranged}
-use Rattle.ml_editor.specs.declared.changes.Held.{Held}
+use Rattle.ml_editor.specs.declared.changes.RangedLabel.{RangedLabel}
 use Rattle.ml_editor.proofs.Changing.{absent_of, stands_so}
 use Rattle.ml_editor.proofs.changes.held_by.Goals as goal
 
 pub returns-in_err-number : goal.returns-in_err-number
 returns-in_err-number c =
     let rows = c.args.engine.now.rows in
-    let P : Option Held → Type 0 = λ o. IsStateOf (labels_in rows) (slots_in rows) c.args.id.now (ranged o) in
+    let P : Option RangedLabel → Type 0 = λ o. IsStateOf (labels_in rows) (slots_in rows) c.args.id.now (ranged o) in
     subst P (sym c.from_residual.ensures) (absent_of (labels_in rows) c.args.id.now c.in_err-number.ensures)
 
 pub returns : goal.returns

@@ -1,6 +1,6 @@
 use Rattle.std.proofs.Common.{◌≡◌, ℕ, ◌+◌, List, ◌++◌, length, map, flat_map, All, codes, sym, ap, subst, ◌∙◌, arith}
 use Rattle.ml_editor.specs.State.{State, HasFeature, first_state}
-use Rattle.ml_gen.specs.Group.{groups_in, order, IsPlaced, HaveOwnNumbers}
+use Rattle.ml_gen.specs.Group.{groups_in, order, IsGroupPlace, HaveOwnNumbers}
 use Rattle.ml_gen.specs.Thing.{id_of, things_in}
 use Rattle.ml_gen.specs.Turn.{goes, comes, turns}
 use Rattle.ml_gen.specs.Totals.{AreRead}
@@ -10,12 +10,12 @@ use Rattle.ml_gen.proofs.Orders.{groups_long, order_long, order_all}
 use Rattle.ml_gen.proofs.Runs.{twice_long, run_same}
 use Rattle.ml_gen.proofs.generate.make_counted.Goals as goal
 
-pub load_map-requires : goal.load_map-requires
-load_map-requires g c =
+pub load_generated-requires : goal.load_generated-requires
+load_generated-requires g c =
     let is = c.deref.ensures.value in
     let long : length c.deref.result.now ≡ c.args.groups = ap (λ (gs : List Group). length gs) (c.deref.ensures.value ∙ c.in_ok-all.ensures.groups) ∙ groups_long c.args.groups c.args.seed in
     record {
-      placed = subst (All IsPlaced) (sym is) c.in_ok-all.ensures.placed;
+      placed = subst (All IsGroupPlace) (sym is) c.in_ok-all.ensures.placed;
       own = subst HaveOwnNumbers (sym is) c.in_ok-all.ensures.own;
       few = (let few = c.requires.few in omega (arith, long, few));
     }
@@ -26,7 +26,7 @@ order_of-requires g c =
     let long : length c.deref-2.result.now ≡ c.args.groups = ap (λ (gs : List Group). length gs) (c.deref-2.ensures.value ∙ c.in_ok-all.ensures.groups) ∙ groups_long c.args.groups c.args.seed in
     record {
       all = c.deref-2.ensures.value ∙ c.in_ok-all.ensures.groups ∙ ap (λ (n : ℕ). groups_in n c.args.seed) (sym long);
-      placed = subst (All IsPlaced) (sym is) c.in_ok-all.ensures.placed;
+      placed = subst (All IsGroupPlace) (sym is) c.in_ok-all.ensures.placed;
       few = (let few = c.requires.few in omega (arith, long, few));
     }
 
@@ -43,7 +43,7 @@ edit_all-requires g c =
     let many = c.in_ok-editor.ensures.number in
     let first : c.in_ok-editor.editor.state.rev ≡ 0 = ap (λ (s : State). s.rev) c.in_ok-editor.ensures.state.2 in
     record {
-      placed = subst (All IsPlaced) (sym c.deref-3.ensures.value) c.in_ok-order.ensures.placed;
+      placed = subst (All IsGroupPlace) (sym c.deref-3.ensures.value) c.in_ok-order.ensures.placed;
       own = subst HaveOwnNumbers (sym c.deref-3.ensures.value) c.in_ok-order.ensures.own;
       there = subst (All P) (sym in_order) (order_all P c.deref-2.result.now c.args.seed whole each);
       few = omega (arith, long, few, many);

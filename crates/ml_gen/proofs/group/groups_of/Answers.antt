@@ -2,7 +2,7 @@ use Rattle.std.proofs.Common.{◌≡◌, suc, List, [], ◌∷◌, ◌++◌, map
 use Rattle.std.specs.List.{range_with_len}
 use Rattle.std.proofs.lemmas.List.Elements.{All-push}
 use Rattle.std.proofs.lemmas.List.FromFn.{map-range_with_len_more}
-use Rattle.ml_gen.specs.Group.{next_number, number, placed, group_of, IsPlaced, HaveOwnNumbers}
+use Rattle.ml_gen.specs.Group.{next_number, number, placed, group_of, IsGroupPlace, HaveOwnNumbers}
 use Rattle.ml_gen.specs.declared.group.Group.{Group}
 use Rattle.ml_gen.proofs.Orders.{groups_own}
 use Rattle.ml_gen.proofs.group.groups_of.Goals as goal
@@ -18,7 +18,7 @@ loop-number-preserved c =
           items ∙ ap (λ (gs : List Group). gs ++ c.placed_group.result ∷ []) c.loop-number.invariant.groups
           ∙ ap (λ (last : Group). map (group_of c.args.seed) (range_with_len 0 c.loop-number.number) ++ last ∷ []) group
           ∙ sym (map-range_with_len_more (group_of c.args.seed) 0 c.loop-number.number c.loop-number.number (omega arith));
-      near = rw items (All-push IsPlaced c.loop-number.groups.items c.placed_group.result c.loop-number.invariant.near c.placed_group.ensures.near);
+      near = rw items (All-push IsGroupPlace c.loop-number.groups.items c.placed_group.result c.loop-number.invariant.near c.placed_group.ensures.near);
     }
 
 pub returns-clause-own : goal.returns-clause-own

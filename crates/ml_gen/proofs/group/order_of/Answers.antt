@@ -2,7 +2,7 @@ use Rattle.std.proofs.Common.{◌≡◌, ℕ, List, [], ◌∷◌, ◌++◌, len
 use Rattle.std.specs.List.{range_with_len}
 use Rattle.std.proofs.lemmas.List.Elements.{All-push}
 use Rattle.std.proofs.lemmas.List.FromFn.{map-range_with_len_more}
-use Rattle.ml_gen.specs.Group.{group_in_turn, IsPlaced, HaveOwnNumbers}
+use Rattle.ml_gen.specs.Group.{group_in_turn, IsGroupPlace, HaveOwnNumbers}
 use Rattle.ml_gen.specs.declared.group.Group.{Group}
 use Rattle.ml_gen.proofs.Orders.{order_own}
 use Rattle.ml_gen.proofs.group.order_of.Goals as goal
@@ -16,7 +16,7 @@ loop-e-preserved c =
           items ∙ ap (λ (gs : List Group). gs ++ c.group_at.result ∷ []) c.loop-e.invariant.found
           ∙ ap (λ (last : Group). map f (range_with_len 0 c.loop-e.e) ++ last ∷ []) c.group_at.ensures.is
           ∙ sym (map-range_with_len_more f 0 c.loop-e.e c.loop-e.e (omega arith));
-      placed = rw items (All-push IsPlaced c.loop-e.found.items c.group_at.result c.loop-e.invariant.placed c.group_at.ensures.placed);
+      placed = rw items (All-push IsGroupPlace c.loop-e.found.items c.group_at.result c.loop-e.invariant.placed c.group_at.ensures.placed);
     }
 
 pub returns-clause-own : goal.returns-clause-own

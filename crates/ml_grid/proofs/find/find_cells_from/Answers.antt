@@ -1,5 +1,5 @@
 use Rattle.std.proofs.Common.{rules, arith, FitsSigned, w64, ℤ, pos, ◌+ℤ◌, ◌<◌, ◌+◌, subst, refl}
-use Rattle.ml_grid.specs.Count.{span_of}
+use Rattle.ml_grid.specs.Count.{count_between}
 use Rattle.ml_grid.specs.Column.{IsInColumnFrom, IsAmongFrom}
 use Rattle.ml_grid.proofs.Partial.{IsAmongFirstFrom}
 use Rattle.ml_grid.specs.Found.{Finds}
@@ -15,7 +15,7 @@ loop-i-preserved c =
     let f0 : FitsSigned w64 s.x0 = search rules in
     let f1 : FitsSigned w64 s.x1 = search rules in
     let n = rows_back s.x0 s.x1 c.span_len-i-end.result f0 f1 c.span_len-i-end.ensures.len in
-    let low : i < span_of s.x0 s.x1 = (let few = c.span_len-i-end.ensures.few in omega arith) in
+    let low : i < count_between s.x0 s.x1 = (let few = c.span_len-i-end.ensures.few in omega arith) in
     let inside = span_in s.x0 s.x1 i c.requires.few.0 low in
     let g = between_fits s.x0 s.x1 (s.x0 +ℤ pos i) f0 f1 inside.0 inside.1 in
     let ex = sum_back s.x0 i i f0 (let few = c.span_len-i-end.ensures.few in omega arith) g refl in

@@ -1,6 +1,6 @@
 use Rattle.std.proofs.Common.{rules, arith, refl, sym, ◌∙◌, FitsSigned, w64, ℤ, pos, ◌+ℤ◌, ◌<◌, subst}
 use Rattle.std.proofs.lemmas.Bool.{false≢true}
-use Rattle.ml_grid.specs.Count.{span_of}
+use Rattle.ml_grid.specs.Count.{count_between}
 use Rattle.ml_grid.specs.Column.{IsInColumnFrom}
 use Rattle.ml_grid.specs.Found.{HasEntry}
 use Rattle.ml_grid.proofs.Casts.{sum_back, between_fits, rows_back}
@@ -18,13 +18,13 @@ returns-then-has_in_column c =
     let f0 : FitsSigned w64 s.x0 = search rules in
     let f1 : FitsSigned w64 s.x1 = search rules in
     let n = rows_back s.x0 s.x1 c.span_len-i-end.result f0 f1 c.span_len-i-end.ensures.len in
-    let low : i < span_of s.x0 s.x1 = (let few = c.span_len-i-end.ensures.few in omega arith) in
+    let low : i < count_between s.x0 s.x1 = (let few = c.span_len-i-end.ensures.few in omega arith) in
     let inside = span_in s.x0 s.x1 i c.requires.few.0 low in
     let g = between_fits s.x0 s.x1 (s.x0 +ℤ pos i) f0 f1 inside.0 inside.1 in
     let ex = sum_back s.x0 i i f0 (let few = c.span_len-i-end.ensures.few in omega arith) g refl in
     let here : HasEntry (IsInColumnFrom s (s.x0 +ℤ pos i) c.args.scale.now) c.args.tree.now.entries =
     subst (λ (z : ℤ). HasEntry (IsInColumnFrom s z c.args.scale.now) c.args.tree.now.entries) ex (c.has_in_column.ensures.0 c.if-has_in_column.true) in
-    (λ holds. has_here s c.args.scale.now i (span_of s.x0 s.x1) c.args.tree.now.entries low c.requires.few.0 refl here, λ there. refl)
+    (λ holds. has_here s c.args.scale.now i (count_between s.x0 s.x1) c.args.tree.now.entries low c.requires.few.0 refl here, λ there. refl)
 
 pub loop-i-preserved : goal.loop-i-preserved
 loop-i-preserved c =
@@ -33,7 +33,7 @@ loop-i-preserved c =
     let f0 : FitsSigned w64 s.x0 = search rules in
     let f1 : FitsSigned w64 s.x1 = search rules in
     let n = rows_back s.x0 s.x1 c.span_len-i-end.result f0 f1 c.span_len-i-end.ensures.len in
-    let low : i < span_of s.x0 s.x1 = (let few = c.span_len-i-end.ensures.few in omega arith) in
+    let low : i < count_between s.x0 s.x1 = (let few = c.span_len-i-end.ensures.few in omega arith) in
     let inside = span_in s.x0 s.x1 i c.requires.few.0 low in
     let g = between_fits s.x0 s.x1 (s.x0 +ℤ pos i) f0 f1 inside.0 inside.1 in
     let ex = sum_back s.x0 i i f0 (let few = c.span_len-i-end.ensures.few in omega arith) g refl in

@@ -1,6 +1,6 @@
 use Rattle.std.proofs.Common.{◌≡◌, ap, arith, ℕ, subst, ◌+◌}
 use Rattle.ml_grid.specs.Count.{entries_below}
-use Rattle.ml_grid.specs.Entry.{Drops, IsEntryOf}
+use Rattle.ml_grid.specs.Entry.{LosesEntries, IsEntryOf}
 use Rattle.ml_grid.specs.Placed.{IsEntryAt}
 use Rattle.ml_grid.proofs.Partial.{IsEntryBelow}
 use Rattle.ml_grid.proofs.Sums.{below_none, below_next, count_all}
@@ -29,8 +29,8 @@ loop-band-preserved c = record {
 pub returns-clause-entries : goal.returns-clause-entries
 returns-clause-entries c =
     let e : c.loop-band.band ≡ 28 = omega arith in
-    let h : Drops (IsEntryBelow c.args.number c.args.label.now c.args.until 28) c.args.tree.now.entries c.loop-band.tree.entries =
-    subst (λ (n : ℕ). Drops (IsEntryBelow c.args.number c.args.label.now c.args.until n) c.args.tree.now.entries c.loop-band.tree.entries) e c.loop-band.invariant.entries in
+    let h : LosesEntries (IsEntryBelow c.args.number c.args.label.now c.args.until 28) c.args.tree.now.entries c.loop-band.tree.entries =
+    subst (λ (n : ℕ). LosesEntries (IsEntryBelow c.args.number c.args.label.now c.args.until n) c.args.tree.now.entries c.loop-band.tree.entries) e c.loop-band.invariant.entries in
     drops_same (IsEntryBelow c.args.number c.args.label.now c.args.until 28) (IsEntryOf c.args.number c.args.label.now c.args.until) c.args.tree.now.entries c.loop-band.tree.entries h (below_all c.args.number c.args.label.now c.args.until)
 
 pub returns-clause-spare : goal.returns-clause-spare

@@ -4,8 +4,8 @@ use Rattle.ml_cone.specs.Hull.{hull_of}
 use Rattle.ml_spans.specs.Spans.{entry_of}
 use Rattle.ml_cone.specs.declared.cells.Cells.{Cells}
 use Rattle.ml_grid.specs.Count.{cell_in, cell_count}
-use Rattle.ml_grid.specs.Entry.{Drops}
-use Rattle.ml_grid.specs.Placed.{IsPlaced, IsEntryAt}
+use Rattle.ml_grid.specs.Entry.{LosesEntries}
+use Rattle.ml_grid.specs.Placed.{IsEntryAmong, IsEntryAt}
 use Rattle.ml_grid.proofs.Sums.{count_met, count_unmet}
 use Rattle.ml_grid.proofs.Sets.{drops_same, drops_none, at_is_placed, none_at}
 use Rattle.ml_grid.proofs.keep.drop_band.Goals as goal
@@ -23,9 +23,9 @@ pub returns-then-is_kept-clause-entries : goal.returns-then-is_kept-clause-entri
 returns-then-is_kept-clause-entries c =
     let a = c.args.label.now in
     let k = c.args.band in
-    let h : Drops (IsPlaced c.args.number c.args.until (hull_of a k) (cell_count (hull_of a k))) c.args.tree.now.entries c.drop_cells.new.tree.entries =
-    subst (λ (s : Cells). Drops (IsPlaced c.args.number c.args.until s (cell_count s)) c.args.tree.now.entries c.drop_cells.new.tree.entries) c.hull.ensures.hull c.drop_cells.ensures.entries in
-    drops_same (IsPlaced c.args.number c.args.until (hull_of a k) (cell_count (hull_of a k))) (IsEntryAt c.args.number a c.args.until k) c.args.tree.now.entries c.drop_cells.new.tree.entries h
+    let h : LosesEntries (IsEntryAmong c.args.number c.args.until (hull_of a k) (cell_count (hull_of a k))) c.args.tree.now.entries c.drop_cells.new.tree.entries =
+    subst (λ (s : Cells). LosesEntries (IsEntryAmong c.args.number c.args.until s (cell_count s)) c.args.tree.now.entries c.drop_cells.new.tree.entries) c.hull.ensures.hull c.drop_cells.ensures.entries in
+    drops_same (IsEntryAmong c.args.number c.args.until (hull_of a k) (cell_count (hull_of a k))) (IsEntryAt c.args.number a c.args.until k) c.args.tree.now.entries c.drop_cells.new.tree.entries h
     (at_is_placed c.hulls_are_few.ensures c.args.number a c.args.until k c.requires.low (sym c.if-is_kept.ensures))
 
 pub returns-then-is_kept-clause-spare : goal.returns-then-is_kept-clause-spare

@@ -3,18 +3,18 @@ use Rattle.std.proofs.lemmas.List.Sorted.{IsPermutation-sym, Contains-permutatio
 use Rattle.ml_repair.proofs.Answered.{if_ok}
 use Rattle.ml_repair.proofs.build.build_store.Goals as goal
 
-pub append_labels-requires-clause-few : goal.append_labels-requires-clause-few
-append_labels-requires-clause-few c =
+pub settle_all-requires-clause-few : goal.settle_all-requires-clause-few
+settle_all-requires-clause-few c =
     let e = length_permutation c.args.labels c.in_priority_order-ordered.result.items c.in_priority_order-ordered.ensures.same in
     let few = c.requires.few in
     omega arith
 
 pub returns-clause-labels : goal.returns-clause-labels
 returns-clause-labels c =
-    if_ok c.append_labels.result _ _
+    if_ok c.settle_all.result _ _
     (λ store e label.
     rw e (
       λ h. Contains-permutation c.in_priority_order-ordered.result.items c.args.labels label (IsPermutation-sym _ _ c.in_priority_order-ordered.ensures.same) h,
       λ h. Contains-permutation c.args.labels c.in_priority_order-ordered.result.items label c.in_priority_order-ordered.ensures.same h,
     ))
-    c.append_labels.ensures.labels
+    c.settle_all.ensures.labels

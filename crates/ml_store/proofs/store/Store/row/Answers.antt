@@ -12,3 +12,6 @@ returns-clause-label c d = rw (← c.self.view_is) (map_read (λ (t : Row). t.la
 
 pub returns-clause-slot : goal.returns-clause-slot
 returns-clause-slot c = rw (← c.self.view_is) (map_read (λ (t : Row). t.slot) c.self.inside.table.rows c.args.at c.row.result.now no_slot (rw (← c.self.view_is) at c.requires) (sym (c.row.ensures c.row.result.now)))
+
+pub returns-clause-row : goal.returns-clause-row
+returns-clause-row c = rw (← c.self.view_is) c.row.ensures

@@ -1,5 +1,6 @@
 use Rattle.std.proofs.Common.{◌≡◌, ◌∙◌, ap, sym, subst, rules, not, true, false, Bool, ℕ, List, refl}
-use Rattle.ml_tile.specs.Cache.{Cache, HeldTile, ComesFirst, IsHit, one_more, IsHeld}
+use Rattle.ml_ratio.specs.Count.{one_more}
+use Rattle.ml_tile.specs.Cache.{Cache, HeldTile, ComesFirst, IsHit, IsHeld}
 use Rattle.ml_tile.proofs.Held.{hit_of, miss_of}
 use Rattle.ml_tile.proofs.tiles.Tiles.touch.Goals as goal
 

@@ -1,0 +1,69 @@
+"""What both programs take for a workload, and the row that tells it."""
+
+from typing import NamedTuple
+
+from against_parts import owed
+from against_parts.runs import end_of
+from against_parts.works import Work
+
+HEAD = """| Workload | Seconds | Seconds of OTHER | Ratio | MiB | MiB of OTHER | Owed |
+|---|---|---|---|---|---|---|"""
+LEAST = 0.001  # seconds: what takes less counts as this much in a ratio
+
+
+class Taken:
+    """What a program took for a workload: the least seconds, the least of what is taken off, and the most memory."""
+
+    def __init__(self):
+        self.seconds, self.less, self.kib = float("inf"), float("inf"), 0
+
+    def left(self, work):
+        """Seconds of one part, without what is taken off."""
+        return max(0.0, self.seconds - (self.less if work.less else 0.0)) / work.parts
+
+
+class Measured(NamedTuple):
+    """The workload, what each program took, and what was wrong with its runs, or nothing."""
+
+    work: Work
+    taken: tuple
+    fault: str
+
+    def row(self):
+        """A line of the table."""
+        work, (one, other) = self.work, self.taken
+        seconds = [it.left(work) for it in self.taken]
+        ratio = seconds[0] / max(seconds[1], LEAST / work.parts)
+        times = [f"{it:.3f}" if it >= 0.01 else f"{it:.5f}" for it in seconds]
+        if work.is_memory:
+            ratio, times = one.kib / other.kib, ["-", "-"]
+        due = owed.told(work.title)
+        if not owed.is_kept(work.title, ratio, seconds[0]):
+            due += " **missed**"
+        title = work.title + (f" **{self.fault}**" if self.fault else "")
+        cells = [title, *times, f"{ratio:.2f}", *(f"{it.kib / 1024:.0f}" for it in self.taken), due or "-"]
+        return f"| {' | '.join(cells)} |"
+
+
+def measure(programs, work, folder, times):
+    """Runs both programs in turn. The first run of each is not timed; there standard error is compared too."""
+    taken, first, fault = tuple(Taken() for _ in programs), None, ""
+    notes = folder / "notes"
+    for name, program in zip(("the program", "OTHER"), programs):
+        with notes.open("wb") as sink:
+            ended = end_of(program, work.run, folder, sink)
+        seen = ended.status, ended.out, notes.read_bytes()
+        first = first or seen
+        if ended.has_failed(work.run):
+            fault = fault or f"{name} fails"
+        elif seen != first:
+            fault = fault or "outputs differ"
+    for _ in range(times):
+        for program, its in zip(programs, taken):
+            if work.less:
+                its.less = min(its.less, end_of(program, work.less, folder).seconds)
+            ended = end_of(program, work.run, folder)
+            its.seconds, its.kib = min(its.seconds, ended.seconds), max(its.kib, ended.kib)
+            if (ended.status, ended.out) != first[:2]:
+                fault = fault or "outputs differ"
+    return Measured(work, taken, fault)

@@ -1,0 +1,47 @@
+"""What is owed: how many times the time or memory of OTHER a workload may take, and how many seconds."""
+
+# By the titles of rows, so for maps of these sizes alone: the ratio at the most, and the seconds at the most that the
+# row tells, of a run or of one edit. The ratio of a row of memory is that of memory.
+OWED = {
+    "load of 10000 points": (3, None),
+    "load of 32768 points": (3, None),
+    "load of 10000 towns": (3, None),
+    "memory of 32768 points": (1.7, None),
+    "50 edits of 10000 towns, with load": (3, None),
+    "one edit of 32768 cities of one class": (None, 0.05),
+    "1000 edits of a generated map of 10000, with load": (3.5, None),
+    "1000 views at 30 of a generated map of 10000, with load": (3.5, None),
+    "1000 views at 1 to 3000 of a generated map of 10000, with load": (3.5, None),
+    "1000 views at 9000 on of a generated map of 10000, with load": (3.5, None),
+    "1000 views of 10000 towns, with load": (5, None),
+    "10000 views at 30 of a generated map of 10000, served": (2, None),
+    "10000 views at 1 to 3000 of a generated map of 10000, served": (2, None),
+    "10000 views at 9000 on of a generated map of 10000, served": (2, None),
+    "10000 views of 10000 towns, served": (3, None),
+    "zoom of a generated map of 10000": (3, None),
+    "zoom of 10000 towns": (3, None),
+    "follow of a generated map of 10000": (3, None),
+    "follow of 10000 towns": (3, None),
+    "slots of 10000 labels": (2, None),
+    "show of 10000 labels": (2, None),
+    "check of 10000 labels": (2, None),
+    "gaps of 10000 labels": (2, None),
+    "slots of 32768 labels": (3, 2),
+    "show of 32768 labels": (3, 2),
+    "check of 32768 labels": (3, 2),
+    "gaps of 32768 labels": (3, 2),
+    "gen 2000 7": (6, None),
+    "gen 6000 7": (6, None),
+}
+
+
+def is_kept(title, ratio, seconds):
+    """Whether the row of this title keeps what is owed, to the hundredth that is told of a ratio."""
+    most_ratio, most_seconds = OWED.get(title, (None, None))
+    return (most_ratio is None or round(ratio, 2) <= most_ratio) and (most_seconds is None or seconds <= most_seconds)
+
+
+def told(title):
+    """What is owed of the row, in words; nothing where nothing is."""
+    ratio, seconds = OWED.get(title, (None, None))
+    return ", ".join([f"{ratio}"] * (ratio is not None) + [f"{seconds} s"] * (seconds is not None))

@@ -1,0 +1,148 @@
+"""Runs of a program, over standard input or over connections to what it serves."""
+
+import os
+import select
+import signal
+import socket
+import subprocess
+import sys
+import time
+from pathlib import Path
+from typing import NamedTuple
+
+STARTER = str(Path(__file__).resolve().parent / "starter.py")
+PATIENCE = 120  # seconds in which a server sends or takes something
+
+
+class Refused(Exception):
+    """What cannot be measured, in a sentence."""
+
+
+class Run(NamedTuple):
+    """Words of a program with its standard input; or words of `serve`, PORT and COUNT left out, with what is sent
+    over each connection."""
+
+    words: tuple
+    put: bytes = b""
+    links: tuple = ()
+
+    def requests(self):
+        return sum(text.count(b" HTTP/1.1\r\n") for text in (self.put, *self.links))
+
+
+class Ended(NamedTuple):
+    """How a run ended: the exit code, standard output with the replies behind it, processor seconds, which of `serve`
+    are those from `ready` on, and the greatest memory in KiB."""
+
+    status: int
+    out: bytes
+    seconds: float
+    kib: int
+
+    def has_failed(self, run):
+        """Whether it ended badly, or some request was not answered as a good one."""
+        return self.status != 0 or self.out.count(b"HTTP/1.1 200 OK\r\n") != run.requests()
+
+
+class Started:
+    """A program that runs. What is left of it goes with the block in which it was started."""
+
+    def __init__(self, program, words, source, sink, notes):
+        self.name = f"{program} {words[0]}"
+        told, tell = os.pipe()
+        self.told = open(told, encoding="ascii")
+        command = [sys.executable, "-I", "-S", "-B", STARTER, str(tell), program, *words]
+        self.process = subprocess.Popen(command, stdin=source, stdout=sink, stderr=notes, pass_fds=[tell],
+                                        start_new_session=True)
+        os.close(tell)
+
+    def __enter__(self):
+        return self
+
+    def __exit__(self, *_):
+        if self.process.poll() is None:
+            os.killpg(self.process.pid, signal.SIGKILL)
+        self.process.wait()
+        self.told.close()
+        if self.process.stdout:
+            self.process.stdout.close()
+
+    def spent(self):
+        """Processor seconds until now. To be asked once."""
+        child = int(self.told.readline())
+        return time.clock_gettime(~child << 3 | 2)  # the clock's number is that of clock_getcpuclockid
+
+    def end(self):
+        """Waits for its end: the exit code, seconds and KiB."""
+        words = self.told.read().split()[-3:]
+        self.process.wait()
+        if len(words) < 3:
+            raise Refused(f"{self.name} could not be started")
+        return int(words[0]), float(words[1]), int(words[2])
+
+
+def piped(program, run, folder, notes):
+    """The end of a run over standard input and output, which are files of the folder."""
+    source, sink = folder / "in", folder / "out"
+    source.write_bytes(run.put)
+    with source.open("rb") as put, sink.open("wb") as out, Started(program, run.words, put, out, notes) as started:
+        status, seconds, kib = started.end()
+    return Ended(status, sink.read_bytes(), seconds, kib)
+
+
+def free_port():
+    with socket.socket() as it:
+        it.bind(("127.0.0.1", 0))
+        return it.getsockname()[1]
+
+
+def talk(port, text):
+    """All that a connection is answered. What is sent goes as the server takes it, while replies are read."""
+    got, left, is_open = [], memoryview(text), True
+    with socket.create_connection(("127.0.0.1", port), PATIENCE) as link:
+        link.setblocking(False)
+        while True:
+            if is_open and not left:
+                link.shutdown(socket.SHUT_WR)
+                is_open = False
+            readable, writable, _ = select.select([link], [link] if left else [], [], PATIENCE)
+            if not readable and not writable:
+                raise TimeoutError(f"silent for {PATIENCE} seconds")
+            if writable:
+                left = left[link.send(left):]
+            if readable:
+                piece = link.recv(1 << 20)
+                if not piece:
+                    return b"".join(got)
+                got.append(piece)
+
+
+def served(program, run, notes):
+    """The end of a server to which each connection is made in turn."""
+    port = free_port()
+    words = (*run.words, str(port), str(len(run.links)))
+    with Started(program, words, subprocess.DEVNULL, subprocess.PIPE, notes) as started:
+        first = started.process.stdout.readline()
+        if first != b"ready\n":
+            raise Refused(f"{started.name} is not ready but prints `{first.decode(errors='replace').strip()}`")
+        loaded = started.spent()
+        try:
+            replies = [talk(port, text) for text in run.links]
+        except OSError as fault:
+            raise Refused(f"{started.name} failed a connection: {fault}") from fault
+        last = started.process.stdout.read()
+        status, seconds, kib = started.end()
+    return Ended(status, b"".join([first, last, *replies]), seconds - loaded, kib)
+
+
+def end_of(program, run, folder, notes=subprocess.DEVNULL):
+    """How a run of the program ends; its standard error goes to the file."""
+    return served(program, run, notes) if run.links else piped(program, run, folder, notes)
+
+
+def printed(program, run, folder):
+    """What a run prints that must end well."""
+    ended = end_of(program, run, folder)
+    if ended.has_failed(run):
+        raise Refused(f"{program} {' '.join(run.words)} ended with {ended.status}")
+    return ended.out

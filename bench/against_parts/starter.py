@@ -1,0 +1,23 @@
+"""Starts a program, tells its number, and at its end the exit code, processor seconds and the greatest memory in KiB.
+
+    python3 -I -S -B starter.py FILE PROGRAM WORDS..
+
+FILE is the number of the open file to which it tells them, in two lines. The greatest memory that the system tells of
+a process is never below that of the process that started it, so this one imports little and has some 8 MiB.
+"""
+
+import os
+import sys
+
+
+def main():
+    told, program = int(sys.argv[1]), sys.argv[2]
+    os.set_inheritable(told, False)
+    child = os.posix_spawn(program, sys.argv[2:], os.environ)
+    os.write(told, f"{child}\n".encode())
+    _, status, usage = os.wait4(child, 0)
+    line = f"{os.waitstatus_to_exitcode(status)} {usage.ru_utime + usage.ru_stime} {usage.ru_maxrss}\n"
+    os.write(told, line.encode())
+
+
+main()
