@@ -19,7 +19,7 @@ use Rattle.ml_answer.specs.Edit.{span_data, change_data, edit_data}
 use Rattle.ml_answer.specs.Fault.{geo_data, style_data, fault_data}
 use Rattle.ml_answer.specs.Slot.{slot_data}
 use Rattle.ml_answer.specs.Values.{numbers, box_data, boxes_data}
-use Rattle.ml_answer.specs.View.{shown_data}
+use Rattle.ml_answer.specs.View.{shown_parts}
 
 integer_no_float : (z : ℤ) → has_float (number (of_integer z)) ≡ false
 integer_no_float (pos n) = refl
@@ -38,8 +38,8 @@ box_no_float p = numbers_no_float (p.l ∷ p.b ∷ p.r ∷ p.t ∷ [])
 boxes_no_float : (boxes : List BoxPx) → has_float (boxes_data boxes) ≡ false
 boxes_no_float boxes = items_no_float box_data box_no_float boxes
 
-pub shown_no_float : (label : Label) (until : Ratio) → has_float (shown_data label until) ≡ false
-shown_no_float label until =
+pub parts_no_float : (label : Label) (text until : List ℕ) → has_float (shown_parts label text until) ≡ false
+parts_no_float label text until =
     rw (numbers_no_float (label.x ∷ label.y ∷ []), boxes_no_float label.boxes) refl
 
 pub slot_no_float : (label : Label) (until : Ratio) (blocker : Option (List ℕ)) → has_float (slot_data label until blocker) ≡ false

@@ -1,9 +1,12 @@
-//! A value as compact text.
-ghost use Rattle.std.specs.Prelude.{◌≡◌, false, IfOk};
+//! Values as compact text.
+ghost use Rattle.std.specs.Prelude.{◌≡◌, [], Some, false, IfOk};
+ghost use Rattle.serde.specs.Event.{Log};
+ghost use Rattle.serde_json.specs.Sent.{IsTextOf};
 ghost use Rattle.serde_json.specs.View.{view};
 ghost use Rattle.serde_json.specs.Written.{has_float, compact_text};
 
 use ml_ratio::Seq;
+use serde::Serialize;
 use serde_json::Value;
 use std::alloc::{AllocError, Global};
 
@@ -15,4 +18,15 @@ pub(crate) fn compact(alloc: Global, value: &Value) -> Result<Seq<u8>, AllocErro
 {
     let text = value.to_string(alloc)?;
     Ok(Seq::of_vec(text.into_bytes()))
+}
+
+// The text of what a value sends, with no space between its parts.
+pub(crate) fn written<T: Serialize>(alloc: Global, value: &T) -> Result<Vec<u8>, AllocError>
+    ensures { IfOk result (λ text. (log : Log) × T.writes value.now (Some []) log × IsTextOf log text.items) }
+{
+    match serde_json::to_vec(alloc, value) {
+        Ok(text) => Ok(text),
+        // of text and whole numbers nothing is refused but for want of memory
+        Err(_) => Err(AllocError),
+    }
 }

@@ -1,71 +1,99 @@
 //! A label that a view shows, as JSON.
-ghost use Rattle.std.specs.Prelude.{◌≡◌, ◌++◌, ◌∷◌, [], IfOk, OnOk};
-ghost use Rattle.serde_json.specs.View.{view};
-ghost use Rattle.serde_json.specs.Written.{comma_if};
-ghost use Rattle.ml_answer.specs.Values.{numbers};
-ghost use Rattle.ml_answer.specs.View.{shown_data, shown_text};
+ghost use Rattle.std.specs.Prelude.{◌≡◌, ◌∷◌, [], OnOk, IfOk};
+ghost use Rattle.serde_json.specs.Data.{number};
+ghost use Rattle.serde_json.specs.Events.{SendsValue};
+ghost use Rattle.serde_json.specs.Find.{of_integer};
+ghost use Rattle.ml_answer.specs.Values.{numbers, box_data, boxes_data};
+ghost use Rattle.ml_answer.specs.View.{shown_parts, shown_text};
 
-use crate::compact::compact;
-use crate::values::{boxes_value, joined};
-use ml_cone::Label;
-use ml_ratio::{Ratio, Seq};
-use serde_json::{Value, json};
+use crate::compact::written;
+use crate::values::text_of;
+use ml_cone::{BoxPx, Label};
+use ml_ratio::Ratio;
+use serde::{Described, Serialize, Serializer};
+use serde_json::Number;
 use std::alloc::{AllocError, Global};
 
-// The text of a label that a view shows until a scale, behind a comma where others stand before it.
-pub(crate) fn listed_label(
-    alloc: Global,
-    later: bool,
-    label: &Label,
-    until: Ratio,
-) -> Result<Vec<u8>, AllocError>
-    ensures { IfOk result (λ text. text.items ≡ comma_if later ++ shown_text label.now until) }
-{
-    let text = label_text(alloc, label, until)?;
-    let mut listed = Vec::new(alloc);
-    push_comma(&mut listed, later)?;
-    listed.extend_from_slice(text.as_slice())?;
-    Ok(listed)
-}
-
-// Adds a comma, where something stands before.
-fn push_comma(text: &mut Vec<u8>, later: bool) -> Result<(), AllocError>
-    ensures { OnOk result (text.new.items ≡ text.old.items ++ comma_if later) }
-{
-    if later {
-        text.extend_from_slice(&[b','])?;
-    }
-    Ok(())
-}
-
 // The text of a label that a view shows until a scale.
-fn label_text(alloc: Global, label: &Label, until: Ratio) -> Result<Seq<u8>, AllocError>
-    ensures { IfOk result (λ text. text ≡ shown_text label.now until) }
+pub(crate) fn label_text(alloc: Global, label: &Label, until: Ratio) -> Result<Vec<u8>, AllocError>
+    ensures { IfOk result (λ text. text.items ≡ shown_text label.now until) }
 {
-    let value = label_value(alloc, label, until)?;
-    compact(alloc, &value)
-}
-
-// The value of a label that a view shows until a scale.
-fn label_value(alloc: Global, label: &Label, until: Ratio) -> Result<Value, AllocError>
-    ensures { IfOk result (λ value. view value ≡ shown_data label.now until) }
-{
-    let at = anchor_value(alloc, label)?;
-    let boxes = boxes_value(alloc, label.boxes().as_slice())?;
-    let text = joined(alloc, label.pieces().as_slice())?;
+    let text = text_of(alloc, label.pieces().as_slice())?;
     let until = until.text(alloc)?;
-    json!(in alloc; {
-        "at": at,
-        "boxes": boxes,
-        "id": label.id().as_str(),
-        "text": text,
-        "until": until.as_str()
-    })
+    let shown = ShownLabel {
+        label,
+        text: text.as_str(),
+        until: until.as_str(),
+    };
+    written(alloc, &shown)
 }
 
-// The value of a label's anchor.
-fn anchor_value(alloc: Global, label: &Label) -> Result<Value, AllocError>
-    ensures { IfOk result (λ value. view value ≡ numbers (label.now.x ∷ label.now.y ∷ [])) }
+// A label that a view shows, with its text and the scale from which on it is not shown any more. It is
+// written member by member, in byte order of their names, so that no tree of values is built for it.
+#[derive(Clone, Copy)]
+struct ShownLabel<'a> {
+    label: &'a Label,
+    text: &'a str,
+    until: &'a str,
+}
+
+impl Described for ShownLabel<'_> {
+    ghost writes = { λ s. SendsValue (shown_parts s.label.now s.text.now s.until.now) };
+}
+
+impl Serialize for ShownLabel<'_> {
+    fn serialize<S: Serializer>(&self, out: &mut S) -> Result<(), S::Error> {
+        out.begin_map(Some(5))?;
+        out.key("at")?;
+        send_anchor(self.label, out)?;
+        out.key("boxes")?;
+        send_boxes(self.label.boxes().as_slice(), out)?;
+        out.key("id")?;
+        out.str(self.label.id().as_str())?;
+        out.key("text")?;
+        out.str(self.text)?;
+        out.key("until")?;
+        out.str(self.until)?;
+        out.end_map()
+    }
+}
+
+// Sends a label's anchor.
+fn send_anchor<S: Serializer>(label: &Label, out: &mut S) -> Result<(), S::Error>
+    ensures { OnOk result (SendsValue (numbers (label.now.x ∷ label.now.y ∷ [])) (S.written out.old) (S.written out.new)) }
 {
-    json!(in alloc; [label.x(), label.y()])
+    out.begin_seq(Some(2))?;
+    send_number(label.x(), out)?;
+    send_number(label.y(), out)?;
+    out.end_seq()
+}
+
+// Sends boxes.
+fn send_boxes<S: Serializer>(boxes: &[BoxPx], out: &mut S) -> Result<(), S::Error>
+    ensures { OnOk result (SendsValue (boxes_data boxes.now) (S.written out.old) (S.written out.new)) }
+{
+    out.begin_seq(Some(boxes.len()))?;
+    for p in boxes {
+        send_box(p, out)?;
+    }
+    out.end_seq()
+}
+
+// Sends a box.
+fn send_box<S: Serializer>(p: &BoxPx, out: &mut S) -> Result<(), S::Error>
+    ensures { OnOk result (SendsValue (box_data p.now) (S.written out.old) (S.written out.new)) }
+{
+    out.begin_seq(Some(4))?;
+    send_number(i64::from(p.l), out)?;
+    send_number(i64::from(p.b), out)?;
+    send_number(i64::from(p.r), out)?;
+    send_number(i64::from(p.t), out)?;
+    out.end_seq()
+}
+
+// Sends a whole number.
+fn send_number<S: Serializer>(value: i64, out: &mut S) -> Result<(), S::Error>
+    ensures { OnOk result (SendsValue (number (of_integer value)) (S.written out.old) (S.written out.new)) }
+{
+    Number::from(value).serialize(out)
 }

@@ -1,14 +1,13 @@
 //! The JSON text of a view.
 ghost use Rattle.std.specs.Prelude.{◌≡◌, ◌++◌, List, IfOk, OnOk, OnErr};
 ghost use Rattle.serde_json.specs.Data.{string};
-ghost use Rattle.serde_json.specs.Written.{compact_text};
+ghost use Rattle.serde_json.specs.Written.{comma_if, compact_text};
 ghost use Rattle.ml_ratio.specs.Ratio.{ratio_text};
 ghost use Rattle.ml_ratio.specs.declared.ratio.Ratio.{Ratio};
 ghost use Rattle.ml_answer.specs.View.{Shown, view_text, no_label, with_label, with_labels, view_end};
 
-use crate::compact::compact;
-use crate::shown::listed_label;
-use crate::values::ratio_value;
+use crate::compact::written;
+use crate::shown::label_text;
 use ml_cone::Label;
 use ml_ratio::{Ratio, Seq};
 use std::alloc::{AllocError, Global};
@@ -59,8 +58,8 @@ impl JsonView {
         ensures err { OnErr result (self.new ≡ self.old) }
     {
         let alloc = *self.text.allocator();
-        let listed = listed_label(alloc, self.later, label, until)?;
-        self.text.extend_from_slice(&listed)?;
+        let text = label_text(alloc, label, until)?;
+        push_listed(&mut self.text, self.later, &text)?;
         self.later = true;
         Ok(())
     }
@@ -81,20 +80,32 @@ impl JsonView {
     }
 }
 
+// Adds the text of a label, behind a comma where others stand before it; or, where it fails, nothing.
+fn push_listed(all: &mut Vec<u8>, later: bool, text: &[u8]) -> Result<(), AllocError>
+    ensures ok { OnOk result (all.new.items ≡ all.old.items ++ (comma_if later ++ text.now)) }
+    ensures err { OnErr result (all.new.items ≡ all.old.items) }
+{
+    if later {
+        all.reserve(text.len() + 1)?;
+        all.push(b',')?;
+    }
+    all.extend_from_slice(text)
+}
+
 // Adds what stands behind the labels: the end of their list, and the scale.
 fn push_end(text: &mut Vec<u8>, scale: Ratio) -> Result<(), AllocError>
     ensures { OnOk result (text.new.items ≡ text.old.items ++ view_end scale) }
 {
     let scale = scale_text(*text.allocator(), scale)?;
     text.extend_from_slice(b"],\"scale\":")?;
-    text.extend_from_slice(scale.as_slice())?;
+    text.extend_from_slice(&scale)?;
     text.extend_from_slice(b"}")
 }
 
 // The text of a scale.
-fn scale_text(alloc: Global, scale: Ratio) -> Result<Seq<u8>, AllocError>
-    ensures { IfOk result (λ text. text ≡ compact_text (string (ratio_text scale))) }
+fn scale_text(alloc: Global, scale: Ratio) -> Result<Vec<u8>, AllocError>
+    ensures { IfOk result (λ text. text.items ≡ compact_text (string (ratio_text scale))) }
 {
-    let value = ratio_value(alloc, scale)?;
-    compact(alloc, &value)
+    let text = scale.text(alloc)?;
+    written(alloc, &text.as_str())
 }

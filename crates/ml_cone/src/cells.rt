@@ -8,10 +8,10 @@ ghost use Rattle.ml_cone.specs.Cells.{cell_side};
 #[derive(Clone, Copy, Debug, PartialEq, Eq)]
 pub struct Cells {
     pub band: u8,
-    pub x0: i64,
-    pub y0: i64,
-    pub x1: i64,
-    pub y1: i64,
+    pub x0: i32,
+    pub y0: i32,
+    pub x1: i32,
+    pub y1: i32,
 }
 
 /// How many world units the side of a cell of the band has. The band is at most 27.

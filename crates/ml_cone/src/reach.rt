@@ -49,7 +49,7 @@ pub(crate) fn extent(label: &Label) -> BoxPx
 
 // The column of cells of the band `cells` in which the place `u` pixels from `x` lies, a pixel being as
 // large as at the upper end of the band.
-pub(crate) fn column(x: i64, u: i32, band: u8, cells: u8) -> i64
+pub(crate) fn column(x: i64, u: i32, band: u8, cells: u8) -> i32
     requires x_in_world { IsInWorld x }
     requires u_in_reach { IsReach u }
     requires low_band { band ≤ 27 }
@@ -59,7 +59,8 @@ pub(crate) fn column(x: i64, u: i32, band: u8, cells: u8) -> i64
     let wide = u as i64;
     let offset = wide * pixel_of(band);
     let place = x + offset;
-    place.div_euclid(side_of(cells))
+    let column = place.div_euclid(side_of(cells));
+    column as i32
 }
 
 /// The label's hull in the band, which is at most 27: the cells from that of the lower left corner of

@@ -7,7 +7,7 @@ use Rattle.ml_cone.specs.Near.{AreClear}
 use Rattle.ml_cone.specs.Choice.{IsEnd, Allows, IsLimit, CoversFrom}
 use Rattle.ml_conflict.specs.Begin.{Begins, Clear, Covers, IsBlock, SetsNoneUpTo}
 use Rattle.ml_cone.specs.declared.label.Label.{Label}
-use Rattle.ml_ratio.proofs.lemmas.Fractions.{less_at_most, at_most_less, at_most_trans, middle, middle_above, middle_below, greater_of, scale_above}
+use Rattle.ml_ratio.proofs.lemmas.Fractions.{less_at_most, at_most_less, at_most_trans, less_trans, middle, middle_above, middle_below, greater_of, scale_above}
 use Rattle.ml_conflict.proofs.Greedy.{Allows-smaller}
 use Rattle.ml_conflict.proofs.Openness.{under_both, HasBeginning, overlap_begins}
 
@@ -179,6 +179,12 @@ none_of_clear low high u bound clear f limit below =
                 absurd (omega arith)
           ]
     ]
+
+-- labels that overlap at no scale up to some one above the end of the other: it sets no limit
+pub none_of_ended : (low high : Label) (u bound : Fraction) → AreClear low high u.num u.den → SetsNoneUpTo low high u bound
+unfolding Allows
+none_of_ended low high u bound clear =
+    none_of_allowed low high u bound (λ s scale a b over. clear.2 s (let ends : IsLess s u = b.1 in let above : IsLess u clear.0 = clear.1 in let past : IsLess s clear.0 = less_trans s u clear.0 ends above in omega (arith, past)) over)
 
 -- a bound up to which no limit is set is allowed
 pub allowed_up_to : (low high : Label) (u bound : Fraction) → IsAtMost bound (value_of low.max) → SetsNoneUpTo low high u bound → Allows low high u bound

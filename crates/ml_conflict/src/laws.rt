@@ -90,6 +90,12 @@ pub fn clear_labels()
     ensures { (low high : Label) (u bound : Fraction) → AreClear low high bound.num bound.den → SetsNoneUpTo low high u bound }
 {}
 
+/// A label that is active until an end sets another one no limit where they overlap at no scale up to some one
+/// above that end.
+pub fn ended_labels()
+    ensures { (low high : Label) (u bound : Fraction) → AreClear low high u.num u.den → SetsNoneUpTo low high u bound }
+{}
+
 /// Labels set each other no limit up to a bound where their anchors are too far apart on one axis for what
 /// they reach toward each other.
 pub fn far_labels()

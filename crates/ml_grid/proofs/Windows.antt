@@ -1,10 +1,11 @@
 -- The columns that a window meets.
-use Rattle.std.proofs.Common.{◌≡◌, ap, ℕ, ◌+◌, ◌*◌, ◌^◌, ◌<◌, ◌≤◌, ◌/◌, ◌%◌, arith, ◌↔◌, ℤ, pos, ◌+ℤ◌, ◌-ℤ◌, ◌*ℤ◌, ◌≤ℤ◌, ◌<ℤ◌}
+use Rattle.std.proofs.Common.{◌≡◌, ap, ℕ, ◌+◌, ◌*◌, ◌^◌, ◌<◌, ◌≤◌, ◌/◌, ◌%◌, arith, ◌↔◌, w32, FitsSigned, ℤ, pos, negsuc, ◌+ℤ◌, ◌-ℤ◌, ◌*ℤ◌, ◌≤ℤ◌, ◌<ℤ◌}
 use Rattle.std.specs.Int.{int_div_euclid}
 use Rattle.std.proofs.lemmas.Int.{ints}
 use Rattle.std.proofs.lemmas.Nat.{mul-le, mul-lt, pow-add, pow_pos}
 use Rattle.ml_ratio.specs.Band.{IsInBand}
 use Rattle.ml_ratio.specs.Fraction.{Fraction, value_of}
+use Rattle.ml_ratio.specs.World.{IsInWorld}
 use Rattle.ml_cone.specs.Cells.{cell_side}
 use Rattle.ml_cone.specs.Cell.{ColumnInWindow}
 use Rattle.ml_ratio.proofs.lemmas.Rounding.{quotient_low, quotient_high, stretch_le, scaled_le, sum_scaled}
@@ -53,6 +54,23 @@ few_open m h side positive wide short =
       stretch_le a b (m -ℤ pos h) ((m +ℤ pos h) -ℤ pos 1) side a_low (omega (arith, ints)) b_high,
       stretch_le b (a +ℤ pos 8) ((m +ℤ pos h) -ℤ pos 1) ((m +ℤ pos h) -ℤ pos 1) side b_low (omega (arith, ints)) (omega (arith, ints)),
     )
+
+-- and they fit in 32 bits where the stretch lies about a place of the world
+pub columns_fit : (c : ℤ) (d h side : ℕ) → IsInWorld c → 0 < d → 1024 * d ≤ side →
+    AreUpToNine (int_div_euclid ((c *ℤ pos d) -ℤ pos h) (pos side)) (int_div_euclid (((c *ℤ pos d) +ℤ pos h) -ℤ pos 1) (pos side)) →
+    FitsSigned w32 (int_div_euclid ((c *ℤ pos d) -ℤ pos h) (pos side)) × FitsSigned w32 (int_div_euclid (((c *ℤ pos d) +ℤ pos h) -ℤ pos 1) (pos side))
+columns_fit c d h side world some wide few =
+    let m = c *ℤ pos d in
+    let a = int_div_euclid (m -ℤ pos h) (pos side) in
+    let b = int_div_euclid ((m +ℤ pos h) -ℤ pos 1) (pos side) in
+    let positive : 0 < side = omega arith in
+    let high = scaled_le c (pos 2000000000) d world.1 in
+    let low = scaled_le (negsuc 1999999999) c d world.0 in
+    let most : a ≤ℤ pos 2000000000 = stretch_le a (pos 2000000000) (m -ℤ pos h) m side (quotient_low (m -ℤ pos h) side positive) (omega (arith, ints)) (omega (arith, ints)) in
+    let least : negsuc 2000000000 ≤ℤ b = stretch_le (negsuc 2000000000) b (m -ℤ pos 1) ((m +ℤ pos h) -ℤ pos 1) side (omega (arith, ints)) (omega (arith, ints)) (quotient_high ((m +ℤ pos h) -ℤ pos 1) side positive) in
+    let after = few.0 in
+    let near = few.1 in
+    (omega (arith, ints), omega (arith, ints))
 
 -- a window as a stretch about its middle
 pub window_columns : (c : ℤ) (w h k : ℕ) (s : Fraction) → w ≡ 2 * h → 0 < cell_side k * s.den → (x : ℤ) →

@@ -22,7 +22,7 @@ pub fn is_kept(label: &Label, band: u8) -> bool
 }
 
 /// How many columns, or rows, there are from `from` to `until`.
-pub fn span_len(from: i64, until: i64) -> usize
+pub fn span_len(from: i32, until: i32) -> usize
     requires few { AreUpToNine from until }
     ensures len { result ≡ count_between from until }
     ensures few { result < 10 }
@@ -50,8 +50,8 @@ pub fn cell_at(cells: &Cells, i: usize) -> Cell
     let rows = span_len(cells.y0, cells.y1);
     Cell {
         band: cells.band,
-        x: cells.x0 + (i / rows) as i64,
-        y: cells.y0 + (i % rows) as i64,
+        x: cells.x0 + (i / rows) as i32,
+        y: cells.y0 + (i % rows) as i32,
     }
 }
 

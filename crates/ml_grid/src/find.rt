@@ -16,7 +16,7 @@ use std::alloc::AllocError;
 use std::sync::ledger::Ledger;
 
 // The first and the last cell of the column.
-fn column_ends(x: i64, cells: &Cells) -> (Cell, Cell)
+fn column_ends(x: i32, cells: &Cells) -> (Cell, Cell)
     ensures first { result.0 ≡ cell_of cells.now.band x cells.now.y0 }
     ensures last { result.1 ≡ cell_of cells.now.band x cells.now.y1 }
 {
@@ -34,7 +34,7 @@ fn column_ends(x: i64, cells: &Cells) -> (Cell, Cell)
 }
 
 // Finds the numbers in the cells of the column.
-fn find_column(tree: &Tree, x: i64, cells: &Cells, found: &mut Seq<u32>) -> Result<(), AllocError>
+fn find_column(tree: &Tree, x: i32, cells: &Cells, found: &mut Seq<u32>) -> Result<(), AllocError>
     ensures ok { OnOk result (Finds (IsInColumn cells.now x) tree.now.entries found.old found.new) }
 {
     let (from, to) = column_ends(x, cells);
@@ -44,7 +44,7 @@ fn find_column(tree: &Tree, x: i64, cells: &Cells, found: &mut Seq<u32>) -> Resu
 // Finds the numbers of the entries in the cells of the column that end at the scale at the earliest.
 fn find_column_from(
     tree: &Tree,
-    x: i64,
+    x: i32,
     cells: &Cells,
     scale: &Ratio,
     found: &mut Seq<u32>,
@@ -56,7 +56,7 @@ fn find_column_from(
 }
 
 // Whether an entry in the cells of the column ends at the scale at the earliest.
-fn has_in_column(tree: &Tree, x: i64, cells: &Cells, scale: &Ratio) -> bool
+fn has_in_column(tree: &Tree, x: i32, cells: &Cells, scale: &Ratio) -> bool
     ensures { IsTrue result ↔ HasEntry (IsInColumnFrom cells.now x scale.now) tree.now.entries }
 {
     let (from, to) = column_ends(x, cells);
@@ -69,7 +69,7 @@ pub fn find_cells(tree: &Tree, cells: &Cells, found: &mut Seq<u32>) -> Result<()
     ensures ok { OnOk result (Finds (IsAmong cells.now) tree.now.entries found.old found.new) }
 {
     for i in 0..span_len(cells.x0, cells.x1) {
-        find_column(tree, cells.x0 + i as i64, cells, found)?;
+        find_column(tree, cells.x0 + i as i32, cells, found)?;
     }
     Ok(())
 }
@@ -85,7 +85,7 @@ pub fn find_cells_from(
     ensures ok { OnOk result (Finds (IsAmongFrom cells.now scale.now) tree.now.entries found.old found.new) }
 {
     for i in 0..span_len(cells.x0, cells.x1) {
-        find_column_from(tree, cells.x0 + i as i64, cells, scale, found)?;
+        find_column_from(tree, cells.x0 + i as i32, cells, scale, found)?;
     }
     Ok(())
 }
@@ -96,7 +96,7 @@ pub fn has_in_cells(tree: &Tree, cells: &Cells, scale: &Ratio) -> bool
     ensures { IsTrue result ↔ HasEntry (IsAmongFrom cells.now scale.now) tree.now.entries }
 {
     for i in 0..span_len(cells.x0, cells.x1) {
-        if has_in_column(tree, cells.x0 + i as i64, cells, scale) {
+        if has_in_column(tree, cells.x0 + i as i32, cells, scale) {
             return true;
         }
     }

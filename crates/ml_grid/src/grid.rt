@@ -1,25 +1,24 @@
 //! The grid.
-ghost use Rattle.std.specs.Prelude.{ℕ, ◌≡◌, ◌≢◌, ◌+◌, ◌≤◌, ◌↔◌, [], max, length, Contains, IsTrue, OnOk, OnErr, IfOk};
-ghost use Rattle.std.specs.List.{AllPairs};
+ghost use Rattle.std.specs.Prelude.{ℕ, ◌≡◌, ◌+◌, ◌≤◌, ◌↔◌, [], max, length, Contains, IsTrue, OnOk, OnErr, IfOk};
 ghost use Rattle.std.specs.List.Sorted.{IsPermutation};
 ghost use Rattle.std.specs.Ordering.{nat_cmp};
 ghost use Rattle.ml_ratio.specs.RatioOrder.{ratio_cmp};
 ghost use Rattle.ml_spans.specs.Order.{entry_order, IsRising};
 ghost use Rattle.ml_grid.specs.Cell.{cell_cmp};
 ghost use Rattle.ml_grid.specs.Count.{AreUpToNine, entry_count};
-ghost use Rattle.ml_grid.specs.Entry.{IsEntryOf, Adds, LosesEntries, Replaces, IsFree, AreEntriesOf};
+ghost use Rattle.ml_grid.specs.Entry.{IsEntryOf, Adds, LosesEntries, Replaces, IsFree, AreEntriesOf, AreApart};
 ghost use Rattle.ml_grid.specs.Found.{AppendsNumbers, AppendsFirst, IsInHull, IsNumberOf, HasEntry, IsSeen};
 ghost use Rattle.ml_grid.specs.Column.{IsAmongFrom};
 
 use crate::bands::entries_of;
-use crate::cell::Cell;
 use crate::find::{append, append_counted, ascending, find_cells, find_cells_from, has_in_cells};
 use crate::keep::{Tree, add_all, drop_all, move_all};
+use crate::list::{Entries, list_all};
 use crate::window::window_cells;
 use ml_cone::{Cells, Label, Span, View, hull};
 use ml_ratio::{Ratio, Seq, Steps};
+use ml_spans::SpanTree;
 use ml_spans::sorting::in_order;
-use ml_spans::{Entry, SpanTree};
 use std::alloc::{AllocError, Global};
 use std::marker::Model;
 use std::sync::ledger::Ledger;
@@ -55,12 +54,32 @@ impl Grid {
         }
     }
 
+    /// Appends the entries of a label with this span, which begins at the label's minimum, to entries of which
+    /// no two are the same and none has the number.
+    ///
+    /// # Errors
+    /// Want of memory; some of them were appended.
+    pub fn list(
+        entries: &mut Entries,
+        number: u32,
+        label: &Label,
+        span: &Span,
+    ) -> Result<(), AllocError>
+        requires begins { span.now.min ≡ label.now.min }
+        requires apart { AreApart entries.old.items }
+        requires free { IsFree number entries.old.items }
+        ensures apart { OnOk result (AreApart entries.new.items) }
+        ensures entries { OnOk result (Adds (IsEntryOf number label.now span.now.until) entries.old.items entries.new.items) }
+    {
+        list_all(entries, number, span.until, label)
+    }
+
     /// The grid of these entries, of which no two may be the same, with no room.
     ///
     /// # Errors
     /// Want of memory.
-    pub fn of(alloc: Global, entries: Vec<Entry<Cell, Ratio, u32>>) -> Result<Grid, AllocError>
-        requires differ { AllPairs (λ one other. one ≢ other) entries.items }
+    pub fn of(alloc: Global, entries: Entries) -> Result<Grid, AllocError>
+        requires apart { AreApart entries.items }
         ensures entries { IfOk result (λ grid. IsPermutation entries.items grid.entries) }
         ensures spare { IfOk result (λ grid. grid.spare ≡ 0) }
     {

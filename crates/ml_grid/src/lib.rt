@@ -18,7 +18,9 @@ mod find;
 pub mod grid;
 mod keep;
 pub mod laws;
+mod list;
 mod window;
 
 pub use cell::Cell;
 pub use grid::Grid;
+pub use list::Entries;

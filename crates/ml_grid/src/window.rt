@@ -63,7 +63,7 @@ fn last_column(middle: i64, half: i64, side: i64) -> i64
 }
 
 // The first and the last column of cells of the band that meet the window of `w` pixels about `c`, where the scale lies in the band.
-fn columns_in(c: i64, w: u32, scale: &Ratio, band: u8) -> (i64, i64)
+fn columns_in(c: i64, w: u32, scale: &Ratio, band: u8) -> (i32, i32)
     requires c_in_world { IsInWorld c }
     requires some_w { 2 ≤ w }
     requires low_w { w ≤ 4096 }
@@ -77,10 +77,9 @@ fn columns_in(c: i64, w: u32, scale: &Ratio, band: u8) -> (i64, i64)
     let middle = middle_of(c, scale);
     let half = half_of(w, scale);
     let side = side_at(scale, band);
-    (
-        first_column(middle, half, side),
-        last_column(middle, half, side),
-    )
+    let first = first_column(middle, half, side);
+    let last = last_column(middle, half, side);
+    (first as i32, last as i32)
 }
 
 /// The cells that meet the view's window, in the band of its scale.

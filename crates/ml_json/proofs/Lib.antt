@@ -14,6 +14,7 @@ mod PartialLemmas
 mod PutLemmas
 mod NumberLemmas
 mod Quiet
+mod LeapLemmas
 mod Places
 mod EndLemmas
 mod KnownNumbers

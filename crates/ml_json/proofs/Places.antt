@@ -1,12 +1,13 @@
 -- What the reader knows behind each byte.
-use Rattle.std.proofs.Common.{◌≡◌, ℕ, ◌+◌, ◌<◌, ◌≤◌, inl, inr, List, [], ◌∷◌, length, take, get_or, Option, Some, None, refl, sym, ◌∙◌, ap, subst, arith, append-nil}
-use Rattle.std.proofs.lemmas.List.{take_more}
+use Rattle.std.proofs.Common.{◌≡◌, ℕ, ◌+◌, ◌<◌, ◌≤◌, inl, inr, List, [], ◌∷◌, length, take, get_or, Option, Some, None, refl, sym, ◌∙◌, ap, subst, arith, append-nil, drop, suc, ◌-◌, length-drop}
+use Rattle.std.proofs.lemmas.List.{take_more, drop_more}
 use Rattle.std.proofs.Math.Seq.{take-length}
 use Rattle.std.proofs.lemmas.Bool.{cases_lt}
 use Rattle.ml_json.specs.Tree.{Tree}
 use Rattle.ml_json.specs.Grammar.{IsGood}
 use Rattle.ml_json.specs.Machine as m
 use Rattle.ml_json.specs.Machine.{Mode, Frame, State, step, finish, open_of}
+use Rattle.ml_json.specs.Leaps.{Passes, here, on}
 use Rattle.ml_json.proofs.Runs.{reach, reaches, run, goes}
 use Rattle.ml_json.specs.Depth.{depth, seen, IsShallow}
 use Rattle.ml_json.specs.Answer.{IsDeep, IsNotJson, IsText}
@@ -81,3 +82,71 @@ ends_early bytes x r f = record {
 
 pub all_read : (bytes : List ℕ) (at : ℕ) (x : State) → Reached bytes at x → length bytes ≤ at → Reached bytes (length bytes) x
 all_read bytes at x r h = let within = r.within in let e : at ≡ length bytes = omega arith in subst (λ n. Reached bytes n x) e r
+
+-- the bytes before the rest lead to the state
+pub record Stands (bytes rest : List ℕ) (x : State) : Type 0 where
+  pub at : ℕ
+  pub left : drop at bytes ≡ rest
+  pub reached : Reached bytes at x
+
+pub stands_start : (bytes : List ℕ) (x : State) → (m.begin, []) ≡ x → Stands bytes bytes x
+stands_start bytes x e = record { at = 0; left = refl; reached = subst (Reached bytes 0) e (reached_start bytes) }
+
+-- the byte at the front of the rest, and what follows it
+pub record Ahead (bytes : List ℕ) (at b : ℕ) (next : List ℕ) : Type 0 where
+  pub within : at < length bytes
+  pub byte : get_or bytes at 0 ≡ b
+  pub left : drop (at + 1) bytes ≡ next
+
+ahead : (bytes : List ℕ) (at b : ℕ) (next : List ℕ) → drop at bytes ≡ b ∷ next → Ahead bytes at b next
+ahead bytes at b next e =
+    let n : length bytes - at ≡ suc (length next) = sym (length-drop at bytes) ∙ ap length e in
+    let within : at < length bytes = omega arith in
+    let both : get_or bytes at 0 ∷ drop (at + 1) bytes ≡ b ∷ next = sym (drop_more bytes at 0 within) ∙ e in
+    record { within = within; byte = cc; left = cc }
+
+-- how far the rest is
+pub stands_at : (bytes rest : List ℕ) (x : State) (s : Stands bytes rest x) → (length rest ≤ length bytes) × (s.at ≡ length bytes - length rest)
+stands_at bytes rest x s =
+    let n : length bytes - s.at ≡ length rest = sym (length-drop s.at bytes) ∙ ap length s.left in
+    let within = s.reached.within in
+    (omega arith, omega arith)
+
+-- one step more
+pub stands_more : (bytes : List ℕ) (b : ℕ) (next : List ℕ) (x y : State) → Stands bytes (b ∷ next) x → step x.0 x.1 b ≡ Some y → open_of y.0 y.1 ≤ 64 → Stands bytes next y
+stands_more bytes b next x y s h le =
+    let a = ahead bytes s.at b next s.left in
+    record { at = s.at + 1; left = a.left; reached = reached_more bytes s.at x y a.within s.reached (ap (step x.0 x.1) a.byte ∙ h) le }
+
+-- many steps
+pub stands_passed : (bytes : List ℕ) {x z : State} {s r : List ℕ} → Passes x s z r → Stands bytes s x → Stands bytes r z
+stands_passed bytes here h = h
+stands_passed bytes {x} (on {y = y} {b} {s} e le p) h = stands_passed bytes p (stands_more bytes b s x y h e le)
+
+pub stands_still : {x z : State} {s r : List ℕ} → Passes x s z r → length r ≤ length s
+stands_still here = omega arith
+stands_still (on e le p) = let h = stands_still p in omega arith
+
+-- where no step was made
+pub not_passed : {x z : State} {s r : List ℕ} → Passes x s z r → length s ≤ length r → (x ≡ z) × (s ≡ r)
+not_passed here h = (refl, refl)
+not_passed (on e le p) h = let k = stands_still p in absurd (omega arith)
+
+pub stands_after : (bytes rest : List ℕ) (b : ℕ) (next : List ℕ) (x y : State) → rest ≡ b ∷ next → Stands bytes rest x → step x.0 x.1 b ≡ Some y → open_of y.0 y.1 ≤ 64 → Stands bytes next y
+stands_after bytes rest b next x y e s h le = stands_more bytes b next x y (subst (λ r. Stands bytes r x) e s) h le
+
+pub stops_ahead : (bytes rest : List ℕ) (b : ℕ) (next : List ℕ) (x : State) → rest ≡ b ∷ next → Stands bytes rest x → step x.0 x.1 b ≡ None → IsNotJson bytes (length bytes - length rest)
+stops_ahead bytes rest b next x e s h =
+    let a = ahead bytes s.at b next (s.left ∙ e) in
+    subst (IsNotJson bytes) (stands_at bytes rest x s).1 (stops_here bytes s.at x a.within s.reached (ap (step x.0 x.1) a.byte ∙ h))
+
+pub deep_ahead : (bytes rest : List ℕ) (b : ℕ) (next : List ℕ) (x y : State) → rest ≡ b ∷ next → Stands bytes rest x → step x.0 x.1 b ≡ Some y → open_of y.0 y.1 ≡ 65 → IsDeep bytes (length bytes - length rest)
+deep_ahead bytes rest b next x y e s h d =
+    let a = ahead bytes s.at b next (s.left ∙ e) in
+    subst (IsDeep bytes) (stands_at bytes rest x s).1 (too_deep bytes s.at x y a.within s.reached (ap (step x.0 x.1) a.byte ∙ h) d)
+
+pub all_stood : (bytes : List ℕ) (rest : List ℕ) (x : State) → Stands bytes rest x → length rest < 1 → Reached bytes (length bytes) x
+all_stood bytes rest x s h =
+    let k = stands_at bytes rest x s in
+    let within = s.reached.within in
+    all_read bytes s.at x s.reached (let e = k.1 in omega arith)

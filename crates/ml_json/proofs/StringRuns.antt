@@ -40,7 +40,7 @@ lead_large a t h = grind (arith, nat_tests)
 pub char_joined : (p : Option ℕ) (c bs x : List ℕ) → add_char p c bs ++ x ≡ c ++ (lone p ++ (bs ++ x))
 char_joined p c bs x = simp append_assoc
 
-text_plain : (purpose : Purpose) (p : Option ℕ) (c : List ℕ) (st : List Frame) (b : ℕ) → is_plain b ≡ true → m.text_step purpose p c st b ≡ Some (m.text purpose None (add_char p c (b ∷ [])), st)
+pub text_plain : (purpose : Purpose) (p : Option ℕ) (c : List ℕ) (st : List Frame) (b : ℕ) → is_plain b ≡ true → m.text_step purpose p c st b ≡ Some (m.text purpose None (add_char p c (b ∷ [])), st)
 text_plain purpose p c st b h =
     let a : (b == 34) ≡ false = grind (arith, nat_tests) in
     let e : (b == 92) ≡ false = grind (arith, nat_tests) in

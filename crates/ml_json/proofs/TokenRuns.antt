@@ -157,7 +157,7 @@ unfolding run step
 minus_runs acc st t r nought ta x = tailed_runs m.nought may_nought refl (acc ++ 48 ∷ []) st t r ta x ∙ ap (λ s. run r (m.after (num s)) st) (append_assoc acc (48 ∷ []) t)
 minus_runs acc st t r (whole {d} {ds} h all) ta x = rw (minus_first d h, h) (whole_runs (acc ++ d ∷ []) st ds t r all ta x ∙ ap (λ s. run r (m.after (num s)) st) (append_assoc acc (d ∷ []) (ds ++ t)))
 
-first_digit : (st : List Frame) (d : ℕ) → is_between 49 57 d ≡ true → m.value_step st d ≡ Some (m.number m.whole (d ∷ []), st)
+pub first_digit : (st : List Frame) (d : ℕ) → is_between 49 57 d ≡ true → m.value_step st d ≡ Some (m.number m.whole (d ∷ []), st)
 first_digit st d h =
     let a : is_space d ≡ false = grind (arith, nat_tests) in
     let b : (d == 34) ≡ false = grind (arith, nat_tests) in

@@ -14,3 +14,4 @@ pub mod Canonical
 pub mod Machine
 pub mod Partial
 pub mod State
+pub mod Leaps

@@ -10,13 +10,15 @@
 //!
 //! The reader takes one byte at a time: its [`state`], one [`machine`] step, [`brackets`] of lists and
 //! maps, [`members`] of maps, [`tokens`], [`strings`] with their 16-bit [`units`] and [`utf8`]
-//! characters, of which a [`tail`] may still be to come.
+//! characters, of which a [`tail`] may still be to come. Where a whole token of plain bytes lies ahead,
+//! [`leaps`] takes it at once.
 #![tactic(auto)]
 
 mod brackets;
 pub mod decimal;
 pub mod fixed;
 pub mod laws;
+mod leaps;
 mod machine;
 mod members;
 pub mod reader;

@@ -11,8 +11,8 @@ use crate::tokens::{number_next, push_number_digit, word_next};
 use std::alloc::Global;
 use std::mem;
 
-/// Takes one byte more. Most bytes are characters of strings and digits: they are pushed in place,
-/// and the mode, which is large, is not moved. Behind an error the mode says nothing.
+/// Takes one byte more. Characters of strings and digits are pushed in place, and the mode, which is
+/// large, is not moved. Behind an error the mode says nothing.
 pub fn advance(
     alloc: Global,
     frames: &mut Vec<Frame>,

@@ -8,6 +8,7 @@ ghost use Rattle.ml_json.specs.View.{tree_of};
 ghost use Rattle.ml_json.specs.Canonical.{IsWritable};
 ghost use Rattle.ml_json.specs.Answer.{Answers, IsText, IsNotJson, IsDeep, GivesTree};
 
+use crate::leaps::leap;
 use crate::machine::advance;
 use crate::state::{Frame, Mode, Stop};
 use crate::tokens::may_end;
@@ -52,18 +53,28 @@ pub fn read(alloc: Global, bytes: &[u8]) -> Result<Json, JsonFault>
     scan(alloc, bytes)
 }
 
-// Takes the bytes one by one.
+// Takes whole tokens where they are plain, else the bytes one by one.
 fn scan(alloc: Global, bytes: &[u8]) -> Result<Json, JsonFault>
     ensures { Answers result bytes.now }
 {
     let mut frames = Vec::new(alloc);
     let mut mode = Mode::Begin;
-    for (at, byte) in bytes.iter().enumerate() {
+    let mut rest = bytes;
+    while let [byte, next @ ..] = rest {
+        match leap(alloc, &mut frames, &mut mode, rest) {
+            Ok(left) => {
+                if left.len() < rest.len() {
+                    rest = left;
+                    continue;
+                }
+            }
+            Err(_) => return Err(JsonFault::Memory),
+        }
         match advance(alloc, &mut frames, &mut mode, *byte) {
-            Ok(()) => {}
+            Ok(()) => rest = next,
             Err(Stop::Memory) => return Err(JsonFault::Memory),
-            Err(Stop::NotJson) => return Err(JsonFault::NotJson(at)),
-            Err(Stop::Deep) => return Err(JsonFault::Deep(at)),
+            Err(Stop::NotJson) => return Err(JsonFault::NotJson(bytes.len() - rest.len())),
+            Err(Stop::Deep) => return Err(JsonFault::Deep(bytes.len() - rest.len())),
         }
     }
     match finish(frames, mode) {

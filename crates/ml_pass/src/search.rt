@@ -9,7 +9,7 @@ ghost use Rattle.ml_cone.specs.SiteOf.{IsSiteOf};
 use crate::field::{Field, is_beyond};
 use crate::spot::Spot;
 use ml_cone::{Label, Site, Slot};
-use ml_conflict::laws::{clear_labels, far_labels};
+use ml_conflict::laws::{clear_labels, ended_labels, far_labels};
 use ml_conflict::limit_up_to;
 use ml_ratio::Ratio;
 use std::alloc::AllocError;
@@ -106,13 +106,15 @@ impl Search<'_> {
     }
 
     // The limit that the label of the spot sets, where it is before and that is at most the bound, and then its
-    // place too; else the bound.
+    // place too; else the bound. A label that ends before the two may overlap sets none, and so it need not be
+    // looked at itself.
     fn look(&self, spot: &Spot, bound: Ratio, places: &mut Vec<u32>) -> Result<Ratio, AllocError>
         requires { IsSpotOf self.now.labels.now spot.now }
         ensures { IfOk result (λ next. IsSearched self.now.low.now (rivals_in self.now.labels.now self.now.slots.now self.now.low.now)
             (length self.now.slots.now) (λ j. j ≡ spot.now.place) (value_of bound) (value_of next) places.old.items places.new.items) }
     {
         clear_labels();
+        ended_labels();
         let place = spot.place as usize;
         if place >= self.slots.len() {
             return Ok(bound);
@@ -120,12 +122,11 @@ impl Search<'_> {
         if self.site.is_clear(&spot.site, bound.num(), bound.den()) {
             return Ok(bound);
         }
-        match limit_up_to(
-            self.low,
-            &self.labels[place],
-            &self.slots[place].until,
-            &bound,
-        ) {
+        let until = &self.slots[place].until;
+        if self.site.is_clear(&spot.site, until.num(), until.den()) {
+            return Ok(bound);
+        }
+        match limit_up_to(self.low, &self.labels[place], until, &bound) {
             Some(limit) => {
                 places.push(spot.place)?;
                 Ok(limit)

@@ -5,3 +5,4 @@ pub mod Fractions
 pub mod Lists
 pub mod Numerals
 pub mod Rounding
+pub mod Sorting

@@ -1,59 +1,47 @@
--- Labels that come in behind all others, each with its slot.
-use Rattle.std.proofs.Common.{◌≡◌, ℕ, ◌+◌, ◌<◌, ◌≤◌, List, [], ◌∷◌, ◌++◌, length, get_or, take, reverse, map, inl, inr, refl, sym, ap, ◌∙◌, arith}
-use Rattle.std.specs.Prelude.{insert, All}
+-- Rows made of labels in priority order, each with its slot and its place as its number.
+use Rattle.std.proofs.Common.{◌≡◌, ℕ, ◌+◌, ◌<◌, ◌≤◌, List, [], ◌∷◌, ◌++◌, length, get_or, take, reverse, map, inl, inr, sym, ap, ◌∙◌, arith}
+use Rattle.std.specs.Prelude.{All, Box, box_value}
+use Rattle.std.specs.declared.alloc.Global.{Global}
 use Rattle.std.proofs.lemmas.Bool.{cases_lt}
-use Rattle.std.proofs.lemmas.List.{map-append, append_assoc, reverse-append, length-append, length-map, get_or_default, get_or_push, take_more}
+use Rattle.std.proofs.lemmas.List.{map-append, append_assoc, reverse-append, length-append, length-map, get_or-map, get_or_push, take_more}
 use Rattle.std.proofs.Math.ListN.{get_or-append}
 use Rattle.ml_cone.specs.Label.{IsLabelList}
-use Rattle.ml_cone.specs.Slots.{Rival, IsOwnSlot, HaveOwnSlots, AreSlots, row, no_slot}
+use Rattle.ml_cone.specs.Slots.{Rival, IsOwnSlot, AreSlots, row, no_slot}
 use Rattle.ml_cone.specs.declared.label.Label.{Label}
 use Rattle.ml_cone.specs.declared.slot.Slot.{Slot}
-use Rattle.ml_store.specs.Rows.{numbers_in, labels_in, slots_in, number_at, HasId, IsFresh, HaveOwnNumbers}
+use Rattle.ml_store.specs.Boxes.{unboxed}
+use Rattle.ml_store.specs.Rows.{numbers_in, labels_in, slots_in, number_at, AreInTurn, HaveOwnNumbers, HaveOwnIds}
 use Rattle.ml_store.specs.declared.row.Row.{Row}
-use Rattle.ml_repair.specs.Settled.{IsSettled, AreInTurn}
-use Rattle.ml_repair.proofs.Carries.{id_once}
+use Rattle.ml_repair.specs.Settled.{IsSettled}
 use Rattle.ml_repair.proofs.Edited.{OwnLaw}
 use Rattle.ml_repair.proofs.Present.{length-labels}
 use Rattle.ml_repair.proofs.Shapes.{low_rows}
 
--- at the end
-pub insert_last : {X : Type 0} (xs : List X) (x : X) → insert xs (length xs) x ≡ xs ++ x ∷ []
-insert_last [] x = refl
-insert_last (y ∷ xs) x = ap (λ ys. y ∷ ys) (insert_last xs x)
-
 -- what is read of rows, after one came in behind them
-pub last_read : {A : Type 0} (read : Row → A) (rows : List Row) (r : Row) → map read (insert rows (length rows) r) ≡ map read rows ++ read r ∷ []
-last_read read rows r = ap (map read) (insert_last rows r) ∙ map-append read rows (r ∷ [])
-
--- no other label has its id
-pub last_id : (rows : List Row) (a : Label) → IsLabelList (labels_in rows ++ a ∷ []) → ¬ (HasId (labels_in rows) a.order.id)
-last_id rows a up = id_once (labels_in rows) (length (labels_in rows)) a (omega arith) (rw (insert_last (labels_in rows) a) up)
-
--- no rows are in turn
-pub none_in_turn : AreInTurn []
-none_in_turn k lt = absurd (omega arith)
-
--- where numbers are places, the next place is a number that no row has
-pub next_fresh : (rows : List Row) → AreInTurn rows → IsFresh (length rows) rows
-next_fresh rows turn there =
-    let many = length-map rows (λ (r : Row). r.number) in
-    let k : ℕ = there.0 in
-    let lt : k < length (numbers_in rows) = there.1 in
-    let here : get_or (numbers_in rows) k (length rows) ≡ length rows = there.2 in
-    let e : number_at rows k ≡ k = turn k (omega arith) in
-    let same : get_or (numbers_in rows) k 0 ≡ get_or (numbers_in rows) k (length rows) = get_or_default (numbers_in rows) k 0 (length rows) lt in
-    omega arith
+pub pushed_read : {A : Type 0} (read : Row → A) (boxes : List (Box Row Global)) (b : Box Row Global) → map read (unboxed (boxes ++ b ∷ [])) ≡ map read (unboxed boxes) ++ read b.value ∷ []
+pushed_read read boxes b = ap (map read) (map-append box_value boxes (b ∷ [])) ∙ map-append read (unboxed boxes) (b.value ∷ [])
 
 -- a row whose number is the next place is in turn
-pub next_in_turn : (rows : List Row) (r : Row) → AreInTurn rows → r.number ≡ length rows → AreInTurn (insert rows (length rows) r)
-next_in_turn rows r turn its k lt =
+pub pushed_in_turn : (boxes : List (Box Row Global)) (b : Box Row Global) → AreInTurn (unboxed boxes) → b.value.number ≡ length boxes → AreInTurn (unboxed (boxes ++ b ∷ []))
+pushed_in_turn boxes b turn its k lt =
+    let rows = unboxed boxes in
     let many = length-map rows (λ (r : Row). r.number) in
-    let long : length (insert rows (length rows) r) ≡ length rows + 1 = ap length (insert_last rows r) ∙ length-append rows (r ∷ []) in
-    rw (last_read (λ (t : Row). t.number) rows r)
+    let same = length-map boxes box_value in
+    let long = length-map (boxes ++ b ∷ []) box_value in
+    let more = length-append boxes (b ∷ []) in
+    rw (pushed_read (λ (t : Row). t.number) boxes b)
     (elim (cases_lt k (length rows)) [
-      | inl low ↦ get_or-append (numbers_in rows) (r.number ∷ []) 0 k (omega arith) ∙ turn k low
-      | inr high ↦ let e : k ≡ length (numbers_in rows) = omega arith in get_or_push (numbers_in rows) r.number 0 k (sym e) ∙ its ∙ omega arith
+      | inl low ↦ get_or-append (numbers_in rows) (b.value.number ∷ []) 0 k (omega arith) ∙ turn k low
+      | inr high ↦ let e : k ≡ length (numbers_in rows) = omega arith in get_or_push (numbers_in rows) b.value.number 0 k (sym e) ∙ its ∙ omega arith
     ])
+
+-- rows of labels with ids of their own have such ids
+pub own_ids : (rows : List Row) (labels : List Label) → labels_in rows ≡ labels → IsLabelList labels → HaveOwnIds rows
+own_ids rows labels are up i j d below within same =
+    let many = length-map rows (λ (r : Row). r.label) in
+    let long = ap length are in
+    let read : (k : ℕ) → k < length rows → get_or labels k d.label ≡ (get_or rows k d).label = (λ k lt. ap (λ ls. get_or ls k d.label) (sym are) ∙ get_or-map (λ (r : Row). r.label) rows k d d.label lt) in
+    (up i j d.label below (omega arith)).1 (ap (λ l. l.order.id) (read i (omega arith)) ∙ same ∙ ap (λ l. l.order.id) (sym (read j within)))
 
 -- the slots so far, after a label came in with the next one
 pub next_slots : (before after : List Row) (slots : List Slot) (slot : Slot) → length before < length slots → slot ≡ get_or slots (length before) slot → slots_in before ≡ take (length before) slots → slots_in after ≡ slots_in before ++ slot ∷ [] →
@@ -65,19 +53,10 @@ next_slots before after slots slot lt read so_far came =
     let n : length after ≡ length before + 1 = omega arith in
     came ∙ ap (λ (ss : List Slot). ss ++ slot ∷ []) so_far ∙ ap (λ (s : Slot). take (length before) slots ++ s ∷ []) read ∙ sym (take_more slots (length before) slot lt) ∙ ap (λ (k : ℕ). take k slots) (sym n)
 
--- the first labels of a list
-pub prefix_labels : (front back : List Label) → IsLabelList (front ++ back) → IsLabelList front
-prefix_labels front back up j i d less lt =
-    let n = length-append front back in
-    rw (← get_or-append front back d j (omega arith), ← get_or-append front back d i lt) (up j i d less (omega arith))
-
 -- what is left to come in
 module _ (rows : List Row) (rest : List Label) (label : Label) (labels : List Label) (coming : labels_in rows ++ reverse (rest ++ label ∷ []) ≡ labels) where
   pub next_coming : (labels_in rows ++ label ∷ []) ++ reverse rest ≡ labels
   next_coming = append_assoc (labels_in rows) (label ∷ []) (reverse rest) ∙ ap (λ ls. labels_in rows ++ ls) (sym (reverse-append rest (label ∷ []))) ∙ coming
-
-  pub next_up : IsLabelList labels → IsLabelList (labels_in rows ++ label ∷ [])
-  next_up up = prefix_labels (labels_in rows ++ label ∷ []) (reverse rest) (rw next_coming up)
 
   pub next_few : (n : ℕ) → length labels ≤ n → length rows < n
   next_few n few =

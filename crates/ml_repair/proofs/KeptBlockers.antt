@@ -1,5 +1,5 @@
 -- The slot among the blocker that stays and the labels whose ends changed is that among all that stand before.
-use Rattle.std.proofs.Common.{◌≡◌, ◌≢◌, ℕ, ◌+◌, ◌*◌, ◌<◌, ◌≤◌, Bool, true, false, List, [], ◌∷◌, ◌++◌, length, get_or, map, Contains, ◌⊎◌, inl, inr, refl, sym, ap, ◌∙◌, subst, arith, Option, Some, None}
+use Rattle.std.proofs.Common.{◌≡◌, ◌≢◌, ℕ, ◌+◌, ◌<◌, ◌≤◌, Bool, true, false, List, [], ◌∷◌, ◌++◌, length, get_or, map, Contains, ◌⊎◌, inl, inr, refl, sym, ap, ◌∙◌, subst, arith, Option, Some, None}
 use Rattle.std.specs.Prelude.{◌↔◌, IfSome, All}
 use Rattle.std.specs.List.Sorted.{IsStrictlyIncreasing}
 use Rattle.std.proofs.lemmas.Bool.{cases_lt, cases_eq}
@@ -10,7 +10,7 @@ use Rattle.ml_ratio.specs.Fraction.{Fraction, value_of, IsLess, IsAtMost, IsSame
 use Rattle.ml_ratio.specs.declared.ratio.Ratio.{Ratio}
 use Rattle.ml_ratio.proofs.lemmas.Fractions.{at_most_trans, at_most_less, same_at_most}
 use Rattle.ml_ratio.proofs.lemmas.Lists.{same_place}
-use Rattle.ml_cone.specs.Choice.{Allows, IsLimit}
+use Rattle.ml_cone.specs.Choice.{IsLimit}
 use Rattle.ml_cone.specs.Slots.{Rival, RivalAllows, IsFirstAt, IsSetter, IsOwnSlot, rival_at, row, ends, no_slot}
 use Rattle.ml_cone.specs.declared.label.Label.{Label}
 use Rattle.ml_cone.specs.declared.slot.Slot.{Slot}

@@ -1,11 +1,10 @@
 -- The changes of an edit are one list, and its cost is one number.
-use Rattle.std.proofs.Common.{◌≡◌, ℕ, zero, suc, ◌+◌, ◌-◌, ◌<◌, List, [], ◌∷◌, length, get_or, map, Contains, ◌⊎◌, inl, inr, refl, sym, ap, ◌∙◌, subst, arith, Bool, true, false}
-use Rattle.std.specs.Prelude.{◌↔◌, ◌≢◌, ◌≤◌, not, remove, nat_lt, if◌then◌else◌}
+use Rattle.std.proofs.Common.{◌≡◌, ℕ, suc, ◌+◌, ◌-◌, ◌<◌, List, [], ◌∷◌, length, get_or, map, Contains, inl, inr, refl, sym, ap, ◌∙◌, subst, arith, Bool, true, false}
+use Rattle.std.specs.Prelude.{◌≢◌, ◌≤◌, not, remove, nat_lt, if◌then◌else◌}
 use Rattle.std.specs.Ordering.{nat_cmp}
 use Rattle.std.specs.Cmp.Lexicographic.{slice_cmp}
 use Rattle.std.specs.List.Sorted.{IsStrictlySortedBy}
-use Rattle.std.specs.declared.cmp.Ordering.{Ordering}
-use Rattle.std.specs.declared.cmp.Ordering.TheVariants.{Less, Equal, Greater}
+use Rattle.std.specs.declared.cmp.Ordering.TheVariants.{Less}
 use Rattle.std.proofs.lemmas.Bool.{cases_lt, cases_eq, cases_order}
 use Rattle.std.proofs.lemmas.Bool.Decides.{nat_tests}
 use Rattle.std.proofs.lemmas.Cmp.{nat_list_cmp_total, tied_itself}
@@ -17,13 +16,12 @@ use Rattle.ml_ratio.proofs.lemmas.Fractions.{same_trans}
 use Rattle.ml_ratio.proofs.lemmas.Lists.{contains_cons, pick}
 use Rattle.ml_cone.specs.Choice.{Choice, IsLongest}
 use Rattle.ml_cone.specs.Label.{IsLabelList}
-use Rattle.ml_cone.specs.Places.{IsPlaceOf, IsNoId}
+use Rattle.ml_cone.specs.Places.{IsPlaceOf}
 use Rattle.ml_cone.specs.declared.label.Label.{Label}
 use Rattle.ml_cone.specs.declared.slot.Slot.{Slot}
 use Rattle.ml_watch.specs.declared.change.Change.{Change}
 use Rattle.ml_repair.specs.Changes.{AreChanges, IsChange}
 use Rattle.ml_repair.specs.Cost.{AreTouchedBy, IsCost}
-use Rattle.ml_repair.specs.Size.{IsSize}
 use Rattle.ml_repair.specs.Touched.{IsTouched, IsHit, IsLongestIf, left_out, AreTouched}
 use Rattle.ml_repair.proofs.Sizes.{size_once, size_same}
 

@@ -1,4 +1,4 @@
-use Rattle.std.specs.Prelude.{ℕ, ◌≡◌, ◌<◌, ◌≤◌, List, length, All}
+use Rattle.std.specs.Prelude.{◌<◌, ◌≤◌, List, length, All}
 use Rattle.ml_ratio.specs.Limits.{most_labels}
 use Rattle.ml_cone.specs.Label.{IsLabelList}
 use Rattle.ml_cone.specs.Slots.{AreSlots}
@@ -12,7 +12,3 @@ pub record IsSettled (rows : List Row) : Type 0 where
   pub own_numbers : HaveOwnNumbers rows
   pub low_numbers : All (λ r. r.number < most_labels) rows
   pub slots : AreSlots (number_at rows) (labels_in rows) (slots_in rows)
-
--- each row's number is its place
-abbrev pub AreInTurn : List Row → Type 0
-AreInTurn rows = (k : ℕ) → k < length rows → number_at rows k ≡ k

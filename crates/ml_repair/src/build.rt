@@ -1,16 +1,16 @@
-//! How an engine is built: the choice is made first, and each label comes in with its slot.
-ghost use Rattle.std.specs.Prelude.{ℕ, ◌≡◌, ◌≢◌, ◌<◌, ◌≤◌, ◌↔◌, ◌++◌, ◌∷◌, [], List, length, Contains, IfOk};
+//! How an engine is built: the choice is made first, and then the store at once of the labels with their slots.
+ghost use Rattle.std.specs.Prelude.{ℕ, ◌≡◌, ◌≢◌, ◌<◌, ◌≤◌, ◌↔◌, ◌++◌, ◌∷◌, [], List, length, Contains, IfOk, OnOk};
 ghost use Rattle.std.specs.List.{AllPairs};
 ghost use Rattle.std.specs.List.Sorted.{IsPermutation};
 ghost use Rattle.ml_ratio.specs.Limits.{most_labels};
 ghost use Rattle.ml_cone.specs.Label.{IsLabelList};
 ghost use Rattle.ml_cone.specs.declared.label.Label.{Label};
 ghost use Rattle.ml_cone.specs.declared.slot.Slot.{Slot};
-ghost use Rattle.ml_store.specs.Rows.{labels_in, slots_in, HasId};
+ghost use Rattle.ml_store.specs.Boxes.{unboxed};
+ghost use Rattle.ml_store.specs.Rows.{labels_in, slots_in, AreInTurn};
 ghost use Rattle.ml_store.specs.declared.row.Row.{Row};
-ghost use Rattle.ml_repair.specs.Settled.{IsSettled, AreInTurn};
+ghost use Rattle.ml_repair.specs.Settled.{IsSettled};
 
-use crate::plan::{cells_of, pairs_of};
 use ml_cone::{Label, Slot};
 use ml_conflict::laws::{own_slots, same_rivals};
 use ml_pass::assign;
@@ -30,48 +30,44 @@ fn in_priority_order(labels: Seq<Label>) -> Vec<Label>
 }
 
 // A label comes in behind all others, with its slot; its place is its number.
-fn append_label(
+fn push_row(
     alloc: Global,
-    store: &mut Store,
+    rows: &mut Vec<Box<Row>>,
     label: Label,
     slot: Slot,
 ) -> Result<(), AllocError>
-    requires few { length store.old.rows < most_labels }
-    requires in_turn { AreInTurn store.old.rows }
-    requires last { IsLabelList (labels_in store.old.rows ++ label ∷ []) }
-    ensures labels { IfOk result (λ _. labels_in store.new.rows ≡ labels_in store.old.rows ++ label ∷ []) }
-    ensures slots { IfOk result (λ _. slots_in store.new.rows ≡ slots_in store.old.rows ++ slot ∷ []) }
-    ensures in_turn { IfOk result (λ _. AreInTurn store.new.rows) }
+    requires few { length rows.old.items < most_labels }
+    requires in_turn { AreInTurn (unboxed rows.old.items) }
+    ensures labels { OnOk result (labels_in (unboxed rows.new.items) ≡ labels_in (unboxed rows.old.items) ++ label ∷ []) }
+    ensures slots { OnOk result (slots_in (unboxed rows.new.items) ≡ slots_in (unboxed rows.old.items) ++ slot ∷ []) }
+    ensures in_turn { OnOk result (AreInTurn (unboxed rows.new.items)) }
 {
-    let at = store.len();
     let row = Row {
-        number: at as u32,
+        number: rows.len() as u32,
         label,
         slot,
     };
-    store.reserve(1, cells_of(&row), pairs_of(&row.slot))?;
     let row = Box::new(alloc, row)?;
-    store.put(at, row);
+    rows.push(row)?;
     Ok(())
 }
 
-// The labels come in with their slots, one behind the other.
-fn append_labels(alloc: Global, labels: Vec<Label>, slots: &[Slot]) -> Result<Store, AllocError>
+// The labels with their slots; the place of each is its number.
+fn rows_of(alloc: Global, labels: Vec<Label>, slots: &[Slot]) -> Result<Vec<Box<Row>>, AllocError>
     requires few { length labels.items ≤ most_labels }
-    requires ordered { IsLabelList labels.items }
     requires one_slot { length slots.now ≡ length labels.items }
-    ensures labels { IfOk result (λ store. labels_in store.rows ≡ labels.items) }
-    ensures slots { IfOk result (λ store. slots_in store.rows ≡ slots.now) }
-    ensures in_turn { IfOk result (λ store. AreInTurn store.rows) }
+    ensures labels { IfOk result (λ rows. labels_in (unboxed rows.items) ≡ labels.items) }
+    ensures slots { IfOk result (λ rows. slots_in (unboxed rows.items) ≡ slots.now) }
+    ensures in_turn { IfOk result (λ rows. AreInTurn (unboxed rows.items)) }
 {
-    let mut store = Store::new(alloc)?;
+    let mut rows = Vec::with_capacity(alloc, labels.len())?;
     let mut rest = labels;
     rest.reverse();
     while let Some(label) = rest.pop() {
-        let slot = slots[store.len()];
-        append_label(alloc, &mut store, label, slot)?;
+        let slot = slots[rows.len()];
+        push_row(alloc, &mut rows, label, slot)?;
     }
-    Ok(store)
+    Ok(rows)
 }
 
 // The labels, in priority order, with the slots of the longest choice.
@@ -84,7 +80,8 @@ fn settle_all(alloc: Global, labels: Vec<Label>) -> Result<Store, AllocError>
     own_slots();
     same_rivals();
     let slots = assign(alloc, labels.as_slice())?;
-    let store = append_labels(alloc, labels, slots.as_slice())?;
+    let rows = rows_of(alloc, labels, slots.as_slice())?;
+    let store = Store::of(alloc, rows)?;
     let _many = store.len();
     Ok(store)
 }

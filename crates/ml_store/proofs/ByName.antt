@@ -1,36 +1,22 @@
 -- Numbers in byte order of ids.
-use Rattle.std.proofs.Common.{◌≡◌, ◌≢◌, ℕ, ◌+◌, ◌<◌, ◌≤◌, List, [], length, get_or, Contains, inl, inr, refl, sym, ap, ◌∙◌, subst, arith, rules}
-use Rattle.std.specs.Prelude.{insert, remove, AllPairs, nat_eq}
-use Rattle.std.specs.Bool.{Decides}
-use Rattle.std.specs.Cmp.{unsigned_Decides}
-use Rattle.std.specs.Cmp.Rules.{comparing}
-use Rattle.std.specs.Cmp.Lexicographic.{slice_cmp, pointwise}
-use Rattle.std.specs.Ordering.{nat_cmp, is_eq, eq_by_cmp, ordering_reverse}
+use Rattle.std.proofs.Common.{◌≡◌, ◌≢◌, ℕ, ◌+◌, ◌<◌, ◌≤◌, List, [], length, get_or, Contains, inl, inr, refl, sym, ap, ◌∙◌, subst, arith}
+use Rattle.std.specs.Prelude.{insert, remove, AllPairs}
+use Rattle.std.specs.Cmp.Lexicographic.{slice_cmp}
+use Rattle.std.specs.Ordering.{nat_cmp, ordering_reverse}
 use Rattle.std.specs.declared.cmp.Ordering.{Ordering}
 use Rattle.std.specs.declared.cmp.Ordering.TheVariants.{Less, Equal, Greater}
 use Rattle.std.proofs.lemmas.Bool.{cases_lt}
 use Rattle.std.proofs.lemmas.Cmp.{nat_list_cmp_total, tied_itself}
-use Rattle.std.proofs.lemmas.Slice.Eq.{slice_eq-Decides}
 use Rattle.std.proofs.lemmas.List.{get_or-map, length-map}
 use Rattle.std.proofs.lemmas.List.Edits.{length-remove, get_or-remove_below, get_or-remove_above}
 use Rattle.std.proofs.lemmas.List.Elements.{Contains-get_or}
 use Rattle.std.proofs.lemmas.List.Quantifiers.{all_pairs_remove}
 use Rattle.ml_ratio.specs.Lists.{IsAdded}
 use Rattle.ml_store.specs.Names.{Name, AreByName, IsIdBefore, IsIdPlace, HaveId}
+use Rattle.ml_ratio.proofs.lemmas.Sorting.{tied_keys}
 use Rattle.ml_ratio.proofs.lemmas.Lists.{all_pairs_insert, map_insert, map_remove, added_has, added_insert, added_only, added_remove, contained}
 
 -- ---- ids
-
--- `==` of two ids says whether they are the same
-pub ids_decide : (one other : List ℕ) → Decides (pointwise nat_eq one other) (one ≡ other)
-ids_decide one other = slice_eq-Decides unsigned_Decides one other (pointwise nat_eq one other) refl
-
--- ids that tie are the same
-tie_test : (one other : List ℕ) → pointwise nat_eq one other ≡ eq_by_cmp (slice_cmp nat_cmp) one other
-tie_test one other = search (comparing, rules)
-
-pub tied_same : (one other : List ℕ) → slice_cmp nat_cmp one other ≡ Equal → one ≡ other
-tied_same one other tie = (ids_decide one other).0 (tie_test one other ∙ ap is_eq tie)
 
 pub before_trans : (a b c : List ℕ) → IsIdBefore a b → IsIdBefore b c → IsIdBefore a c
 before_trans a b c = nat_list_cmp_total.trans a b c
@@ -45,7 +31,7 @@ turned one Equal e a b = absurd (b e)
 turned one Greater e a b = absurd (a e)
 
 pub before_other : (a b : List ℕ) → ¬ (IsIdBefore a b) → a ≢ b → IsIdBefore b a
-before_other a b not differ = turned (slice_cmp nat_cmp a b) (slice_cmp nat_cmp b a) (nat_list_cmp_total.antisymm a b) not (λ tie. differ (tied_same a b tie))
+before_other a b not differ = turned (slice_cmp nat_cmp a b) (slice_cmp nat_cmp b a) (nat_list_cmp_total.antisymm a b) not (λ tie. differ (tied_keys a b tie))
 
 -- what stands once is gone once it is taken out
 not_twice : (sorted : List Name) (at : ℕ) (name : Name) → at < length sorted → get_or sorted at name ≡ name → AllPairs (λ a b. IsIdBefore a.id b.id) sorted → ¬ (Contains (remove sorted at) name)

@@ -1,9 +1,9 @@
 -- Numbers of rows as a row comes, goes or gets another slot.
-use Rattle.std.proofs.Common.{◌≡◌, ℕ, ◌<◌, ◌≤◌, List, length, get_or, Contains, subst, arith}
+use Rattle.std.proofs.Common.{◌≡◌, ◌∙◌, ℕ, ◌<◌, ◌≤◌, List, length, get_or, Contains, subst, arith}
 use Rattle.std.specs.Prelude.{insert, remove}
-use Rattle.std.proofs.lemmas.List.{length-map}
+use Rattle.std.proofs.lemmas.List.{get_or_default, length-map}
 use Rattle.ml_cone.specs.declared.slot.Slot.{Slot}
-use Rattle.ml_store.specs.Rows.{numbers_in, IsFresh, HaveOwnNumbers}
+use Rattle.ml_store.specs.Rows.{numbers_in, AreInTurn, IsFresh, HaveOwnNumbers}
 use Rattle.ml_store.specs.Table.{with_slot}
 use Rattle.ml_store.specs.declared.row.Row.{Row}
 use Rattle.ml_store.proofs.Different.{different_remove}
@@ -31,3 +31,11 @@ differ_inserted rows at r differ le fresh =
 
 pub differ_moved : (rows : List Row) (at : ℕ) (slot : Slot) → HaveOwnNumbers rows → HaveOwnNumbers (with_slot rows at slot)
 differ_moved rows at slot differ = rw (numbers-with_slot rows at slot) differ
+
+-- numbers that are places differ
+pub differ_in_turn : (rows : List Row) → AreInTurn rows → HaveOwnNumbers rows
+differ_in_turn rows turn i j d below within same =
+    let many = length-map rows (λ (r : Row). r.number) in
+    let one = get_or_default (numbers_in rows) i d 0 (omega arith) ∙ turn i (omega arith) in
+    let other = get_or_default (numbers_in rows) j d 0 within ∙ turn j (omega arith) in
+    omega arith

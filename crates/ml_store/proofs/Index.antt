@@ -1,7 +1,9 @@
 -- An index over rows, of which each value belongs to the row of its number.
-use Rattle.std.proofs.Common.{◌≡◌, ℕ, List, Contains, ◌⊎◌, inl, inr, sym, ap, ◌∙◌, subst, Option, Some, None}
+use Rattle.std.proofs.Common.{◌≡◌, ℕ, List, [], arith, Contains, ◌⊎◌, inl, inr, sym, ap, ◌∙◌, subst, Option, Some, None}
 use Rattle.std.specs.Prelude.{◌↔◌}
+use Rattle.std.specs.List.Sorted.{IsPermutation}
 use Rattle.std.proofs.lemmas.Bool.{cases_eq}
+use Rattle.std.proofs.lemmas.List.Sorted.{Contains-permutation, IsPermutation-sym}
 use Rattle.ml_grid.specs.Entry.{Entry}
 use Rattle.ml_ratio.specs.Lists.{IsAdded}
 use Rattle.ml_store.specs.Rows.{IsFresh}
@@ -126,6 +128,17 @@ module _ {X : Type 0} (number_of : X → ℕ) (n : ℕ) (P Q : X → Type 0) (ol
       | inr q ↦ ((its x).1 ((same x).0 q)).0
     ],
   )
+
+-- no rows have nothing in an index
+pub index_none : {X : Type 0} (Q : Row → X → Type 0) → IsIndex Q [] []
+index_none Q x = (λ h. absurd (let none = h.1 in omega arith), λ h. absurd (let there = h.1 in let none = there.1 in omega arith))
+
+-- the same values in another order
+pub index_same : {X : Type 0} (Q : Row → X → Type 0) (rows : List Row) (index after : List X) → IsPermutation index after → IsIndex Q rows index → IsIndex Q rows after
+index_same Q rows index after moved is x = (
+  λ there. (is x).0 (Contains-permutation after index x (IsPermutation-sym index after moved) there),
+  λ some. Contains-permutation index after x moved ((is x).1 some),
+)
 
 -- ---- the two indices
 

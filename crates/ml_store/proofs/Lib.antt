@@ -3,8 +3,10 @@ mod Orders
 mod Lists
 mod ByName
 mod Naming
+mod SortedNames
 mod Tables
 mod Fresh
+mod Gathered
 mod Index
 mod Finding
 mod Within

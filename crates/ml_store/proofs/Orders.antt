@@ -200,10 +200,10 @@ taken_out order used at le lt =
       | inr high ↦ get_or-remove_above order at d k high (omega arith) ∙ sym (get_or-take used order (k + 1) d (omega arith)) ∙ sym (get_or-remove_above (take used order) at d k high (omega arith))
     ])
 
--- all numbers in their own order
-pub ordered_none : (order places : List ℕ) → length order ≡ 32768 → length places ≡ 32768 → ((k : ℕ) → k < 32768 → get_or order k 0 ≡ k) → ((k : ℕ) → k < 32768 → get_or places k 0 ≡ k) → AreOrdered order places 0
-ordered_none order places n m is at = record {
-  few = omega arith;
+-- all numbers in their own order, of which the first ones are in use
+pub ordered_first : (order places : List ℕ) (used : ℕ) → used ≤ 32768 → length order ≡ 32768 → length places ≡ 32768 → ((k : ℕ) → k < 32768 → get_or order k 0 ≡ k) → ((k : ℕ) → k < 32768 → get_or places k 0 ≡ k) → AreOrdered order places used
+ordered_first order places used few n m is at = record {
+  few = few;
   all_numbers = n;
   all_places = m;
   low = λ k d lt. (let e = is k (omega arith) in let f = get_or_default order k d 0 lt in omega arith);

@@ -2,6 +2,7 @@ pub mod Rows
 pub mod Pairs
 pub mod Numbers
 pub mod Names
+pub mod Named
 pub mod Boxes
 pub mod Table
 pub mod Store

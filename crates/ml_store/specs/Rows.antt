@@ -1,5 +1,5 @@
 -- Live labels with their numbers and slots.
-use Rattle.std.specs.Prelude.{ℕ, ◌≡◌, ◌≢◌, List, map, slice_index, AllPairs, Contains}
+use Rattle.std.specs.Prelude.{ℕ, ◌≡◌, ◌≢◌, ◌<◌, List, length, map, slice_index, AllPairs, Contains}
 use Rattle.ml_cone.specs.declared.label.Label.{Label}
 use Rattle.ml_cone.specs.declared.slot.Slot.{Slot}
 use Rattle.ml_store.specs.declared.row.Row.{Row}
@@ -20,6 +20,10 @@ slots_in rows = map (λ r. r.slot) rows
 abbrev pub number_at : List Row → ℕ → ℕ
 number_at rows i = slice_index (numbers_in rows) i
 
+-- each row's number is its place
+abbrev pub AreInTurn : List Row → Type 0
+AreInTurn rows = (k : ℕ) → k < length rows → number_at rows k ≡ k
+
 -- some row has the number
 abbrev pub IsLive : List Row → ℕ → Type 0
 IsLive rows number = (r : Row) × Contains rows r × (r.number ≡ number)
@@ -35,6 +39,10 @@ AreDifferent numbers = AllPairs (λ one other. one ≢ other) numbers
 -- no two rows have one number
 abbrev pub HaveOwnNumbers : List Row → Type 0
 HaveOwnNumbers rows = AreDifferent (numbers_in rows)
+
+-- no two rows have one id
+abbrev pub HaveOwnIds : List Row → Type 0
+HaveOwnIds rows = AllPairs (λ one other. one.label.order.id ≢ other.label.order.id) rows
 
 -- some label has the id
 abbrev pub HasId : List Label → List ℕ → Type 0

@@ -120,12 +120,24 @@ impl Numbers {
     pub fn new(alloc: Global) -> Result<Numbers, AllocError>
         ensures { IfOk result (λ numbers. numbers ≡ []) }
     {
+        Numbers::first(alloc, 0)
+    }
+
+    /// The first numbers are in use, ascending.
+    ///
+    /// # Errors
+    /// Want of memory.
+    pub fn first(alloc: Global, used: usize) -> Result<Numbers, AllocError>
+        requires { used ≤ most_labels }
+        ensures count { IfOk result (λ numbers. length numbers ≡ used) }
+        ensures ascending { IfOk result (λ numbers. (k : ℕ) → k < used → slice_index numbers k ≡ k) }
+    {
         let order = all_numbers(alloc)?;
         let places = all_numbers(alloc)?;
         Ok(Numbers {
             order,
             places,
-            used: 0,
+            used,
         })
     }
 

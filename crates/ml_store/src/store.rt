@@ -8,18 +8,20 @@ ghost use Rattle.ml_cone.specs.Shown.{IsInView};
 ghost use Rattle.ml_grid.specs.Count.{entry_count};
 ghost use Rattle.ml_store.specs.Pairs.{pair_count};
 ghost use Rattle.ml_cone.specs.declared.label.Label.{Label};
-ghost use Rattle.ml_store.specs.Rows.{numbers_in, number_at, labels_in, IsLive, IsFresh, HasId, HaveOwnNumbers, IsNumberOf};
+ghost use Rattle.ml_store.specs.Boxes.{unboxed};
+ghost use Rattle.ml_store.specs.Rows.{numbers_in, number_at, labels_in, AreInTurn, IsLive, IsFresh, HasId, HaveOwnNumbers, HaveOwnIds, IsNumberOf};
 ghost use Rattle.ml_store.specs.Search.{IsFoundIn, IsNumberWith, Gathers, AreOverlapping, NoneOverlaps, AreNearNumbers};
 ghost use Rattle.ml_grid.specs.Entry.{IsFree, Adds, LosesEntries, AreEntriesOf};
 ghost use Rattle.ml_store.specs.Store.{IsStored, AreWithin, IsIndex, IsEntryIn, IsPairIn, Pair};
 ghost use Rattle.ml_store.specs.Table.{IsPlaceIn, with_slot, slot_at};
 ghost use Rattle.ml_store.specs.declared.row.Row.{Row};
 
+use crate::bulk::{grid_of, outline_of, pairs_of};
 use crate::entries::move_entries;
 use crate::pairs::{Pairs, change_pair, put_pair, take_pair};
 use crate::row::Row;
 use crate::table::Table;
-use ml_cone::{Label, Outline, Slot, Span, View};
+use ml_cone::{Label, Outline, Slot, View};
 use ml_grid::Grid;
 use ml_grid::laws::{seen_are_near, shown_seen};
 use ml_ratio::{Ratio, Seq, Steps, Text};
@@ -69,16 +71,6 @@ fn write_slot(table: &mut Table, grid: &mut Grid, pairs: &mut Pairs, at: usize, 
     table.set_slot(at, slot);
 }
 
-// The active range of a row.
-fn span_of(row: &Row) -> Span
-    ensures { result ≡ record { min = row.now.label.min; until = row.now.slot.until } }
-{
-    Span {
-        min: row.label.min(),
-        until: row.slot.until,
-    }
-}
-
 // A row's entries and its pair come in.
 fn put_parts(grid: &mut Grid, pairs: &mut Pairs, row: &Row)
     requires free { IsFree row.now.number grid.old.entries }
@@ -90,7 +82,7 @@ fn put_parts(grid: &mut Grid, pairs: &mut Pairs, row: &Row)
     ensures cells { grid.new.spare + entry_count row.now.label ≡ grid.old.spare }
     ensures blocks { pairs.new.spare + pair_count row.now.slot.blocker ≡ pairs.old.spare }
 {
-    grid.add(row.number, &row.label, &span_of(row));
+    grid.add(row.number, &row.label, &row.span());
     put_pair(pairs, row.number, row.slot.blocker);
 }
 
@@ -103,7 +95,7 @@ fn take_parts(grid: &mut Grid, pairs: &mut Pairs, row: &Row)
     ensures cells { grid.new.spare ≡ grid.old.spare + entry_count row.now.label }
     ensures blocks { pairs.new.spare ≡ pairs.old.spare + pair_count row.now.slot.blocker }
 {
-    grid.drop_label(row.number, &row.label, &span_of(row));
+    grid.drop_label(row.number, &row.label, &row.span());
     take_pair(pairs, row.number, row.slot.blocker);
 }
 
@@ -237,6 +229,28 @@ impl Store {
             grid: Grid::new(alloc),
             pairs: SpanTree::new(alloc),
             outline: Outline::none(),
+        })
+    }
+
+    /// The labels of these rows, whose numbers are their places, and no room.
+    ///
+    /// # Errors
+    /// Want of memory.
+    pub fn of(alloc: Global, rows: Vec<Box<Row>>) -> Result<Store, AllocError>
+        requires few { length rows.items ≤ most_labels }
+        requires in_turn { AreInTurn (unboxed rows.items) }
+        requires own_ids { HaveOwnIds (unboxed rows.items) }
+        ensures { IfOk result (λ s. s ≡ record { rows = unboxed rows.items; labels = 0; cells = 0; blocks = 0 }) }
+    {
+        let outline = outline_of(rows.as_slice());
+        let pairs = pairs_of(alloc, rows.as_slice())?;
+        let grid = grid_of(alloc, rows.as_slice())?;
+        let table = Table::of(alloc, rows)?;
+        Ok(Store {
+            table,
+            grid,
+            pairs,
+            outline,
         })
     }
 

@@ -4,13 +4,14 @@ ghost use Rattle.std.specs.Vec.{vec_capacity};
 ghost use Rattle.ml_ratio.specs.Limits.{most_labels};
 ghost use Rattle.ml_store.specs.Boxes.{unboxed};
 ghost use Rattle.ml_store.specs.Names.{names_in, HaveId};
-ghost use Rattle.ml_store.specs.Rows.{numbers_in, labels_in, HaveOwnNumbers, HasId, IsFresh, IsNumberOf};
+ghost use Rattle.ml_store.specs.Rows.{numbers_in, labels_in, AreInTurn, HaveOwnNumbers, HaveOwnIds, HasId, IsFresh, IsNumberOf};
 ghost use Rattle.ml_store.specs.Table.{IsTable, IsPlaceIn, with_slot};
 ghost use Rattle.ml_store.specs.declared.row.Row.{Row};
 
 use crate::names::{find_id, put_name, take_name};
 use crate::numbers::Numbers;
 use crate::row::Row;
+use crate::sorted::by_name;
 use ml_cone::Slot;
 use ml_ratio::Text;
 use std::alloc::{AllocError, Global};
@@ -115,6 +116,26 @@ impl Table {
             rows: Vec::new(alloc),
             numbers,
             ids: Vec::new(alloc),
+            room: 0,
+        })
+    }
+
+    /// These rows, whose numbers are their places, and no room.
+    ///
+    /// # Errors
+    /// Want of memory.
+    pub fn of(alloc: Global, rows: Vec<Box<Row>>) -> Result<Table, AllocError>
+        requires few { length rows.items ≤ most_labels }
+        requires in_turn { AreInTurn (unboxed rows.items) }
+        requires own_ids { HaveOwnIds (unboxed rows.items) }
+        ensures { IfOk result (λ t. t ≡ record { rows = unboxed rows.items; room = 0 }) }
+    {
+        let numbers = Numbers::first(alloc, rows.len())?;
+        let ids = by_name(alloc, rows.as_slice())?;
+        Ok(Table {
+            rows,
+            numbers,
+            ids,
             room: 0,
         })
     }

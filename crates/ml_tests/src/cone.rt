@@ -394,7 +394,7 @@ fn a_label_that_touches_the_window_is_outside(rt: HostRuntime) {
 }
 
 /// The cells for four bands from 0 on about a label at (0, 0), among labels like it, if there are such.
-fn cells_across(rt: &impl Abort, alloc: Global, reach: &str) -> Option<(i64, i64, i64, i64)> {
+fn cells_across(rt: &impl Abort, alloc: Global, reach: &str) -> Option<(i32, i32, i32, i32)> {
     let text = format!(in alloc; "0 0 0 1000 0 1 {reach}").expect(rt, "memory");
     let label = good_label(rt, alloc, text.as_str());
     let cells = Outline::none().with(&label).across(&label, 0, 3)?;
@@ -414,7 +414,7 @@ fn labels_that_do_not_reach_far_have_cells_for_four_bands(rt: HostRuntime) {
 }
 
 /// The band and the cells that are searched in band 3 about a label at (0, 0), among labels like it.
-fn cells_around(rt: &impl Abort, alloc: Global, reach: &str) -> (u8, i64, i64, i64, i64) {
+fn cells_around(rt: &impl Abort, alloc: Global, reach: &str) -> (u8, i32, i32, i32, i32) {
     let text = format!(in alloc; "0 0 0 1000 0 1 {reach}").expect(rt, "memory");
     let label = good_label(rt, alloc, text.as_str());
     let cells = Outline::none().with(&label).around(&label, 3);

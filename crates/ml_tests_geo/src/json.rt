@@ -18,6 +18,10 @@ const TEXTS: &str = r#"{"a":1,} => NotJson 7
 [1 2] => NotJson 3
 [1} => NotJson 2
 {"a":1] => NotJson 6
+[1,2} => NotJson 4
+[1,2: => NotJson 4
+[1,"a"} => NotJson 6
+{"a":"b"] => NotJson 8
 {"a" 1} => NotJson 5
 {a:1} => NotJson 1
 {,} => NotJson 1

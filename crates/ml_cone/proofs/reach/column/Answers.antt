@@ -1,9 +1,12 @@
-use Rattle.std.proofs.Common.{ℕ, ◌+◌, ◌^◌, ◌≤◌, arith, rules, w32, w64, ℤ, pos, negsuc, ◌+ℤ◌, ◌*ℤ◌, FitsSigned, ◌∙◌}
+use Rattle.std.proofs.Common.{ℕ, ◌+◌, ◌<◌, ◌^◌, ◌≤◌, ◌≤ℤ◌, arith, rules, w32, w64, ℤ, pos, negsuc, ◌+ℤ◌, ◌*ℤ◌, FitsSigned, to_z, of_z, ap, ◌∙◌}
+use Rattle.std.specs.Int.{int_div_euclid}
 use Rattle.std.proofs.Math.Nat.{pow-le-pow_right}
 use Rattle.std.proofs.lemmas.Int.{ints, to_z-of_z}
 use Rattle.std.proofs.lemmas.Nat.{mul-le}
 use borrow.Author.Differences.{up, down}
 use Rattle.ml_ratio.specs.World.{IsInWorld}
+use Rattle.ml_ratio.proofs.lemmas.Rounding.{quotient_low, quotient_high, stretch_le}
+use Rattle.ml_cone.specs.Cells.{cell_side}
 use Rattle.ml_cone.specs.Plane.{IsReach}
 use Rattle.ml_cone.proofs.reach.column.Goals as goal
 
@@ -32,6 +35,26 @@ wide_fits u k = omega (arith, ints, reach_bound u k)
 pixel_low : (k : ℕ) → k ≤ 27 → 2 ^ (k + 1) ≤ 2 ^ 28
 pixel_low k h = let e : k + 1 ≤ 28 = omega arith in pow-le-pow_right (omega arith) e
 
+-- a place so near lies in a column that fits in 32 bits
+column_fits : (p : ℤ) (n : ℕ) → 1024 ≤ n → negsuc 1099511627775 ≤ℤ p → p ≤ℤ pos 1099511627776 → FitsSigned w32 (int_div_euclid p (pos n))
+column_fits p n wide low high =
+    let q = int_div_euclid p (pos n) in
+    let some : 0 < n = omega arith in
+    let most : q ≤ℤ pos 2147483647 = stretch_le q (pos 2147483647) p p n (quotient_low p n some) (omega (arith, ints)) (omega (arith, ints)) in
+    let least : negsuc 2147483647 ≤ℤ q = stretch_le (negsuc 2147483647) q p p n (omega (arith, ints)) (omega (arith, ints)) (quotient_high p n some) in
+    omega (arith, ints)
+
+place_near : (x u : ℤ) (p : ℕ) → IsInWorld x → IsReach u → p ≤ 2 ^ 28 → (negsuc 1099511627775 ≤ℤ (x +ℤ (u *ℤ pos p))) × ((x +ℤ (u *ℤ pos p)) ≤ℤ pos 1099511627776)
+place_near x u p h k q =
+    let bx = world_bound x h in
+    let bu = reach_bound u k in
+    let up' = mul-le (up u) p 2048 (2 ^ 28) bu.0 q in
+    let down' = mul-le (down u) p 2048 (2 ^ 28) bu.1 q in
+    (omega (arith, ints, up', down'), omega (arith, ints, up', down'))
+
+side_wide : (k : ℕ) → 1024 ≤ cell_side k
+side_wide k = let least : 0 ≤ k = omega arith in let some : 2 ^ 0 ≤ 2 ^ k = pow-le-pow_right (omega arith) least in omega arith
+
 pub overflow_mul-offset : goal.overflow_mul-offset
 overflow_mul-offset c =
     let fu : FitsSigned w32 c.args.u = c.ranges.u in
@@ -48,6 +71,22 @@ overflow_add-place c =
     let fo : FitsSigned w64 (c.args.u *ℤ c.pixel_of.result) = rw (c.pixel_of.ensures) (offset_fits c.args.u (2 ^ (c.args.band + 1)) c.requires.u_in_reach (pixel_low c.args.band c.requires.low_band)) in
     simp to_z-of_z (rw (c.pixel_of.ensures) (place_fits c.args.x c.args.u (2 ^ (c.args.band + 1)) c.requires.x_in_world c.requires.u_in_reach (pixel_low c.args.band c.requires.low_band)))
 
+pub overflow_cast-result : goal.overflow_cast-result
+overflow_cast-result c =
+    let fx : FitsSigned w64 c.args.x = c.ranges.x in
+    let fu : FitsSigned w32 c.args.u = c.ranges.u in
+    let fw : FitsSigned w64 c.args.u = wide_fits c.args.u c.requires.u_in_reach in
+    let fp : FitsSigned w64 c.pixel_of.result = search rules in
+    let fs : FitsSigned w64 c.side_of.result = search rules in
+    let fr : FitsSigned w64 c.div_euclid-column.result = search rules in
+    let low = pixel_low c.args.band c.requires.low_band in
+    let fo : FitsSigned w64 (c.args.u *ℤ c.pixel_of.result) = rw (c.pixel_of.ensures) (offset_fits c.args.u (2 ^ (c.args.band + 1)) c.requires.u_in_reach low) in
+    let fq : FitsSigned w64 (c.args.x +ℤ (c.args.u *ℤ c.pixel_of.result)) = rw (c.pixel_of.ensures) (place_fits c.args.x c.args.u (2 ^ (c.args.band + 1)) c.requires.x_in_world c.requires.u_in_reach low) in
+    let near = place_near c.args.x c.args.u (2 ^ (c.args.band + 1)) c.requires.x_in_world c.requires.u_in_reach low in
+    let e = simp to_z-of_z at c.div_euclid-column.ensures in
+    let is = rw (c.pixel_of.ensures, c.side_of.ensures) at e in
+    simp to_z-of_z (rw is (column_fits _ (cell_side c.args.cells) (side_wide c.args.cells) near.0 near.1))
+
 pub returns : goal.returns
 returns c =
     let fx : FitsSigned w64 c.args.x = c.ranges.x in
@@ -55,8 +94,11 @@ returns c =
     let fw : FitsSigned w64 c.args.u = wide_fits c.args.u c.requires.u_in_reach in
     let fp : FitsSigned w64 c.pixel_of.result = search rules in
     let fs : FitsSigned w64 c.side_of.result = search rules in
-    let fr : FitsSigned w64 c.div_euclid.result = search rules in
+    let fr : FitsSigned w64 c.div_euclid-column.result = search rules in
     let fo : FitsSigned w64 (c.args.u *ℤ c.pixel_of.result) = rw (c.pixel_of.ensures) (offset_fits c.args.u (2 ^ (c.args.band + 1)) c.requires.u_in_reach (pixel_low c.args.band c.requires.low_band)) in
     let fq : FitsSigned w64 (c.args.x +ℤ (c.args.u *ℤ c.pixel_of.result)) = rw (c.pixel_of.ensures) (place_fits c.args.x c.args.u (2 ^ (c.args.band + 1)) c.requires.x_in_world c.requires.u_in_reach (pixel_low c.args.band c.requires.low_band)) in
-    let e = simp to_z-of_z at c.div_euclid.ensures in
-    to_z-of_z w64 c.div_euclid.result fr ∙ rw (c.pixel_of.ensures, c.side_of.ensures) at e
+    let e = simp to_z-of_z at c.div_euclid-column.ensures in
+    let is = rw (c.pixel_of.ensures, c.side_of.ensures) at e in
+    let near = place_near c.args.x c.args.u (2 ^ (c.args.band + 1)) c.requires.x_in_world c.requires.u_in_reach (pixel_low c.args.band c.requires.low_band) in
+    let narrow : FitsSigned w32 c.div_euclid-column.result = rw is (column_fits _ (cell_side c.args.cells) (side_wide c.args.cells) near.0 near.1) in
+    ap (λ (z : ℤ). to_z w32 (of_z w32 z)) (to_z-of_z w64 c.div_euclid-column.result fr) ∙ to_z-of_z w32 c.div_euclid-column.result narrow ∙ is

@@ -1,4 +1,4 @@
-use Rattle.std.proofs.Common.{rules, arith, FitsSigned, w64, ℤ, pos, ◌+ℤ◌, ◌<◌, ◌+◌, subst, refl}
+use Rattle.std.proofs.Common.{rules, arith, FitsSigned, w32, ℤ, pos, ◌+ℤ◌, ◌<◌, ◌+◌, subst, refl}
 use Rattle.ml_grid.specs.Count.{count_between}
 use Rattle.ml_grid.specs.Column.{IsInColumnFrom, IsAmongFrom}
 use Rattle.ml_grid.proofs.Partial.{IsAmongFirstFrom}
@@ -12,8 +12,8 @@ pub loop-i-preserved : goal.loop-i-preserved
 loop-i-preserved c =
     let s = c.args.cells.now in
     let i = c.loop-i.i in
-    let f0 : FitsSigned w64 s.x0 = search rules in
-    let f1 : FitsSigned w64 s.x1 = search rules in
+    let f0 : FitsSigned w32 s.x0 = search rules in
+    let f1 : FitsSigned w32 s.x1 = search rules in
     let n = rows_back s.x0 s.x1 c.span_len-i-end.result f0 f1 c.span_len-i-end.ensures.len in
     let low : i < count_between s.x0 s.x1 = (let few = c.span_len-i-end.ensures.few in omega arith) in
     let inside = span_in s.x0 s.x1 i c.requires.few.0 low in
@@ -27,7 +27,7 @@ pub returns : goal.returns
 returns c =
     let s = c.args.cells.now in
     let i = c.loop-i.i in
-    let f0 : FitsSigned w64 s.x0 = search rules in
-    let f1 : FitsSigned w64 s.x1 = search rules in
+    let f0 : FitsSigned w32 s.x0 = search rules in
+    let f1 : FitsSigned w32 s.x1 = search rules in
     let n = rows_back s.x0 s.x1 c.span_len-i-end.result f0 f1 c.span_len-i-end.ensures.len in
     record { ok = finds_same (IsAmongFirstFrom s c.args.scale.now i) (IsAmongFrom s c.args.scale.now) c.args.tree.now.entries c.args.found.now c.loop-i.found c.loop-i.invariant (first_all_from s c.args.scale.now i c.requires.few.0 (omega arith)) }

@@ -1,4 +1,4 @@
-use Rattle.std.proofs.Common.{w64, Bool}
+use Rattle.std.proofs.Common.{w32, Bool}
 use Rattle.std.proofs.lemmas.Int.{to_z-of_z}
 use Rattle.ml_spans.specs.Search.{is_in_range}
 use Rattle.ml_grid.specs.Cell.{cell_cmp}
@@ -14,6 +14,6 @@ returns c =
     record {
       ok = on_ok c.range.result _ _
           (finds_tested test
-          (IsInColumn c.args.cells.now c.args.x) c.args.tree.now.entries c.args.found.now c.range.new.out (λ e. rw (ends.first, ends.last, to_z-of_z w64 c.args.x c.ranges.x) (column_tests c.args.cells.now c.args.x e)))
+          (IsInColumn c.args.cells.now c.args.x) c.args.tree.now.entries c.args.found.now c.range.new.out (λ e. rw (ends.first, ends.last, to_z-of_z w32 c.args.x c.ranges.x) (column_tests c.args.cells.now c.args.x e)))
           c.range.ensures.members;
     }

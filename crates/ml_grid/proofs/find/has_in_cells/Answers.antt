@@ -1,4 +1,4 @@
-use Rattle.std.proofs.Common.{rules, arith, refl, sym, ◌∙◌, FitsSigned, w64, ℤ, pos, ◌+ℤ◌, ◌<◌, subst}
+use Rattle.std.proofs.Common.{rules, arith, refl, sym, ◌∙◌, FitsSigned, w32, ℤ, pos, ◌+ℤ◌, ◌<◌, subst}
 use Rattle.std.proofs.lemmas.Bool.{false≢true}
 use Rattle.ml_grid.specs.Count.{count_between}
 use Rattle.ml_grid.specs.Column.{IsInColumnFrom}
@@ -15,8 +15,8 @@ pub returns-then-has_in_column : goal.returns-then-has_in_column
 returns-then-has_in_column c =
     let s = c.args.cells.now in
     let i = c.loop-i.i in
-    let f0 : FitsSigned w64 s.x0 = search rules in
-    let f1 : FitsSigned w64 s.x1 = search rules in
+    let f0 : FitsSigned w32 s.x0 = search rules in
+    let f1 : FitsSigned w32 s.x1 = search rules in
     let n = rows_back s.x0 s.x1 c.span_len-i-end.result f0 f1 c.span_len-i-end.ensures.len in
     let low : i < count_between s.x0 s.x1 = (let few = c.span_len-i-end.ensures.few in omega arith) in
     let inside = span_in s.x0 s.x1 i c.requires.few.0 low in
@@ -30,8 +30,8 @@ pub loop-i-preserved : goal.loop-i-preserved
 loop-i-preserved c =
     let s = c.args.cells.now in
     let i = c.loop-i.i in
-    let f0 : FitsSigned w64 s.x0 = search rules in
-    let f1 : FitsSigned w64 s.x1 = search rules in
+    let f0 : FitsSigned w32 s.x0 = search rules in
+    let f1 : FitsSigned w32 s.x1 = search rules in
     let n = rows_back s.x0 s.x1 c.span_len-i-end.result f0 f1 c.span_len-i-end.ensures.len in
     let low : i < count_between s.x0 s.x1 = (let few = c.span_len-i-end.ensures.few in omega arith) in
     let inside = span_in s.x0 s.x1 i c.requires.few.0 low in
@@ -45,7 +45,7 @@ pub returns : goal.returns
 returns c =
     let s = c.args.cells.now in
     let i = c.loop-i.i in
-    let f0 : FitsSigned w64 s.x0 = search rules in
-    let f1 : FitsSigned w64 s.x1 = search rules in
+    let f0 : FitsSigned w32 s.x0 = search rules in
+    let f1 : FitsSigned w32 s.x1 = search rules in
     let n = rows_back s.x0 s.x1 c.span_len-i-end.result f0 f1 c.span_len-i-end.ensures.len in
     (λ holds. absurd (false≢true holds), λ there. absurd (lacks_all_from s c.args.scale.now i c.args.tree.now.entries c.requires.few.0 (omega arith) c.loop-i.invariant there))

@@ -1,5 +1,4 @@
-use Rattle.std.proofs.Common.{◌≡◌, ℕ, List, Contains, ◌⊎◌, inl, inr, Option, Some, None, subst, sym, ap, ◌∙◌}
-use Rattle.ml_repair.proofs.KeptBlockers.{pushed_one, given_none, given_one}
+use Rattle.ml_repair.proofs.KeptBlockers.{given_none, given_one}
 use Rattle.ml_repair.proofs.kept.given_places.Goals as goal
 
 pub returns-in_ok-push-in-Some : goal.returns-in_ok-push-in-Some

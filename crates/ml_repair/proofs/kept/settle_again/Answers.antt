@@ -1,4 +1,4 @@
-use Rattle.std.proofs.Common.{◌≡◌, ◌∙◌, ap, sym}
+use Rattle.std.proofs.Common.{◌∙◌, ap, sym}
 use Rattle.ml_cone.specs.declared.slot.Slot.{Slot}
 use Rattle.ml_repair.proofs.Answered.{if_ok}
 use Rattle.ml_repair.proofs.KeptBlockers.{left_none, left_some, changed_within}

@@ -1,4 +1,3 @@
-use Rattle.std.proofs.Common.{ℕ, ◌≡◌, ◌<◌, Contains, ◌⊎◌, inl, inr, Option, Some}
 use Rattle.ml_repair.proofs.KeptBlockers.{given_within}
 use Rattle.ml_repair.proofs.kept.settle_among.Goals as goal
 

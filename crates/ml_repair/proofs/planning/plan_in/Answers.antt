@@ -1,14 +1,10 @@
-use Rattle.std.proofs.Common.{◌≡◌, ◌∙◌, ap, refl, subst, Some, None}
+use Rattle.std.proofs.Common.{◌≡◌, ◌∙◌, ap, refl, Some, None}
 use Rattle.ml_cone.specs.declared.label.Label.{Label}
 use Rattle.ml_cone.specs.declared.slot.Span.{Span}
 use Rattle.ml_watch.specs.declared.change.Change.{Change}
 use Rattle.ml_store.specs.Rows.{labels_in}
 use Rattle.ml_store.specs.declared.row.Row.{Row}
-use Rattle.ml_repair.specs.Cost.{IsCost}
-use Rattle.ml_repair.specs.Edit.{IsEdited}
 use Rattle.ml_repair.specs.Placed.{IsPlaceFor}
-use Rattle.ml_repair.specs.Plan.{planned_rows}
-use Rattle.ml_repair.specs.declared.edit.LabelEdit.TheVariants.{Add}
 use Rattle.ml_repair.proofs.Changing.{change_same, edited_change, ranged}
 use Rattle.ml_repair.proofs.Plans.{start_settled, in_plan, span_same}
 use Rattle.ml_repair.proofs.planning.plan_in.Goals as goal

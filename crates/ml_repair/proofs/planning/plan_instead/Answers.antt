@@ -1,14 +1,11 @@
-use Rattle.std.proofs.Common.{◌≡◌, ◌∙◌, ◌<◌, ◌+◌, sym, ap, subst, ℕ, Some, get_or, length, arith}
+use Rattle.std.proofs.Common.{◌≡◌, ◌∙◌, ◌<◌, sym, ap, ℕ, get_or, length, arith}
 use Rattle.std.specs.Prelude.{remove}
 use Rattle.std.proofs.lemmas.List.Edits.{length-remove}
 use Rattle.ml_cone.specs.declared.label.Label.{Label}
 use Rattle.ml_store.specs.Rows.{labels_in, number_at}
 use Rattle.ml_store.specs.declared.row.Row.{Row}
-use Rattle.ml_repair.specs.Cost.{IsCost}
-use Rattle.ml_repair.specs.Edit.{IsEdited}
 use Rattle.ml_repair.specs.Placed.{IsPlaceFor}
-use Rattle.ml_repair.specs.Plan.{planned_rows, slot_for}
-use Rattle.ml_repair.specs.declared.edit.LabelEdit.TheVariants.{Replace}
+use Rattle.ml_repair.specs.Plan.{slot_for}
 use Rattle.ml_repair.proofs.Plans.{start_settled, instead_plan, spent_both, up_removed, number_gone, number_low, between_own}
 use Rattle.ml_repair.proofs.Shapes.{left_no_id}
 use Rattle.ml_repair.proofs.planning.plan_instead.Goals as goal

@@ -1,12 +1,7 @@
-use Rattle.std.proofs.Common.{◌≡◌, ◌∙◌, sym, ap, refl, subst, ℕ, List, [], Some, None}
+use Rattle.std.proofs.Common.{◌≡◌, ◌∙◌, sym, ap, refl, ℕ, List, [], Some, None}
 use Rattle.ml_cone.specs.declared.slot.Span.{Span}
 use Rattle.ml_watch.specs.declared.change.Change.{Change}
-use Rattle.ml_store.specs.Rows.{labels_in}
 use Rattle.ml_store.specs.declared.row.Row.{Row}
-use Rattle.ml_repair.specs.Cost.{IsCost}
-use Rattle.ml_repair.specs.Edit.{IsEdited}
-use Rattle.ml_repair.specs.Plan.{planned_rows}
-use Rattle.ml_repair.specs.declared.edit.LabelEdit.TheVariants.{Remove}
 use Rattle.ml_repair.proofs.Changing.{change_same, edited_change, ranged}
 use Rattle.ml_repair.proofs.Plans.{start_settled, out_plan, up_out, span_same}
 use Rattle.ml_repair.proofs.Shapes.{left_no_id}

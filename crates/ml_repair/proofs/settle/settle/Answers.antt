@@ -1,4 +1,3 @@
-use Rattle.std.proofs.Common.{sym}
 use Rattle.ml_repair.proofs.Gathering.{all_within}
 use Rattle.ml_repair.proofs.Enough.{enough_own}
 use Rattle.ml_repair.proofs.settle.settle.Goals as goal

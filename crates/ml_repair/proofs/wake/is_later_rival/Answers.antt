@@ -1,4 +1,3 @@
-use Rattle.std.proofs.Common.{sym}
 use Rattle.ml_repair.proofs.wake.is_later_rival.Goals as goal
 
 pub returns-then-i-k : goal.returns-then-i-k

@@ -1,7 +1,5 @@
-use Rattle.std.proofs.Common.{sym, ◌∙◌, ap}
-use Rattle.std.proofs.lemmas.Cmp.{tied_itself}
+use Rattle.std.proofs.Common.{sym, ◌∙◌}
 use Rattle.ml_ratio.specs.RatioExact.{ratio_exact}
-use Rattle.ml_ratio.specs.RatioOrder.{ratio_cmp}
 use Rattle.ml_store.proofs.entries.differ.Goals as goal
 
 pub returns-in-Equal : goal.returns-in-Equal

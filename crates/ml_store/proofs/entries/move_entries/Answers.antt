@@ -1,4 +1,4 @@
-use Rattle.std.proofs.Common.{◌≡◌, sym, refl, subst}
+use Rattle.std.proofs.Common.{◌≡◌, sym, subst}
 use Rattle.ml_grid.specs.Entry.{Entry, IsEntryOf}
 use Rattle.ml_ratio.specs.declared.ratio.Ratio.{Ratio}
 use Rattle.ml_store.proofs.Index.{moved_as, moved_none}

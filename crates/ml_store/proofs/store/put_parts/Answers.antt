@@ -3,4 +3,4 @@ use Rattle.ml_cone.specs.declared.slot.Span.{Span}
 use Rattle.ml_store.proofs.store.put_parts.Goals as goal
 
 pub returns-clause-entries : goal.returns-clause-entries
-returns-clause-entries c = rw (ap (λ (s : Span). s.until) c.span_of.ensures) at c.add.ensures.entries
+returns-clause-entries c = rw (ap (λ (s : Span). s.until) c.span.ensures) at c.add.ensures.entries

@@ -1,4 +1,4 @@
-use Rattle.std.proofs.Common.{ℕ, ◌≤◌, sym, subst, arith, Option, Some}
+use Rattle.std.proofs.Common.{ℕ, ◌≤◌, sym, subst, arith, Option}
 use Rattle.std.specs.Prelude.{IfSome}
 use denote.Ref.{Bor}
 use Rattle.std.proofs.lemmas.List.Elements.{All-weaker}

@@ -1,0 +1,34 @@
+use Rattle.std.proofs.Common.{◌≡◌, ◌∷◌, ◌∙◌, List, Some, ap, sym, subst, inl, inr}
+use Rattle.ml_json.specs.Machine as m
+use Rattle.ml_json.specs.State.{mode_of, frames_of, entries_view}
+use Rattle.ml_json.specs.Leaps.{plain_key, Passes, here}
+use Rattle.ml_json.specs.declared.state.Mode.{Mode}
+use Rattle.ml_json.proofs.FrameLemmas.{frames_push}
+use Rattle.ml_json.proofs.LeapLemmas.{TakesKey, key_leaps}
+use Rattle.ml_json.proofs.leaps.leap_key.Goals.{in-FirstKey, in-Key}
+use Rattle.ml_json.proofs.leaps.leap_key.Goals as goal
+
+pub returns-in_default : goal.returns-in_default
+returns-in_default c = here
+
+pub returns-in_default-replace : goal.returns-in_default-replace
+returns-in_default-replace c =
+    subst (λ (x : Mode). Passes (mode_of c.args.mode.now, frames_of c.args.frames.now.items) c.args.bytes.now (mode_of x, frames_of c.args.frames.now.items) c.args.bytes.now) (sym c.replace.ensures.value) here
+
+pub returns : goal.returns
+returns c =
+    let st = frames_of c.args.frames.now.items in
+    let n = mode_of c.args.mode.now in
+    let ps = entries_view c.match-replace.members.entries in
+    let was : c.args.mode.now ≡ c.replace.result = sym c.replace.ensures.value in
+    let takes : TakesKey n ps = elim c.match-replace.branch [
+      | in-FirstKey w ↦ inl (ap mode_of (was ∙ w.in-FirstKey.is), ap (λ x. entries_view x.entries) w.members-is ∙ ap entries_view w.new-members.ensures.empty)
+      | in-Key w ↦ inr (ap mode_of (was ∙ w.in-Key.is) ∙ ap (λ x. m.key (entries_view x.entries)) (sym w.members-is))
+    ] in
+    let cut : plain_key c.args.bytes.now ≡ Some (c.in-Some.text.now, c.in-Some.rest.now) = sym c.in-Some.ensures.cut in
+    let key : c.in_ok-key.key ≡ c.in-Some.text.now = c.in_ok-key.ensures in
+    let pushed : frames_of c.push.new.self.items ≡ m.at_key ps c.in-Some.text.now ∷ st =
+    ap frames_of c.in_ok-push.ensures.items ∙ frames_push c.args.frames.now.items _ ∙ ap (λ k. m.at_key ps k ∷ st) key in
+    let passes = key_leaps n ps st takes c.requires c.args.bytes.now c.in-Some.text.now c.in-Some.rest.now cut in
+    subst (λ (x : Mode). Passes (n, st) c.args.bytes.now (mode_of x, frames_of c.push.new.self.items) c.in-Some.rest.now) (sym c.replace.ensures.after)
+    (subst (λ (su : List m.Frame). Passes (n, st) c.args.bytes.now (m.value, su) c.in-Some.rest.now) (sym pushed) passes)

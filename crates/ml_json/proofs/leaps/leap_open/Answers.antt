@@ -1,0 +1,25 @@
+use Rattle.std.proofs.Common.{◌<◌, length, arith}
+use Rattle.ml_json.specs.State.{mode_of, frames_of}
+use Rattle.ml_json.specs.Leaps.{here}
+use Rattle.ml_json.proofs.FrameLemmas.{frames_length}
+use Rattle.ml_json.proofs.LeapLemmas.{brace_leaps, bracket_leaps}
+use Rattle.ml_json.proofs.leaps.leap_open.Goals as goal
+
+pub returns-in_default : goal.returns-in_default
+returns-in_default c = here
+
+pub returns-then-len-ge64 : goal.returns-then-len-ge64
+returns-then-len-ge64 c = here
+
+pub returns-in_default-first : goal.returns-in_default-first
+returns-in_default-first c = here
+
+pub returns-in-123 : goal.returns-in-123
+returns-in-123 c =
+    let few : length (frames_of c.args.frames.now.items) < 64 = omega (arith, frames_length c.args.frames.now.items) in
+    brace_leaps (mode_of c.args.mode.now) (frames_of c.args.frames.now.items) c.requires few c.args.bytes.now c.in-len1-up.len_at_least c.in-123.is
+
+pub returns-in-91 : goal.returns-in-91
+returns-in-91 c =
+    let few : length (frames_of c.args.frames.now.items) < 64 = omega (arith, frames_length c.args.frames.now.items) in
+    bracket_leaps (mode_of c.args.mode.now) (frames_of c.args.frames.now.items) c.requires few c.args.bytes.now c.in-len1-up.len_at_least c.in-91.is

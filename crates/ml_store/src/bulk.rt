@@ -1,0 +1,103 @@
+//! What belongs to many rows in the grid and in the index of blockers, for a store that is made at once.
+ghost use Rattle.std.specs.Prelude.{◌≡◌, ◌≢◌, ◌⊎◌, ◌↔◌, AllPairs, Contains, IfOk, OnOk};
+ghost use Rattle.ml_grid.specs.Entry.{AreApart};
+ghost use Rattle.ml_store.specs.Boxes.{unboxed};
+ghost use Rattle.ml_store.specs.Rows.{HaveOwnNumbers};
+ghost use Rattle.ml_store.specs.Store.{AreWithin, IsEntryIn, IsIndex, IsPairBy, IsPairIn, Pair};
+
+use crate::pairs::Pairs;
+use crate::row::Row;
+use ml_cone::Outline;
+use ml_grid::{Entries, Grid};
+use ml_spans::sorting::in_order;
+use ml_spans::{Entry, SpanTree};
+use std::alloc::{AllocError, Global};
+
+/// The entries of all rows.
+///
+/// # Errors
+/// Want of memory.
+pub fn entries_of(alloc: Global, rows: &[Box<Row>]) -> Result<Entries, AllocError>
+    requires { HaveOwnNumbers (unboxed rows.now) }
+    ensures apart { IfOk result (λ entries. AreApart entries.items) }
+    ensures kept { IfOk result (λ entries. IsIndex IsEntryIn (unboxed rows.now) entries.items) }
+{
+    let mut entries = Vec::new(alloc);
+    for row in rows {
+        Grid::list(&mut entries, row.number, &row.label, &row.span())?;
+    }
+    Ok(entries)
+}
+
+// Appends the pair of a label and its blocker, if it has one.
+fn list_pair(
+    pairs: &mut Vec<Entry<u32, u32, u32>>,
+    number: u32,
+    blocker: Option<u32>,
+) -> Result<(), AllocError>
+    requires apart { AllPairs (λ one other. one ≢ other) pairs.old.items }
+    requires new { (p : Pair) → IsPairBy number blocker p → ¬ (Contains pairs.old.items p) }
+    ensures apart { OnOk result (AllPairs (λ one other. one ≢ other) pairs.new.items) }
+    ensures pairs { OnOk result ((p : Pair) → Contains pairs.new.items p ↔ (Contains pairs.old.items p ⊎ IsPairBy number blocker p)) }
+{
+    match blocker {
+        Some(b) => {
+            pairs.push(Entry {
+                key: b,
+                value: number,
+                end: 0,
+            })?;
+            Ok(())
+        }
+        None => Ok(()),
+    }
+}
+
+// The pairs of all rows that have a blocker.
+fn list_pairs(alloc: Global, rows: &[Box<Row>]) -> Result<Vec<Entry<u32, u32, u32>>, AllocError>
+    requires { HaveOwnNumbers (unboxed rows.now) }
+    ensures apart { IfOk result (λ pairs. AllPairs (λ one other. one ≢ other) pairs.items) }
+    ensures paired { IfOk result (λ pairs. IsIndex IsPairIn (unboxed rows.now) pairs.items) }
+{
+    let mut pairs = Vec::new(alloc);
+    for row in rows {
+        list_pair(&mut pairs, row.number, row.slot.blocker)?;
+    }
+    Ok(pairs)
+}
+
+/// The index of blockers of all rows, with no room.
+///
+/// # Errors
+/// Want of memory.
+pub fn pairs_of(alloc: Global, rows: &[Box<Row>]) -> Result<Pairs, AllocError>
+    requires { HaveOwnNumbers (unboxed rows.now) }
+    ensures paired { IfOk result (λ pairs. IsIndex IsPairIn (unboxed rows.now) pairs.entries) }
+    ensures spare { IfOk result (λ pairs. pairs.spare ≡ 0) }
+{
+    let sorted = in_order(list_pairs(alloc, rows)?);
+    SpanTree::of_sorted(alloc, sorted.as_slice())
+}
+
+/// The grid of all rows, with no room.
+///
+/// # Errors
+/// Want of memory.
+pub fn grid_of(alloc: Global, rows: &[Box<Row>]) -> Result<Grid, AllocError>
+    requires { HaveOwnNumbers (unboxed rows.now) }
+    ensures kept { IfOk result (λ grid. IsIndex IsEntryIn (unboxed rows.now) grid.entries) }
+    ensures spare { IfOk result (λ grid. grid.spare ≡ 0) }
+{
+    Grid::of(alloc, entries_of(alloc, rows)?)
+}
+
+/// The outline of all rows.
+pub fn outline_of(rows: &[Box<Row>]) -> Outline
+    ensures { AreWithin result (unboxed rows.now) }
+{
+    let mut outline = Outline::none();
+    for row in rows {
+        outline = outline.with(&row.label);
+    }
+    outline
+}
