@@ -17,7 +17,7 @@ from lane import Lanes
 PROGRAM = "maplabel"
 # `rt` ends with this status where its check was killed, for want of memory most likely.
 KILLED = (247, -signal.SIGKILL)
-# A check that ends sooner had little to do, so its time tells nothing of the others.
+# A check that takes less processor time, in seconds, had little to do, so its time tells nothing of the others.
 TELLS = 4
 PAUSE = 0.2
 # The line on a terminal is made anew so often.
@@ -41,6 +41,15 @@ def command_of(crate, jobs):
     return ["rt", "lib", "--jobs", str(jobs)]
 
 
+def plan_of(needed):
+    """The plan of a build of these crates, each behind those that it uses, on this machine."""
+    by_name, steps, lines = {it.name: it for it in needed}, {}, {it.name: crates.lines_of(it) for it in needed}
+    for it in needed:
+        below = sum(lines[used.name] for used in crates.below(by_name, it.name))
+        steps[it.name] = schedule.step_of(it.uses, lines[it.name], below)
+    return schedule.Plan(steps, machine.processors(), machine.free_memory())
+
+
 class Build:
     """One build."""
 
@@ -49,12 +58,9 @@ class Build:
         self.sums, self.lanes, self.view = sums, lanes, view
         self.running, self.busy, self.alone = {}, set(), set()
         self.done = {it.name for it in needed if records.is_done(it, sums[it.name])}
-        self.begun, self.lines, self.seconds = shown.now(), 0, 0.0
-        steps = {}
-        for it in needed:
-            lines = crates.lines_of(it)
-            steps[it.name] = schedule.Step(it.uses, lines, schedule.memory_for(lines))
-        self.plan = schedule.Plan(steps, machine.processors(), machine.free_memory())
+        # (of the crates that ended in this build, their work in lines and the processor time that it took)
+        self.begun, self.lines, self.spent = shown.now(), 0, 0.0
+        self.plan = plan_of(needed)
 
     def go(self):
         """Builds all that is not done."""
@@ -73,37 +79,31 @@ class Build:
     def start_all(self):
         """Begins what can begin now."""
         self.busy.clear()
-        while True:
+        # (a crate that was killed before begins alone)
+        while not (self.alone and self.running):
             jobs_of = {name: run.jobs for name, run in self.running.items()}
-            chosen = self.plan.next(self.done, jobs_of, self.busy)
-            if not chosen or not self.has_room(chosen[0]):
+            chosen = self.plan.next(self.done, jobs_of, machine.free_memory(), self.busy)
+            if not chosen:
                 return
             self.start(*chosen)
 
-    def has_room(self, name):
-        """Whether a crate may begin beside those at work: one that was killed before begins alone."""
-        if not self.running:
-            return True
-        if self.alone:
-            return False
-        return self.plan.steps[name].memory <= machine.free_memory()
-
     def start(self, name, jobs):
         crate = self.crates[name]
-        below = [it for it in crates.needed(self.crates, name) if it.name != name]
-        if not self.lanes.open(crate, below):
+        if not self.lanes.open(crate, crates.below(self.crates, name)):
             self.busy.add(name)
             self.view.waits(name)
             return
+        jobs, niceness = 1 if name in self.alone else jobs, self.plan.niceness(name, self.done)
         with open(self.lanes.log(name), "wb") as log:
             process = subprocess.Popen(
-                command_of(crate, 1 if name in self.alone else jobs), cwd=self.lanes.folder(name),
-                stdin=subprocess.DEVNULL, stdout=log, stderr=subprocess.STDOUT, pass_fds=[self.lanes.lock])
+                command_of(crate, jobs), cwd=self.lanes.folder(name), stdin=subprocess.DEVNULL, stdout=log,
+                stderr=subprocess.STDOUT, pass_fds=[self.lanes.lock], preexec_fn=lambda: os.nice(niceness))
         self.running[name] = Run(process, jobs, shown.now())
 
     def look(self):
         """Takes note of the checks that have ended."""
         for name, run in list(self.running.items()):
+            before = machine.spent_by_ended()
             status = run.process.poll()
             if status is None:
                 continue
@@ -115,13 +115,12 @@ class Build:
             elif status or not records.note(self.crates[name], self.sums[name], f"{self.lanes.folder(name)}/out"):
                 raise Fault(self.failure(name, run, status))
             else:
-                self.finish(name, run)
+                self.finish(name, shown.now() - run.begun, machine.spent_by_ended() - before)
 
-    def finish(self, name, run):
-        seconds = shown.now() - run.begun
-        if seconds > TELLS:
-            self.lines += self.plan.work(name)
-            self.seconds += seconds * schedule.SPEED[run.jobs]
+    def finish(self, name, seconds, spent):
+        if spent > TELLS:
+            self.lines += self.plan.steps[name].work
+            self.spent += spent
         self.leave(name)
         self.alone.discard(name)
         self.done.add(name)
@@ -147,9 +146,9 @@ class Build:
     def line(self):
         """The line that tells where the build is."""
         seconds, left = shown.now() - self.begun, None
-        if self.seconds:
+        if self.spent:
             running = {name: (run.jobs, shown.now() - run.begun) for name, run in self.running.items()}
-            left = self.plan.seconds_left(self.done, running, self.lines / self.seconds)
+            left = self.plan.seconds_left(self.done, running, self.lines / self.spent)
         return shown.line_of(len(self.done), len(self.crates), list(self.running), seconds, left)
 
     def end_all(self):

@@ -68,6 +68,11 @@ def needed(crates, target):
     return [crates[it] for it in found]
 
 
+def below(crates, name):
+    """All crates below a crate, each behind those that it uses."""
+    return needed(crates, name)[:-1]
+
+
 def files_of(crate, parts=READ):
     """The files in these folders of a crate, in order."""
     for part in parts:

@@ -36,3 +36,9 @@ def free_memory():
         if most is not None and held is not None:
             found.append(most - held)
     return max(0, min(found))
+
+
+def spent_by_ended():
+    """The processor time that this process's children took, those that have ended and were waited for, in seconds."""
+    times = os.times()
+    return times.children_user + times.children_system

@@ -96,15 +96,21 @@ class Checkout:
         rows = [line.split() for line in self.log.read_text(encoding="utf-8").splitlines()]
         return [row[3] if word != "try" else row[2:] for row in rows if row[1] == word]
 
-    def most_at_once(self):
-        """The most provers that were at work at one time, by the log."""
-        at_work, most = {}, 0
+    def begun(self):
+        """The number of provers and the niceness that each crate began with, the last time, by the log."""
+        rows = map(str.split, self.log.read_text(encoding="utf-8").splitlines())
+        return {row[3]: (int(row[4]), int(row[5])) for row in rows if row[1] == "begins"}
+
+    def together(self):
+        """For each check in the order of their beginnings, by the log, the crates at work as it began, itself last."""
+        at_work, found = [], []
         for row in map(str.split, self.log.read_text(encoding="utf-8").splitlines()):
             if row[1] == "begins":
-                at_work[row[3]] = int(row[4])
-            at_work.pop(row[3] if row[1] == "ends" else "", None)
-            most = max(most, sum(at_work.values()))
-        return most
+                at_work.append(row[3])
+                found.append(list(at_work))
+            elif row[1] == "ends":
+                at_work.remove(row[3])
+        return found
 
     def forget(self):
         """Empties the log."""

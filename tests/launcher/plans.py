@@ -1,73 +1,149 @@
-"""The order of a build, without any process."""
+"""The order of a build, and what it is reckoned from."""
 
+import subprocess
 import sys
 import unittest
 
 from checkout import TOP
 
 sys.path.insert(0, str(TOP / "launch"))
+import machine  # noqa: E402
 import schedule  # noqa: E402
 
 MUCH = 1000 * schedule.GIGABYTE
+TENTH = schedule.GIGABYTE // 10
 
 
 def steps(**told):
-    """Steps by name, each as (lines, the crates that it waits for); one prover takes a gigabyte."""
-    return {name: schedule.Step(tuple(uses), lines, schedule.GIGABYTE) for name, (lines, *uses) in told.items()}
+    """Steps by name, each as (its work, the crates that it waits for); one prover takes a gigabyte."""
+    return {name: schedule.Step(tuple(uses), work, schedule.GIGABYTE) for name, (work, *uses) in told.items()}
 
 
 class Order(unittest.TestCase):
     def test_longest_chain_first(self):
         plan = schedule.Plan(steps(a=(900,), b=(10,), c=(10, "b"), d=(900, "c"), e=(900, "d")), 1, MUCH)
-        self.assertEqual(plan.next(set(), {}), ("b", 1))
-        self.assertEqual(plan.next({"b"}, {}), ("c", 1))
-        self.assertEqual(plan.next({"b", "c", "d", "e"}, {}), ("a", 1))
+        self.assertEqual(plan.next(set(), {}, MUCH), ("b", 1))
+        self.assertEqual(plan.next({"b"}, {}, MUCH), ("c", 1))
+        self.assertEqual(plan.next({"b", "c", "d", "e"}, {}, MUCH), ("a", 1))
 
     def test_waits_for_what_it_uses(self):
         plan = schedule.Plan(steps(a=(10,), b=(10, "a")), 4, MUCH)
-        self.assertIsNone(plan.next(set(), {"a": 1}))
-        self.assertEqual(plan.next({"a"}, {})[0], "b")
+        self.assertIsNone(plan.next(set(), {"a": 1}, MUCH))
+        self.assertEqual(plan.next({"a"}, {}, MUCH)[0], "b")
 
-    def test_no_more_provers_than_processors(self):
+    def test_no_more_crates_than_processors(self):
         plan = schedule.Plan(steps(a=(10,), b=(20,), c=(30,)), 2, MUCH)
-        self.assertEqual(plan.next(set(), {}), ("c", 1))
-        self.assertEqual(plan.next(set(), {"c": 1}), ("b", 1))
-        self.assertIsNone(plan.next(set(), {"c": 1, "b": 1}))
+        self.assertEqual(plan.next(set(), {}, MUCH), ("c", 2))
+        self.assertEqual(plan.next(set(), {"c": 2}, MUCH), ("b", 1))
+        self.assertIsNone(plan.next(set(), {"c": 2, "b": 1}, MUCH))
 
-    def test_idle_processors_go_to_the_last_and_the_longest(self):
-        plan = schedule.Plan(steps(a=(10,), b=(20,), c=(300,)), 4, MUCH)
-        self.assertEqual(plan.next(set(), {}), ("c", 2))
-        self.assertEqual(plan.next({"a", "b"}, {}), ("c", 4))
+    def test_provers(self):
+        for processors, provers in ((1, 1), (2, 2), (3, 3), (4, 3), (8, 3)):
+            with self.subTest(processors=processors):
+                plan = schedule.Plan(steps(a=(10,), b=(20,), c=(30,)), processors, MUCH)
+                self.assertEqual(plan.next(set(), {}, MUCH), ("c", provers))
+        # what is not the longest has one, and the longest has several also beside as many others as there are processors but one
+        plan = schedule.Plan(steps(a=(10,), b=(20,), c=(30,), d=(5,), e=(5,)), 4, MUCH)
+        self.assertEqual(plan.next(set(), {"c": 3}, MUCH), ("b", 1))
+        self.assertEqual(plan.next(set(), {"b": 1, "d": 1, "e": 1}, MUCH), ("c", 3))
+        self.assertIsNone(plan.next(set(), {"a": 1, "b": 1, "d": 1, "e": 1}, MUCH))
 
-    def test_memory(self):
-        three = steps(a=(10,), b=(20,), c=(30,))
-        small = schedule.Plan(three, 8, 19 * schedule.GIGABYTE // 10)
-        self.assertEqual(small.next(set(), {}), ("c", 3))
-        self.assertIsNone(small.next(set(), {"c": 3}))
-        self.assertIsNone(small.next(set(), {"c": 1}))
-        self.assertEqual(schedule.Plan(three, 8, 2 * schedule.GIGABYTE).next(set(), {"c": 1}), ("b", 1))
-        # a crate for which there is never memory enough begins alone
-        self.assertEqual(schedule.Plan(steps(a=(10,)), 8, 0).next(set(), {}), ("a", 1))
+    def test_two_chains_of_one_length(self):
+        plan = schedule.Plan(steps(a=(100,), b=(99,), c=(90,)), 4, MUCH)
+        self.assertEqual(plan.next(set(), {"a": 3}, MUCH), ("b", 3))
+        self.assertEqual(plan.next(set(), {"a": 3, "b": 3}, MUCH), ("c", 1))
 
     def test_crates_that_are_busy(self):
         plan = schedule.Plan(steps(a=(10,), b=(20,)), 1, MUCH)
-        self.assertEqual(plan.next(set(), {}, {"b"}), ("a", 1))
-        self.assertIsNone(plan.next(set(), {}, {"a", "b"}))
+        self.assertEqual(plan.next(set(), {}, MUCH, {"b"}), ("a", 1))
+        self.assertIsNone(plan.next(set(), {}, MUCH, {"a", "b"}))
+
+
+class Niceness(unittest.TestCase):
+    # the chains behind these take 1200, 1000, 900, 500 and 200
+    PLAN = schedule.Plan(steps(a=(200,), b=(1000, "a"), c=(900, "a"), d=(500, "a"), e=(200, "a")), 4, MUCH)
+
+    def test_longest_chain_gives_way_to_none(self):
+        self.assertEqual(self.PLAN.niceness("a", set()), 0)
+        self.assertEqual(self.PLAN.niceness("b", {"a"}), 0)
+
+    def test_shorter_chains_give_way(self):
+        # a tenth shorter, half as long, and less than that
+        self.assertEqual([self.PLAN.niceness(it, {"a"}) for it in "cde"], [3, 19, 19])
+
+    def test_what_is_longest_once_others_are_done(self):
+        self.assertEqual([self.PLAN.niceness(it, {"a", "b"}) for it in "cde"], [0, 16, 19])
+        self.assertEqual(self.PLAN.niceness("e", {"a", "b", "c", "d"}), 0)
+
+
+class Memory(unittest.TestCase):
+    """One prover takes a gigabyte here, two take 1.3 and three 1.7."""
+
+    def setUp(self):
+        self.plan = schedule.Plan(steps(a=(100,), b=(200,), c=(900,)), 8, 30 * TENTH)
+
+    def test_fewer_provers(self):
+        self.assertEqual(self.plan.next(set(), {}, MUCH), ("c", 3))
+        self.assertEqual(self.plan.next(set(), {}, 17 * TENTH), ("c", 3))
+        self.assertEqual(self.plan.next(set(), {}, 16 * TENTH), ("c", 2))
+        self.assertEqual(self.plan.next(set(), {"b": 1}, MUCH), ("c", 3))
+        self.assertEqual(self.plan.next(set(), {"b": 1, "a": 1}, MUCH), ("c", 1))
+
+    def test_nothing_beyond_what_is_free(self):
+        # by what is reckoned for those at work, and by what the machine has now
+        self.assertEqual(self.plan.next(set(), {"c": 3}, MUCH), ("b", 1))
+        self.assertIsNone(self.plan.next(set(), {"c": 3, "b": 1}, MUCH))
+        self.assertEqual(self.plan.next(set(), {"c": 1}, 10 * TENTH), ("b", 1))
+        self.assertIsNone(self.plan.next(set(), {"c": 1}, 9 * TENTH))
+
+    def test_smaller_crate_where_the_larger_does_not_fit(self):
+        self.plan.steps["b"] = self.plan.steps["b"]._replace(memory=20 * TENTH)
+        self.assertEqual(self.plan.next(set(), {"c": 3}, MUCH), ("a", 1))
+
+    def test_first_begins_where_there_is_never_enough(self):
+        self.assertEqual(schedule.Plan(steps(a=(10,)), 8, 0).next(set(), {}, 0), ("a", 1))
+
+
+class Reckoning(unittest.TestCase):
+    def test_own_lines_and_those_below(self):
+        small, large, high = (schedule.step_of(("a",), lines, below) for lines, below in ((100, 0), (300, 0), (100, 4000)))
+        self.assertEqual(small.uses, ("a",))
+        # the start, each line, and each twentieth line below
+        self.assertEqual([it.work for it in (small, large, high)], [200, 400, 400])
+        self.assertLess(small.memory, large.memory)
+        self.assertLess(small.memory, high.memory)
 
 
 class Guess(unittest.TestCase):
     def test_one_after_another(self):
-        plan = schedule.Plan(steps(a=(100,), b=(300, "a")), 1, MUCH)
-        # (100 + 100) and (300 + 100) lines at 10 lines a second
+        plan = schedule.Plan(steps(a=(200,), b=(400, "a")), 1, MUCH)
+        # at 10 lines a second
         self.assertAlmostEqual(plan.seconds_left(set(), {}, 10), 60)
         self.assertAlmostEqual(plan.seconds_left(set(), {"a": (1, 5.0)}, 10), 55)
         self.assertAlmostEqual(plan.seconds_left({"a"}, {}, 10), 40)
 
-    def test_side_by_side(self):
-        plan = schedule.Plan(steps(a=(300,), b=(300,)), 2, MUCH)
-        self.assertAlmostEqual(plan.seconds_left(set(), {}, 10), 40)
+    def test_several_provers(self):
+        plan = schedule.Plan(steps(a=(400,)), 4, MUCH)
+        self.assertAlmostEqual(plan.seconds_left(set(), {}, 10), 40 / schedule.BUSY[3])
+
+    def test_shorter_chain_has_what_is_left(self):
+        plan = schedule.Plan(steps(a=(600,), b=(400,)), 2, MUCH)
+        two = schedule.BUSY[2]
+        self.assertEqual(plan.processors_of({"b": 1, "a": 2}), {"a": two, "b": 2 - two})
+        # 60 seconds of one processor for a; then b has had its part of the other, and goes on by its one prover
+        first = 60 / two
+        self.assertAlmostEqual(plan.seconds_left(set(), {}, 10), first + 40 - first * (2 - two))
 
     def test_late(self):
-        plan = schedule.Plan(steps(a=(300,)), 1, MUCH)
+        plan = schedule.Plan(steps(a=(400,)), 1, MUCH)
         self.assertGreater(plan.seconds_left(set(), {"a": (1, 1000.0)}, 10), 0)
         self.assertEqual(plan.seconds_left({"a"}, {}, 10), 0)
+
+
+class Machine(unittest.TestCase):
+    def test_time_of_what_has_ended(self):
+        before = machine.spent_by_ended()
+        process = subprocess.Popen([sys.executable, "-c", "import time\nwhile time.process_time() < 0.3: pass"])
+        self.assertEqual(machine.spent_by_ended(), before)
+        process.wait()
+        self.assertGreater(machine.spent_by_ended() - before, 0.25)

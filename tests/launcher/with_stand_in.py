@@ -110,12 +110,26 @@ class Building(Case):
     def test_side_by_side(self):
         for processors in (1, 2):
             with self.subTest(processors=processors):
-                shutil.rmtree(self.clone.folder / "crates" / "low" / "out", ignore_errors=True)
                 self.clone.forget()
                 self.clone.add_line("low", "// changed")
+                if processors > 1:
+                    self.clone.add_line("left", "MEETS")
                 able = ",".join(map(str, sorted(os.sched_getaffinity(0))[:processors]))
                 self.clone.run("--build", before=["taskset", "-c", able], STAND_IN_PAUSE="0.3")
-                self.assertEqual(self.clone.most_at_once(), processors)
+                self.assertEqual(max(map(len, self.clone.together())), processors)
+
+    def test_longest_chain_goes_before(self):
+        own, provers = os.nice(0), min(len(os.sched_getaffinity(0)), 3)
+        for more in (0, 3):
+            with self.subTest(more=more):
+                self.clone.forget()
+                self.clone.add_line("low", "// changed")
+                self.clone.run("--build", before=["nice", "-n", str(more)])
+                begun = self.clone.begun()
+                for name in ("low", "left", "upper", "maplabel"):
+                    self.assertEqual(begun[name], (provers, min(own + more, 19)), name)
+                # (it is begun beside left, behind which there is more than twice as much)
+                self.assertEqual(begun["other"], (1, 19))
 
 
 class Ending(Case):
@@ -183,10 +197,16 @@ class Ending(Case):
                 self.assertIn(sentence, ran.stderr)
 
     def test_check_that_is_killed_runs_again_alone(self):
-        self.clone.add_line("right", "HUNGRY")
-        ran = self.clone.run("x", STAND_IN_PAUSE="0.3")
+        self.clone.add_line("left", "HUNGRY")
+        self.clone.add_line("other", "SLOW")
+        ran = self.clone.run("x", STAND_IN_PAUSE="0.5")
         self.assertEqual(ran.returncode, 0, ran.stderr)
-        self.assertEqual(self.clone.calls().count("right"), 2)
+        self.assertEqual(self.clone.calls().count("left"), 2)
+        self.assertEqual(self.clone.begun()["left"][0], 1)
+        together = self.clone.together()
+        again = max(place for place, crates in enumerate(together) if crates[-1] == "left")
+        self.assertEqual(together[again], ["left"])
+        self.assertFalse(any("left" in crates for crates in together[again + 1 :]))
 
     def test_without_the_kit(self):
         able = pathlib.Path(self.clone.room.name) / "bin"
@@ -272,8 +292,19 @@ class Calling(Case):
         self.assertEqual(status, 0, seen)
         self.assertIn(f"\r\033[Kmaplabel: 1 of {len(NEEDED)} crates; 0:0", seen)
         self.assertIn("at work: left", seen)
+        self.assertNotIn("about", seen)
         self.assertNotIn("low is proved", seen)
         self.assertTrue(seen.endswith("<x>\r\n"), seen)
+
+    def test_guess_on_a_terminal(self):
+        self.clone.add_line("low", "BUSY")
+        seen, status = self.clone.on_terminal("--build", STAND_IN_PAUSE="1.2")
+        self.assertEqual(status, 0, seen)
+        lines = seen.split("\r\033[K")
+        told = [line for line in lines if "about a minute left" in line]
+        # (low takes long enough to tell something of the others)
+        self.assertEqual(told, [line for line in lines if " crates; " in line and " 0 of " not in line])
+        self.assertGreaterEqual(len(told), 2, seen)
 
 
 class Quick(Case):
