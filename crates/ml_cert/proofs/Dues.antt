@@ -58,7 +58,7 @@ pair_of labels slots i j a b s t lt in' same its other good =
     end_there labels c i a u its_label its_end h = rw (its_label a, its_end) at h
 
 module _ (known : Known) {labels : List Label} {c : Choice} {i j : ℕ} {a b : Label} {u v : Fraction} (pair : ArePair labels c i j a b u v) where
-  allows_at : Allows a b v u → AllowsAt labels c j i
+  pub allows_at : Allows a b v u → AllowsAt labels c j i
   allows_at h d = rw (pair.its_label d, pair.other_label d, pair.its_end, pair.other_end) h
 
   clear_at : Allows a b v u → (IsLimit a b v u → IsLess u (value_of a.max) → ⊥) → ¬ (Blocks labels c j i)
@@ -69,6 +69,18 @@ module _ (known : Known) {labels : List Label} {c : Choice} {i j : ℕ} {a b : L
   blocks_at : IsLess u (value_of a.max) → IsLimit a b v u → Blocks labels c j i
   blocks_at below limit =
       known.blocks labels c j i pair.earlier (λ d. rw (pair.its_label d, pair.its_end) below) (λ d. rw (pair.its_label d, pair.other_label d, pair.its_end, pair.other_end) limit)
+
+  -- a label that sets no limit up to the end allows it and does not block it
+  pub aside_of : SetsNoneUpTo a b v u → AllowsAt labels c j i × ¬ (Blocks labels c j i)
+  aside_of none =
+      let allowed = known.allowed a b v u pair.good.1 none in
+      (allows_at allowed, clear_at allowed (λ limit below. let above : IsLess u u = none u limit below in omega arith))
+
+  -- one whose limit is the end allows it and blocks it
+  pub blocker_of : {f : Fraction} → IsLimit a b v f → IsLess f (value_of a.max) → IsSame f u → AllowsAt labels c j i × Blocks labels c j i
+  blocker_of {f} limit below same =
+      let here = known.same a b v v f u (omega arith) same limit in
+      (allows_at here.allowed, blocks_at (at_most_less u f (value_of a.max) (omega arith) below) here)
 
   module _ {due : Option ℕ} (so_far : IsDue labels c i j due) where
     allowed_more : AllowsAt labels c j i → (k : ℕ) → k < j + 1 → AllowsAt labels c k i
@@ -87,15 +99,15 @@ module _ (known : Known) {labels : List Label} {c : Choice} {i j : ℕ} {a b : L
 
     -- the label at j sets no limit up to the end
     pub due_none : SetsNoneUpTo a b v u → IsDue labels c i (j + 1) due
-    due_none none = due_clear (known.allowed a b v u pair.good.1 none) (clear_at (known.allowed a b v u pair.good.1 none) (λ limit below. let above : IsLess u u = none u limit below in omega arith))
+    due_none none = due_clear (known.allowed a b v u pair.good.1 none) (aside_of none).1
 
     -- its limit is the end, and no label before it blocks
     pub due_more : {f : Fraction} → IsLimit a b v f → IsLess f (value_of a.max) → IsSame f u → is_some due ≡ false → IsDue labels c i (j + 1) (Some j)
     due_more {f} limit below same none =
-        let here = known.same a b v v f u (omega arith) same limit in
+        let blocker = blocker_of limit below same in
         record {
-          allowed = allowed_more (allows_at here.allowed);
-          first = (blocks_at (at_most_less u f (value_of a.max) (omega arith) below) here, rw (is_none_of due none) at so_far.first);
+          allowed = allowed_more blocker.0;
+          first = (blocker.1, rw (is_none_of due none) at so_far.first);
         }
 
     -- a label before it blocks already

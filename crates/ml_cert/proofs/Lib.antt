@@ -6,4 +6,4 @@ mod PlaceLemmas
 mod ReadSoFar
 mod OneVerdict
 mod OneSlots
-mod Anchoring
+mod Nearby

@@ -1,4 +1,4 @@
 pub mod Judged
 pub mod SlotLine
 pub mod SlotsText
-pub mod Anchors
+pub mod Near

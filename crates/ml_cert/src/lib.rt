@@ -1,20 +1,22 @@
 //! A judge of slots: whether given ends and blockers are the longest choice with its blockers.
 //!
-//! - `verdict`: what the judge answers ([`Verdict`]); `judge`: the judge itself ([`check`]), over `anchors`:
-//!   where labels have their anchors;
+//! - `verdict`: what the judge answers ([`Verdict`]); `judge`: the judge itself ([`check`]), over `due`: which
+//!   blocker is due to a label, and `near`: the same, sought among the labels near it by each one's `stance`;
 //! - [`laws`]: that only the longest choice with its blockers is found best, that slots have one verdict,
 //!   and a text of slots one reading or one fault;
 //! - `slots_text`: the text of slots ([`read_slots`]) and what refuses it ([`SlotsFault`]), over
 //!   `slot_line`: one line of it, and [`places`]: where each id stands.
 #![tactic(auto)]
 
-mod anchors;
+mod due;
 mod fault;
 mod judge;
 pub mod laws;
+mod near;
 pub mod places;
 mod slot_line;
 mod slots_text;
+mod stance;
 mod verdict;
 
 pub use fault::SlotsFault;

@@ -38,7 +38,7 @@ pub use outline::{Outline, last_band};
 pub use overlap::overlaps;
 pub use reach::hull;
 pub use same::{are_alike, same_labels, same_spans};
-pub use site::{Site, are_apart, are_clear};
+pub use site::{Site, are_apart};
 pub use slot::{Slot, Span, active};
 pub use view::View;
 pub use window::meets;

@@ -1,8 +1,8 @@
 -- Labels whose anchors are further apart than they reach set each other no limit.
-use Rattle.std.proofs.Common.{◌≡◌, ℕ, ◌+◌, ◌*◌, ◌<◌, ◌≤◌, ◌⊎◌, inl, inr, get_or, arith, ap, subst, ℤ, pos, neg_ℤ, ◌+ℤ◌, ◌-ℤ◌, ◌*ℤ◌, ◌≤ℤ◌, unsigned_abs}
+use Rattle.std.proofs.Common.{◌≡◌, ℕ, ◌+◌, ◌*◌, ◌<◌, ◌≤◌, get_or, arith, ap, subst, ℤ, pos, neg_ℤ, ◌+ℤ◌, ◌-ℤ◌, ◌*ℤ◌, ◌≤ℤ◌, unsigned_abs}
 use Rattle.std.proofs.lemmas.Int.{ints, by_lt_z}
 use Rattle.std.proofs.lemmas.Nat.{mul-le}
-use Rattle.ml_ratio.specs.Fraction.{Fraction, value_of}
+use Rattle.ml_ratio.specs.Fraction.{Fraction, value_of, IsLess}
 use Rattle.ml_ratio.specs.declared.ratio.Ratio.{Ratio}
 use Rattle.ml_ratio.proofs.lemmas.Rounding.{scaled_le, sum_scaled}
 use Rattle.ml_cone.specs.Near.{AreClear}
@@ -11,17 +11,18 @@ use Rattle.ml_cone.specs.Plane.{IsBelow, SidesMeet}
 use Rattle.ml_cone.specs.declared.label.BoxPx.{BoxPx}
 use Rattle.ml_cone.specs.declared.label.Label.{Label}
 use Rattle.ml_conflict.specs.Begin.{SetsNoneUpTo}
-use Rattle.ml_conflict.specs.Reach.{IsWithin, Reaches, IsFar}
+use Rattle.ml_conflict.specs.Reach.{IsWithin, Reaches, IsFar, anchor_on}
+use Rattle.ml_conflict.specs.declared.axis.Axis.{Axis}
+use Rattle.ml_conflict.specs.declared.axis.Axis.TheVariants.{Across, Along}
 use Rattle.ml_conflict.proofs.Limits.{none_of_clear}
 
 -- a box within so many pixels lies within more
-pub within_more : (r q : ℕ) (p : BoxPx) → r ≤ q → IsWithin r p → IsWithin q p
-within_more r q p le within =
-    let l = within.0 in let b = within.1 in let s = within.2 in let t = within.3 in
-    (omega (arith, ints), omega (arith, ints), omega (arith, ints), omega (arith, ints))
+pub within_more : (axis : Axis) (r q : ℕ) (p : BoxPx) → r ≤ q → IsWithin axis r p → IsWithin axis q p
+within_more Across r q p le within = let l = within.0 in let s = within.1 in (omega (arith, ints), omega (arith, ints))
+within_more Along r q p le within = let b = within.0 in let t = within.1 in (omega (arith, ints), omega (arith, ints))
 
-pub reaches_more : (a : Label) (r q : ℕ) → r ≤ q → Reaches a r → Reaches a q
-reaches_more a r q le reach k d lt = within_more r q (widened a (get_or a.boxes k d)) le (reach k d lt)
+pub reaches_more : (axis : Axis) (a : Label) (r q : ℕ) → r ≤ q → Reaches axis a r → Reaches axis a q
+reaches_more axis a r q le reach k d lt = within_more axis r q (widened a (get_or a.boxes k d)) le (reach k d lt)
 
 -- what is too far away for w at m/e is so for w at n/d, which is at most m/e
 no_room : (g w m e n d : ℕ) → 0 < e → g * d < w * n → n * e ≤ m * d → w * m ≤ g * e → ⊥
@@ -52,28 +53,30 @@ sides_near x l p y k t r s a b c d meet =
     (λ less. edge_near y k x p r g s c b (omega (arith, ints)) meet.1)
     (λ most. edge_near x l y t r g s a d (omega (arith, ints)) meet.0)
 
-module _ (a b : Label) (r : ℕ) (reach_a : Reaches a r) (reach_b : Reaches b r) where
-  -- so are labels that overlap, on either axis
-  labels_near : (s : Fraction) → Overlap a b s → (unsigned_abs (a.x -ℤ b.x) * s.den < (2 * r) * s.num) × (unsigned_abs (a.y -ℤ b.y) * s.den < (2 * r) * s.num)
-  unfolding Overlap BoxesOverlap
-  labels_near s (k, p, lt, e, (m, q, lt', e', boxes)) =
-      let one : IsWithin r (widened a p) = subst (λ (o : BoxPx). IsWithin r (widened a o)) e (reach_a k p lt) in
-      let other : IsWithin r (widened b q) = subst (λ (o : BoxPx). IsWithin r (widened b o)) e' (reach_b m q lt') in (
-        sides_near a.x (widened a p).l (widened a p).r b.x (widened b q).l (widened b q).r r s one.0 one.2 other.0 other.2 boxes.0,
-        sides_near a.y (widened a p).b (widened a p).t b.y (widened b q).b (widened b q).t r s one.1 one.3 other.1 other.3 boxes.1,
-      )
+-- so are labels that overlap, on either axis
+labels_near : (axis : Axis) (a b : Label) (r : ℕ) → Reaches axis a r → Reaches axis b r → (s : Fraction) → Overlap a b s → unsigned_abs (anchor_on axis a -ℤ anchor_on axis b) * s.den < (2 * r) * s.num
+unfolding Overlap BoxesOverlap
+labels_near Across a b r reach_a reach_b s (k, p, lt, e, (m, q, lt', e', boxes)) =
+    let one : IsWithin Across r (widened a p) = subst (λ (o : BoxPx). IsWithin Across r (widened a o)) e (reach_a k p lt) in
+    let other : IsWithin Across r (widened b q) = subst (λ (o : BoxPx). IsWithin Across r (widened b o)) e' (reach_b m q lt') in
+    sides_near a.x (widened a p).l (widened a p).r b.x (widened b q).l (widened b q).r r s one.0 one.1 other.0 other.1 boxes.0
+labels_near Along a b r reach_a reach_b s (k, p, lt, e, (m, q, lt', e', boxes)) =
+    let one : IsWithin Along r (widened a p) = subst (λ (o : BoxPx). IsWithin Along r (widened a o)) e (reach_a k p lt) in
+    let other : IsWithin Along r (widened b q) = subst (λ (o : BoxPx). IsWithin Along r (widened b o)) e' (reach_b m q lt') in
+    sides_near a.y (widened a p).b (widened a p).t b.y (widened b q).b (widened b q).t r s one.0 one.1 other.0 other.1 boxes.1
 
-  far_clear : (bound : Ratio) → IsFar a.x b.x (2 * r) bound ⊎ IsFar a.y b.y (2 * r) bound → AreClear a b bound.num bound.den
-  far_clear bound far = (
-    record { num = bound.num + 1; den = bound.den; positive = bound.positive },
-    omega arith,
-    λ s upto over.
-        let near = labels_near s over in
-        elim far [
-          | inl x ↦ no_room (unsigned_abs (a.x -ℤ b.x)) (2 * r) (bound.num + 1) bound.den s.num s.den bound.positive near.0 upto x
-          | inr y ↦ no_room (unsigned_abs (a.y -ℤ b.y)) (2 * r) (bound.num + 1) bound.den s.num s.den bound.positive near.1 upto y
-        ],
-  )
+far_clear : (a b : Label) (r : ℕ) → Reaches Across a r → Reaches Across b r → (bound : Ratio) → IsFar a.x b.x (2 * r) bound → AreClear a b bound.num bound.den
+far_clear a b r reach_a reach_b bound far = (
+  record { num = bound.num + 1; den = bound.den; positive = bound.positive },
+  omega arith,
+  λ s upto over. no_room (unsigned_abs (a.x -ℤ b.x)) (2 * r) (bound.num + 1) bound.den s.num s.den bound.positive (labels_near Across a b r reach_a reach_b s over) upto far,
+)
 
-  pub far_labels : (u : Fraction) (bound : Ratio) → IsFar a.x b.x (2 * r) bound ⊎ IsFar a.y b.y (2 * r) bound → SetsNoneUpTo a b u (value_of bound)
-  far_labels u bound far = none_of_clear a b u (value_of bound) (far_clear bound far)
+pub far_labels : (a b : Label) (r : ℕ) → Reaches Across a r → Reaches Across b r → (u : Fraction) (bound : Ratio) → IsFar a.x b.x (2 * r) bound → SetsNoneUpTo a b u (value_of bound)
+far_labels a b r reach_a reach_b u bound far = none_of_clear a b u (value_of bound) (far_clear a b r reach_a reach_b bound far)
+
+pub distant_labels : (a b : Label) (r far : ℕ) (end : Fraction) → Reaches Along a r → Reaches Along b r → 2 * r * end.num ≤ far * end.den → far ≤ unsigned_abs (a.y -ℤ b.y) → (s : Fraction) → IsLess s end → ¬ (Overlap a b s)
+distant_labels a b r far end reach_a reach_b wide apart s less over =
+    let g : ℕ = unsigned_abs (a.y -ℤ b.y) in
+    let more = mul-le far end.den g end.den apart (omega arith) in
+    no_room g (2 * r) end.num end.den s.num s.den end.positive (labels_near Along a b r reach_a reach_b s over) (omega arith) (omega arith)

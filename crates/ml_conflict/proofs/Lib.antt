@@ -13,3 +13,5 @@ mod Evaluating
 mod OneChoice
 mod FewRivals
 mod Distances
+mod Spots
+pub mod lemmas

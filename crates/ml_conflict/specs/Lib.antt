@@ -4,3 +4,4 @@ pub mod Begin
 pub mod Carried
 pub mod Enough
 pub mod Reach
+pub mod Field

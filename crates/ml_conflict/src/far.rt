@@ -4,47 +4,45 @@ ghost use Rattle.ml_ratio.specs.World.{IsInWorld};
 ghost use Rattle.ml_cone.specs.Plane.{IsWideBox};
 ghost use Rattle.ml_conflict.specs.Reach.{IsWithin, Reaches, IsFar};
 
+use crate::axis::Axis;
 use ml_cone::{BoxPx, Label, widened};
 use ml_ratio::Ratio;
 
-/// How many pixels one of the labels reaches from its anchor at most, up to 576: within so many, to each
-/// side, lie the boxes of each, widened by its margin.
-pub fn greatest_reach(labels: &[Label]) -> u32
-    ensures reaches { All (λ a. Reaches a result) labels.now }
+/// How many pixels one of the labels reaches from its anchor on the axis at most, up to 576: within so many, to
+/// each side, lie the boxes of each, widened by its margin.
+pub fn greatest_reach(axis: Axis, labels: &[Label]) -> u32
+    ensures reaches { All (λ a. Reaches axis a result) labels.now }
     ensures low { result ≤ 576 }
 {
     let mut reach = 0;
     for i in 0..labels.len() {
-        reach = larger(reach, reach_of(&labels[i]));
+        reach = larger(reach, reach_of(axis, &labels[i]));
     }
     reach
 }
 
-// How many pixels the label reaches from its anchor.
-fn reach_of(label: &Label) -> u32
-    ensures reaches { Reaches label.now result }
+// How many pixels the label reaches from its anchor on the axis.
+fn reach_of(axis: Axis, label: &Label) -> u32
+    ensures reaches { Reaches axis label.now result }
     ensures low { result ≤ 576 }
 {
     let mut reach = 0;
     for p in label.boxes().as_slice() {
-        reach = larger(reach, side_of(&widened(label, p)));
+        reach = larger(reach, side_of(axis, &widened(label, p)));
     }
     reach
 }
 
-// How many pixels from the anchor the box reaches.
-fn side_of(p: &BoxPx) -> u32
+// How many pixels from the anchor the box reaches on the axis.
+fn side_of(axis: Axis, p: &BoxPx) -> u32
     requires { IsWideBox p.now.l p.now.b p.now.r p.now.t }
-    ensures within { IsWithin result p.now }
+    ensures within { IsWithin axis result p.now }
     ensures low { result ≤ 576 }
 {
-    let left = p.l.unsigned_abs();
-    let right = p.r.unsigned_abs();
-    let below = p.b.unsigned_abs();
-    let above = p.t.unsigned_abs();
-    let wide = larger(left, right);
-    let high = larger(below, above);
-    larger(wide, high)
+    match axis {
+        Axis::Across => larger(p.l.unsigned_abs(), p.r.unsigned_abs()),
+        Axis::Along => larger(p.b.unsigned_abs(), p.t.unsigned_abs()),
+    }
 }
 
 // The greater of the two.

@@ -1,10 +1,11 @@
 //! Laws of the longest choice. Each function takes nothing and does nothing: its contract is the
 //! law, for all values. A crate above uses a law by calling it.
-ghost use Rattle.std.specs.Prelude.{ℕ, ◌≡◌, ◌*◌, ◌<◌, ◌↔◌, ◌⊎◌, Bool, IsTrue, List, Option, length, map, slice_index_or};
+ghost use Rattle.std.specs.Prelude.{ℕ, ◌≡◌, ◌*◌, ◌<◌, ◌≤◌, ◌-ℤ◌, ◌↔◌, ◌⊎◌, unsigned_abs, Bool, IsTrue, List, Option, length, map, slice_index_or};
 ghost use Rattle.ml_ratio.specs.Fraction.{Fraction, value_of, IsLess, IsAtMost, IsSame};
 ghost use Rattle.ml_ratio.specs.declared.ratio.Ratio.{Ratio};
 ghost use Rattle.ml_cone.specs.Choice.{Choice, IsEnd, Allows, IsLimit, IsLongest, IsLeastEnd, IsOwnEnd, Blocks};
 ghost use Rattle.ml_cone.specs.Near.{AreClear};
+ghost use Rattle.ml_cone.specs.Overlap.{Overlap};
 ghost use Rattle.ml_cone.specs.Rivals.{AreRivals};
 ghost use Rattle.ml_cone.specs.Slots.{Rival, IsOwnSlot, IsSlotAmong, HaveOwnSlots, IsBlockerBy, AreSlots};
 ghost use Rattle.ml_cone.specs.Sound.{IsSound};
@@ -13,7 +14,9 @@ ghost use Rattle.ml_cone.specs.declared.slot.Slot.{Slot};
 ghost use Rattle.ml_conflict.specs.Begin.{SetsNoneUpTo};
 ghost use Rattle.ml_conflict.specs.Carried.{holds, AreCarried, AreJoined};
 ghost use Rattle.ml_conflict.specs.Enough.{AreEnough};
-ghost use Rattle.ml_conflict.specs.Reach.{Reaches, IsFar};
+ghost use Rattle.ml_conflict.specs.Reach.{Reaches};
+
+use crate::axis::Axis;
 
 /// A choice in which each label's end is the least of its maximum and the limits that the labels
 /// before it set is the longest choice.
@@ -96,11 +99,11 @@ pub fn ended_labels()
     ensures { (low high : Label) (u bound : Fraction) → AreClear low high u.num u.den → SetsNoneUpTo low high u bound }
 {}
 
-/// Labels set each other no limit up to a bound where their anchors are too far apart on one axis for what
-/// they reach toward each other.
-pub fn far_labels()
-    ensures { (a b : Label) (r : ℕ) → Reaches a r → Reaches b r → (u : Fraction) (bound : Ratio) →
-        IsFar a.x b.x (2 * r) bound ⊎ IsFar a.y b.y (2 * r) bound → SetsNoneUpTo a b u (value_of bound) }
+/// Labels overlap at no scale below an end where their anchors are further apart, from south to north, than they
+/// reach toward each other up to it.
+pub fn distant_labels()
+    ensures { (a b : Label) (r far : ℕ) (end : Fraction) → Reaches Axis.Along a r → Reaches Axis.Along b r → 2 * r * end.num ≤ far * end.den → far ≤ unsigned_abs (a.y -ℤ b.y) →
+        (s : Fraction) → IsLess s end → ¬ (Overlap a b s) }
 {}
 
 /// A label has the same slot among some rivals as among all, where these are enough.

@@ -86,6 +86,24 @@ blocked_more a labels gaps j most old new b g at at' lt lt' adds so_far s = (for
               any_right (λ p. HoldsScale p s) old adds.added ((adds.union s).1 (subst (λ (x : Label). IsBlocked a x g s) same (subst (λ (y : Gap). IsBlocked a c y s) same' blocked)))
         ])
 
+-- a label that blocks nowhere adds no piece
+pub blocked_past : (a : Label) (labels : List Label) (gaps : List Gap) (j : ℕ) (pieces : List Piece) → ((b : Label) (g : Gap) (s : Fraction) → IsBlocked a (get_or labels j b) (get_or gaps j g) s → ⊥) → ((s : Fraction) → HaveScale pieces s ↔ IsBlockedBy a labels gaps j s) → (s : Fraction) → HaveScale pieces s ↔ IsBlockedBy a labels gaps (j + 1) s
+blocked_past a labels gaps j pieces none so_far s = (forth, back)
+  where
+    forth : HaveScale pieces s → IsBlockedBy a labels gaps (j + 1) s
+    forth h = let (k, b, g, less, e, e', blocked) = (so_far s).0 h in (k, b, g, omega arith, e, e', blocked)
+
+    back : IsBlockedBy a labels gaps (j + 1) s → HaveScale pieces s
+    back (k, b, g, less, e, e', blocked) =
+        elim (cases_lt k j) [
+          | inl before ↦ (so_far s).1 (k, b, g, before, e, e', blocked)
+          | inr now ↦
+              let z : k ≡ j = omega arith in
+              let its : b ≡ get_or labels j b = sym e ∙ ap (λ (n : ℕ). get_or labels n b) z in
+              let its' : g ≡ get_or gaps j g = sym e' ∙ ap (λ (n : ℕ). get_or gaps n g) z in
+              absurd (none b g s (subst (λ (x : Label). IsBlocked a x (get_or gaps j g) s) its (subst (λ (y : Gap). IsBlocked a b y s) its' blocked)))
+        ]
+
 -- ---- free gaps are those that are clear of what the labels before block
 
 module _ (labels : List Label) (gaps : List Gap) (i : ℕ) (a : Label) (own : (d : Label) → get_or labels i d ≡ a) (in' : i < length labels) (before : i ≤ length gaps) where

@@ -1,19 +1,23 @@
 //! The longest free gap of each label.
-ghost use Rattle.std.specs.Prelude.{◌≡◌, ◌≤◌, ◌*◌, ◌↔◌, [], length, IfOk, OnOk};
+ghost use Rattle.std.specs.Prelude.{ℕ, ◌≡◌, ◌≤◌, ◌<◌, ◌*◌, ◌↔◌, [], length, slice_index_or, IfOk, OnOk};
 ghost use Rattle.ml_ratio.specs.Fraction.{Fraction, value_of};
 ghost use Rattle.ml_cone.specs.Choice.{ActiveUntil};
+ghost use Rattle.ml_cone.specs.declared.label.Label.{Label as ALabel};
 ghost use Rattle.ml_gaps.specs.Blocked.{IsBlocked, IsPairPiece, IsBlockedBy};
 ghost use Rattle.ml_gaps.specs.Gaps.{AreGaps};
 ghost use Rattle.ml_gaps.specs.Longest.{IsLongestOf};
-ghost use Rattle.ml_gaps.specs.Near.{IsNearOf, AreNears};
+ghost use Rattle.ml_gaps.specs.Near.{IsNearOf, IsStripFor, AreNears};
 ghost use Rattle.ml_gaps.specs.Piece.{HaveScale, AddsPieces};
+ghost use Rattle.ml_gaps.specs.declared.gap.Gap.{Gap as AGap};
+ghost use Rattle.ml_gaps.specs.declared.near.Strip.{Strip as AStrip};
 
 use crate::block::blocked;
 use crate::gap::Gap;
-use crate::near::Near;
+use crate::near::{Near, Strip};
 use crate::piece::Piece;
 use crate::sweep::longest;
 use ml_cone::Label;
+use ml_conflict::{Axis, greatest_reach};
 use ml_ratio::Seq;
 use std::alloc::{AllocError, Global};
 
@@ -29,36 +33,62 @@ use std::alloc::{AllocError, Global};
 pub fn gaps(alloc: Global, labels: &[Label]) -> Result<Seq<Gap>, AllocError>
     ensures { IfOk result (AreGaps labels.now) }
 {
+    let reach = greatest_reach(Axis::Along, labels);
     let mut gaps = Seq::new(alloc);
     let mut nears = Vec::new(alloc);
+    let mut strips = Vec::new(alloc);
     let mut pieces = Vec::new(alloc);
     for label in labels {
-        pieces = pieces_of(label, labels, gaps.as_slice(), nears.as_slice(), pieces)?;
+        let before = Before {
+            labels,
+            gaps: gaps.as_slice(),
+            nears: nears.as_slice(),
+            strips: strips.as_slice(),
+        };
+        pieces = pieces_of(label, &before, pieces)?;
         let gap = longest_of(label, &mut pieces);
-        nears.push(Near::of(label, &gap.until))?;
+        let near = Near::of(label, &gap.until);
+        strips.push(Strip::about(label, &near, reach))?;
+        nears.push(near)?;
         gaps.push(gap)?;
         pieces.clear();
     }
     Ok(gaps)
 }
 
+// All labels, of which the first have a gap, and what tells which of these lie near.
+#[derive(Clone, Copy)]
+struct Before<'a> {
+    labels: &'a [Label],
+    gaps: &'a [Gap],
+    nears: &'a [Near],
+    strips: &'a [Strip],
+}
+
 // The pieces at which the labels before block the label, in the memory of the ones of another label.
-fn pieces_of(
-    label: &Label,
-    labels: &[Label],
-    gaps: &[Gap],
-    nears: &[Near],
-    room: Vec<Piece>,
-) -> Result<Vec<Piece>, AllocError>
-    requires few { length gaps.now ≤ length labels.now }
-    requires nears { AreNears labels.now gaps.now nears.now }
+fn pieces_of(label: &Label, before: &Before<'_>, room: Vec<Piece>) -> Result<Vec<Piece>, AllocError>
+    requires few { length before.now.gaps.now ≤ length before.now.labels.now }
+    requires nears { AreNears before.now.labels.now before.now.gaps.now before.now.nears.now before.now.strips.now }
+    requires strips { (k : ℕ) (b : ALabel) (g : AGap) (t : AStrip) → k < length before.now.gaps.now →
+        IsStripFor label.now (slice_index_or before.now.labels.now k b) (value_of (slice_index_or before.now.gaps.now k g).until) (slice_index_or before.now.strips.now k t) }
     requires empty { room.items ≡ [] }
-    ensures { IfOk result (λ pieces. (s : Fraction) → HaveScale pieces.items s ↔ IsBlockedBy label.now labels.now gaps.now (length gaps.now) s) }
+    ensures { IfOk result (λ pieces. (s : Fraction) → HaveScale pieces.items s ↔ IsBlockedBy label.now before.now.labels.now before.now.gaps.now (length before.now.gaps.now) s) }
 {
     let own = Near::of(label, &label.max());
+    let y = label.y();
     let mut pieces = Seq::of_vec(room);
-    for j in 0..gaps.len() {
-        add_blocked(label, &own, &labels[j], &nears[j], &gaps[j], &mut pieces)?;
+    for j in 0..before.gaps.len() {
+        if !before.strips[j].is_past(y) {
+            let near = &before.nears[j];
+            add_blocked(
+                label,
+                &own,
+                &before.labels[j],
+                near,
+                &before.gaps[j],
+                &mut pieces,
+            )?;
+        }
     }
     Ok(pieces.into_vec())
 }

@@ -1,5 +1,4 @@
 mod Searching
-mod Fields
 mod Assigning
 mod RowLemmas
 mod TableLemmas

@@ -1,4 +1,3 @@
-pub mod Field
 pub mod Search
 pub mod Row
 pub mod Table

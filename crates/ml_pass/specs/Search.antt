@@ -1,12 +1,11 @@
 -- The search for the labels before a place that may bound the one there.
-use Rattle.std.specs.Prelude.{◌≡◌, ℕ, ◌<◌, ◌≤◌, ◌⊎◌, All, Contains, List, slice_index_or}
+use Rattle.std.specs.Prelude.{ℕ, ◌<◌, ◌⊎◌, All, Contains, List}
 use Rattle.ml_ratio.specs.Fraction.{Fraction, value_of, IsAtMost}
 use Rattle.ml_cone.specs.Choice.{IsEnd}
 use Rattle.ml_cone.specs.Slots.{Rival, RivalAllows, row}
 use Rattle.ml_cone.specs.declared.label.Label.{Label}
 use Rattle.ml_cone.specs.declared.slot.Slot.{Slot}
 use Rattle.ml_conflict.specs.Begin.{SetsNoneUpTo}
-use Rattle.ml_pass.specs.declared.spot.Spot.{Spot}
 
 -- the labels by their places, with the ends of their slots
 abbrev pub rivals_in : List Label → List Slot → Label → ℕ → Rival
@@ -19,7 +18,3 @@ pub record IsSearched (low : Label) (rivals : ℕ → Rival) (n : ℕ) (seen : �
   pub less : IsAtMost next bound
   pub leave : (e : Fraction) → IsEnd low e → ((j : ℕ) → Contains after j → RivalAllows low e (rivals j)) → IsAtMost e bound → IsAtMost e next
   pub others : (j : ℕ) → seen j → j < n → Contains after j ⊎ SetsNoneUpTo low (rivals j).label (value_of (rivals j).until) next
-
--- one of the spots from one place until another is that of the label at j
-abbrev pub SeesSpot : List Spot → ℕ → ℕ → ℕ → Type 0
-SeesSpot spots from until j = (k : ℕ) × (from ≤ k) × (k < until) × ((d : Spot) → (slice_index_or spots k d).place ≡ j)

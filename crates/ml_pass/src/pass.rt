@@ -2,8 +2,9 @@
 ghost use Rattle.std.specs.Prelude.{ℕ, ◌≡◌, ◌+◌, ◌≤◌, ◌<◌, [], length, IfOk, OnOk, All};
 ghost use Rattle.ml_ratio.specs.Limits.{most_labels};
 ghost use Rattle.ml_cone.specs.Slots.{AreSlots, IsOwnSlot};
+ghost use Rattle.ml_conflict.specs.Field.{IsFieldOf};
 ghost use Rattle.ml_conflict.specs.Reach.{Reaches};
-ghost use Rattle.ml_pass.specs.Field.{IsFieldOf};
+ghost use Rattle.ml_conflict.specs.declared.axis.Axis.TheVariants.{Across};
 ghost use Rattle.ml_pass.specs.Search.{rivals_in};
 ghost use Rattle.ml_pass.specs.SlotsText.{IsBlockerPlace};
 
@@ -87,7 +88,7 @@ fn slot_of<L: Ledger>(
     steps: &mut Steps<L>,
 ) -> Result<Slot, AllocError>
     requires field { IsFieldOf search.now.labels.now field.now.spots.items field.now.reach }
-    requires reaches { Reaches search.now.low.now field.now.reach }
+    requires reaches { Reaches Across search.now.low.now field.now.reach }
     requires empty { places.old.items ≡ [] }
     ensures own { IfOk result (λ slot. IsOwnSlot (rivals_in search.now.labels.now search.now.slots.now search.now.low.now)
         (λ j. j < length search.now.slots.now) search.now.low.now slot) }

@@ -6,11 +6,10 @@ ghost use Rattle.std.specs.Prelude.{ℕ, ◌≡◌, ◌≤◌, ◌<◌, [], leng
 ghost use Rattle.ml_ratio.specs.Fraction.{Fraction, value_of};
 ghost use Rattle.ml_cone.specs.SiteOf.{IsSiteOf};
 
-use crate::field::{Field, is_beyond};
-use crate::spot::Spot;
+use crate::field::Field;
 use ml_cone::{Label, Site, Slot};
-use ml_conflict::laws::{clear_labels, ended_labels, far_labels};
-use ml_conflict::limit_up_to;
+use ml_conflict::laws::{clear_labels, ended_labels};
+use ml_conflict::{Spot, is_beyond, limit_up_to};
 use ml_ratio::Ratio;
 use std::alloc::AllocError;
 
@@ -27,8 +26,9 @@ pub struct Search<'a> {
 
 impl Search<'_> {
     ghost use Rattle.ml_conflict.specs.Reach.{Reaches};
-    ghost use Rattle.ml_pass.specs.Field.{IsSpotOf, IsFieldOf};
-    ghost use Rattle.ml_pass.specs.Search.{rivals_in, IsSearched, SeesSpot};
+    ghost use Rattle.ml_conflict.specs.declared.axis.Axis.TheVariants.{Across};
+    ghost use Rattle.ml_conflict.specs.Field.{IsSpotOf, IsFieldOf, SeesSpot};
+    ghost use Rattle.ml_pass.specs.Search.{rivals_in, IsSearched};
 
     /// Finds places of labels before that are enough for the label's slot: each other one sets it no limit up
     /// to a bound that these leave.
@@ -37,7 +37,7 @@ impl Search<'_> {
     /// Want of memory.
     pub fn gather(&self, field: &Field, places: &mut Vec<u32>) -> Result<(), AllocError>
         requires field { IsFieldOf self.now.labels.now field.now.spots.items field.now.reach }
-        requires reaches { Reaches self.now.low.now field.now.reach }
+        requires reaches { Reaches Across self.now.low.now field.now.reach }
         ensures { OnOk result ((bound : Fraction) × IsSearched self.now.low.now (rivals_in self.now.labels.now self.now.slots.now self.now.low.now)
             (length self.now.slots.now) (λ j. j < length self.now.slots.now) (value_of self.now.low.now.max) bound places.old.items places.new.items) }
     {
@@ -57,12 +57,11 @@ impl Search<'_> {
         places: &mut Vec<u32>,
     ) -> Result<Ratio, AllocError>
         requires field { IsFieldOf self.now.labels.now field.now.spots.items field.now.reach }
-        requires reaches { Reaches self.now.low.now field.now.reach }
+        requires reaches { Reaches Across self.now.low.now field.now.reach }
         requires start { start ≤ length field.now.spots.items }
         ensures { IfOk result (λ next. IsSearched self.now.low.now (rivals_in self.now.labels.now self.now.slots.now self.now.low.now)
             (length self.now.slots.now) (SeesSpot field.now.spots.items 0 start) (value_of bound) (value_of next) places.old.items places.new.items) }
     {
-        far_labels();
         let spots = field.spots.as_slice();
         let mut next = bound;
         let mut left = start;
@@ -87,12 +86,11 @@ impl Search<'_> {
         places: &mut Vec<u32>,
     ) -> Result<Ratio, AllocError>
         requires field { IsFieldOf self.now.labels.now field.now.spots.items field.now.reach }
-        requires reaches { Reaches self.now.low.now field.now.reach }
+        requires reaches { Reaches Across self.now.low.now field.now.reach }
         requires start { start ≤ length field.now.spots.items }
         ensures { IfOk result (λ next. IsSearched self.now.low.now (rivals_in self.now.labels.now self.now.slots.now self.now.low.now)
             (length self.now.slots.now) (SeesSpot field.now.spots.items start (length field.now.spots.items)) (value_of bound) (value_of next) places.old.items places.new.items) }
     {
-        far_labels();
         let spots = field.spots.as_slice();
         let mut next = bound;
         for right in start..spots.len() {

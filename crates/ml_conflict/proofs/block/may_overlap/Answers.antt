@@ -24,9 +24,9 @@ late_clear low high start last late s scale from less under over =
     let m : IsLess s start = less_at_most s last start less late in
     absurd (omega arith)
 
-pub returns-then-is_less-clause-none : goal.returns-then-is_less-clause-none
-returns-then-is_less-clause-none c is =
+pub returns-else-are_near-clause-none : goal.returns-else-are_near-clause-none
+returns-else-are_near-clause-none c is =
     apart_clear c.args.low.now c.args.high.now (worth c.args.start) (worth c.args.last) _ _ c.are_apart.result c.num.ensures c.den.ensures c.are_apart.ensures is
 
-pub returns-else-is_less-clause-none : goal.returns-else-is_less-clause-none
-returns-else-is_less-clause-none c is = late_clear c.args.low.now c.args.high.now (worth c.args.start) (worth c.args.last) c.if-is_less.ensures
+pub returns-then-not-is_less-clause-none : goal.returns-then-not-is_less-clause-none
+returns-then-not-is_less-clause-none c is = late_clear c.args.low.now c.args.high.now (worth c.args.start) (worth c.args.last) c.if-not-is_less.ensures

@@ -15,13 +15,13 @@ loop-i-preserved c =
     let i = c.loop-i.i in
     let a : Label = c.index-labels-i.result in
     let next = c.larger-reach.result in
-    let here = reaches_more a c.reach_of.result next c.larger-reach.ensures.second c.reach_of.ensures.reaches in (
+    let here = reaches_more c.args.axis a c.reach_of.result next c.larger-reach.ensures.second c.reach_of.ensures.reaches in (
       c.larger-reach.ensures.low 576 c.loop-i.invariant.0 c.reach_of.ensures.low,
       λ k d lt. elim (cases_lt k i) [
-        | inl less ↦ reaches_more (get_or labels k d) c.loop-i.reach next c.larger-reach.ensures.first (c.loop-i.invariant.1 k d less)
+        | inl less ↦ reaches_more c.args.axis (get_or labels k d) c.loop-i.reach next c.larger-reach.ensures.first (c.loop-i.invariant.1 k d less)
         | inr more ↦
             let same : i ≡ k = omega arith in
-            subst (λ (b : Label). Reaches b next) (c.index-labels-i.is ∙ (get_or_default labels i a d c.loop-i-test.true ∙ ap (λ (m : ℕ). get_or labels m d) same)) here
+            subst (λ (b : Label). Reaches c.args.axis b next) (c.index-labels-i.is ∙ (get_or_default labels i a d c.loop-i-test.true ∙ ap (λ (m : ℕ). get_or labels m d) same)) here
       ],
     )
 

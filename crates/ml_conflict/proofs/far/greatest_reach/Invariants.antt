@@ -4,4 +4,4 @@ use Rattle.ml_conflict.specs.Reach.{Reaches}
 use Rattle.ml_conflict.proofs.far.greatest_reach.Given as goal
 
 abbrev pub invariant-loop-i : goal.invariant-loop-i
-invariant-loop-i l = (l.reach ≤ 576) × ((k : ℕ) (d : Label) → k < l.i → Reaches (get_or l.labels k d) l.reach)
+invariant-loop-i l = (l.reach ≤ 576) × ((k : ℕ) (d : Label) → k < l.i → Reaches l.axis (get_or l.labels k d) l.reach)

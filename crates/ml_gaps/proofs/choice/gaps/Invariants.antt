@@ -7,5 +7,5 @@ abbrev pub invariant-loop-label : goal.invariant-loop-label
 invariant-loop-label l = record {
   chosen : Chosen l.labels l.label-index l.gaps;
   empty : l.pieces.items ≡ [];
-  nears : AreNears l.labels l.gaps l.nears.items;
+  nears : AreNears l.labels l.gaps l.nears.items l.strips.items;
 }

@@ -5,4 +5,4 @@ use Rattle.ml_gaps.specs.Piece.{HaveScale}
 use Rattle.ml_gaps.proofs.choice.pieces_of.Given as goal
 
 abbrev pub invariant-loop-j : goal.invariant-loop-j
-invariant-loop-j l = (s : Fraction) → HaveScale l.pieces s ↔ IsBlockedBy l.label l.labels l.gaps l.j s
+invariant-loop-j l = (s : Fraction) → HaveScale l.pieces s ↔ IsBlockedBy l.label l.before.labels.now l.before.gaps.now l.j s

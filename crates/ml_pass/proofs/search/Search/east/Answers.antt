@@ -1,7 +1,8 @@
 use Rattle.std.proofs.Common.{◌≡◌, ℕ, length, get_or, arith, ap, subst, w64, FitsSigned}
 use Rattle.std.proofs.lemmas.Int.{ints, to_z-of_z}
 use Rattle.ml_ratio.specs.Fraction.{value_of}
-use Rattle.ml_pass.specs.Search.{rivals_in, IsSearched, SeesSpot}
+use Rattle.ml_conflict.specs.Field.{SeesSpot}
+use Rattle.ml_pass.specs.Search.{rivals_in, IsSearched}
 use Rattle.ml_pass.proofs.Searching.{searched_none}
 use Rattle.ml_pass.proofs.Gathering.{east_more, east_far}
 use Rattle.ml_pass.proofs.search.Search.east.Goals as goal
@@ -34,7 +35,7 @@ returns-then-is_beyond c =
     let fs : FitsSigned w64 spot.x = omega (arith, ints) in
     let beyond = simp to_z-of_z at (rw c.x.ensures at (c.is_beyond.ensures c.if-is_beyond.true)) in
     east_far c.args.self.now.labels.now c.args.self.now.slots.now low spots c.args.field.now.reach c.requires.field c.loop-right.right c.args.start spot (omega arith) is (value_of c.args.bound) c.args.places.now.items c.loop-right.places.items
-    c.far_labels.ensures c.requires.reaches c.loop-right.next beyond c.loop-right.invariant
+    c.requires.reaches c.loop-right.next beyond c.loop-right.invariant
 
 pub look-requires : goal.look-requires
 look-requires c =

@@ -1,6 +1,7 @@
 use Rattle.std.proofs.Common.{length}
 use Rattle.ml_ratio.specs.Fraction.{value_of}
-use Rattle.ml_pass.specs.Search.{rivals_in, IsSearched, SeesSpot}
+use Rattle.ml_conflict.specs.Field.{SeesSpot}
+use Rattle.ml_pass.specs.Search.{rivals_in, IsSearched}
 use Rattle.ml_pass.proofs.search.Search.east.Given as goal
 
 abbrev pub invariant-loop-right : goal.invariant-loop-right

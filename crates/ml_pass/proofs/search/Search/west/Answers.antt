@@ -1,7 +1,8 @@
 use Rattle.std.proofs.Common.{◌≡◌, ℕ, ◌-◌, ◌≤◌, length, get_or, arith, subst, w64, FitsSigned}
 use Rattle.std.proofs.lemmas.Int.{ints, to_z-of_z}
 use Rattle.ml_ratio.specs.Fraction.{value_of}
-use Rattle.ml_pass.specs.Search.{rivals_in, IsSearched, SeesSpot}
+use Rattle.ml_conflict.specs.Field.{SeesSpot}
+use Rattle.ml_pass.specs.Search.{rivals_in, IsSearched}
 use Rattle.ml_pass.proofs.Searching.{searched_none}
 use Rattle.ml_pass.proofs.Gathering.{west_more, west_far}
 use Rattle.ml_pass.proofs.search.Search.west.Goals as goal
@@ -40,7 +41,7 @@ returns-then-is_beyond c =
     let fs : FitsSigned w64 spot.x = omega (arith, ints) in
     let beyond = simp to_z-of_z at (rw c.x.ensures at (c.is_beyond.ensures c.if-is_beyond.true)) in
     west_far c.args.self.now.labels.now c.args.self.now.slots.now low spots c.args.field.now.reach c.requires.field (c.loop-left.left - 1) c.args.start spot (omega arith) is (value_of c.args.bound) c.args.places.now.items c.loop-left.places.items
-    c.far_labels.ensures c.requires.reaches c.loop-left.next c.loop-left.left (omega arith) s beyond c.loop-left.invariant.searched
+    c.requires.reaches c.loop-left.next c.loop-left.left (omega arith) s beyond c.loop-left.invariant.searched
 
 pub look-requires : goal.look-requires
 look-requires c =

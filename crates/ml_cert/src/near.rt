@@ -1,0 +1,158 @@
+//! The blocker that is due to a label, sought among the labels near it.
+//!
+//! The search goes from the label's anchor to the west and to the east, and ends where the next label is too
+//! far away to set a limit up to the label's end.
+ghost use Rattle.std.specs.Prelude.{◌≡◌, ◌<◌, ◌≤◌, length, slice_index_or, IfSome};
+ghost use Rattle.ml_ratio.specs.Fraction.{value_of};
+ghost use Rattle.ml_cone.specs.Choice.{IsEnd};
+ghost use Rattle.ml_cone.specs.Slots.{no_slot};
+ghost use Rattle.ml_cone.specs.SiteOf.{IsSiteOf};
+ghost use Rattle.ml_cone.specs.declared.label.Label.{Label as ALabel};
+
+use crate::stance::{Stance, sooner};
+use ml_cone::{Label, Site, Slot};
+use ml_conflict::laws::{
+    allowed_up_to, blocking, clear_labels, ended_labels, same_limits, smaller_ends,
+};
+use ml_conflict::{Spot, is_beyond, limit_up_to};
+use ml_ratio::Ratio;
+
+/// Labels from west to east, and how many pixels one of them reaches at most.
+#[derive(Clone, Copy)]
+pub struct Field<'a> {
+    pub spots: &'a [Spot],
+    pub reach: u32,
+}
+
+/// A label at a place of a list, with its site and its end, and all labels with their slots.
+#[derive(Clone, Copy)]
+pub struct Asked<'a> {
+    pub labels: &'a [Label],
+    pub slots: &'a [Slot],
+    pub place: usize,
+    pub low: &'a Label,
+    pub site: Site,
+    pub until: Ratio,
+    ghost lengths: { length slots.now ≡ length labels.now },
+    ghost there: { place < length labels.now },
+    ghost its_label: { (d : ALabel) → slice_index_or labels.now place d ≡ low.now },
+    ghost its_end: { (slice_index_or slots.now place no_slot).until ≡ until },
+    ghost its_site: { IsSiteOf site low.now },
+    ghost good: { IsEnd low.now (value_of until) },
+}
+
+impl Asked<'_> {
+    ghost use Rattle.ml_cone.specs.Slots.{ends};
+    ghost use Rattle.ml_conflict.specs.Field.{IsSpotOf, IsFieldOf, SeesSpot};
+    ghost use Rattle.ml_cert.specs.Near.{IsStance, IsDueAmong, IsDueWith};
+
+    /// The first label before that blocks the label, if any does; none at all where a label before may refuse
+    /// its end.
+    pub fn due(&self, field: &Field<'_>) -> Option<Option<usize>>
+        requires { IsFieldOf self.now.labels.now field.now.spots.now field.now.reach }
+        ensures { IfSome result (λ due. IsDueAmong self.now.labels.now (ends self.now.slots.now) self.now.place (λ j. j < self.now.place) due) }
+    {
+        let x = self.low.x();
+        let start = field.spots.partition_point(|spot| spot.x < x);
+        let due = self.west(field, start)?;
+        self.east(field, start, due)
+    }
+
+    // What the spots before `start` say, the nearest first.
+    fn west(&self, field: &Field<'_>, start: usize) -> Option<Option<usize>>
+        requires field { IsFieldOf self.now.labels.now field.now.spots.now field.now.reach }
+        requires start { start ≤ length field.now.spots.now }
+        ensures { IfSome result (λ due. IsDueAmong self.now.labels.now (ends self.now.slots.now) self.now.place (SeesSpot field.now.spots.now 0 start) due) }
+    {
+        allowed_up_to();
+        blocking();
+        smaller_ends();
+        same_limits();
+        let spots = field.spots;
+        let pixels = 2 * field.reach as u64;
+        let mut due = None;
+        let mut left = start;
+        while left > 0 {
+            let at = left - 1;
+            let spot = &spots[at];
+            if is_beyond(self.low.x(), spot.x, pixels, &self.until) {
+                return Some(due);
+            }
+            due = self.next_due(spot, due)?;
+            left = at;
+        }
+        Some(due)
+    }
+
+    // What the spots from `start` on say too, the nearest first.
+    fn east(&self, field: &Field<'_>, start: usize, before: Option<usize>) -> Option<Option<usize>>
+        requires field { IsFieldOf self.now.labels.now field.now.spots.now field.now.reach }
+        requires start { start ≤ length field.now.spots.now }
+        requires before { IsDueAmong self.now.labels.now (ends self.now.slots.now) self.now.place (SeesSpot field.now.spots.now 0 start) before }
+        ensures { IfSome result (λ due. IsDueAmong self.now.labels.now (ends self.now.slots.now) self.now.place (λ j. j < self.now.place) due) }
+    {
+        allowed_up_to();
+        blocking();
+        smaller_ends();
+        same_limits();
+        let spots = field.spots;
+        let pixels = 2 * field.reach as u64;
+        let mut due = before;
+        for right in start..spots.len() {
+            let spot = &spots[right];
+            if is_beyond(spot.x, self.low.x(), pixels, &self.until) {
+                return Some(due);
+            }
+            due = self.next_due(spot, due)?;
+        }
+        Some(due)
+    }
+
+    // What is due with the label of the spot; none where it may refuse the end.
+    fn next_due(&self, spot: &Spot, due: Option<usize>) -> Option<Option<usize>>
+        requires { IsSpotOf self.now.labels.now spot.now }
+        ensures { IfSome result (λ next. IsDueWith self.now.labels.now (ends self.now.slots.now) self.now.place spot.now.place due next) }
+    {
+        match self.stance(spot) {
+            Stance::Aside => Some(due),
+            Stance::Blocker => Some(Some(sooner(due, spot.place as usize))),
+            Stance::Refuser => None,
+        }
+    }
+
+    // What the label of the spot says. One that ends before the two may overlap sets no limit, and so it need
+    // not be looked at itself.
+    fn stance(&self, spot: &Spot) -> Stance
+        requires { IsSpotOf self.now.labels.now spot.now }
+        ensures { IsStance self.now.labels.now (ends self.now.slots.now) self.now.place spot.now.place result }
+    {
+        allowed_up_to();
+        blocking();
+        smaller_ends();
+        same_limits();
+        clear_labels();
+        ended_labels();
+        let place = spot.place as usize;
+        if place >= self.place {
+            return Stance::Aside;
+        }
+        let until = &self.until;
+        if self.site.is_clear(&spot.site, until.num(), until.den()) {
+            return Stance::Aside;
+        }
+        let other = &self.slots[place].until;
+        if self.site.is_clear(&spot.site, other.num(), other.den()) {
+            return Stance::Aside;
+        }
+        match limit_up_to(self.low, &self.labels[place], other, until) {
+            None => Stance::Aside,
+            Some(limit) => {
+                if limit.is_less(until) {
+                    Stance::Refuser
+                } else {
+                    Stance::Blocker
+                }
+            }
+        }
+    }
+}
