@@ -3,10 +3,13 @@ mod Casts
 mod Columns
 mod Counts
 mod Finds
+mod Digits
+mod Marking
 mod Moved
 mod Near
 mod Partial
 mod Places
+mod Reach
 mod Seen
 mod Sets
 mod Sums

@@ -6,3 +6,4 @@ pub mod Found
 pub mod Column
 pub mod Window
 pub mod Near
+pub mod Marks

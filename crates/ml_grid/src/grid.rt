@@ -1,5 +1,5 @@
 //! The grid.
-ghost use Rattle.std.specs.Prelude.{ℕ, ◌≡◌, ◌+◌, ◌≤◌, ◌↔◌, [], max, length, Contains, IsTrue, OnOk, OnErr, IfOk};
+ghost use Rattle.std.specs.Prelude.{ℕ, ◌≡◌, ◌+◌, ◌<◌, ◌≤◌, ◌^◌, ◌↔◌, [], max, length, Contains, IsTrue, OnOk, OnErr, IfOk};
 ghost use Rattle.std.specs.List.Sorted.{IsPermutation};
 ghost use Rattle.std.specs.Ordering.{nat_cmp};
 ghost use Rattle.ml_ratio.specs.RatioOrder.{ratio_cmp};
@@ -9,16 +9,16 @@ ghost use Rattle.ml_grid.specs.Count.{AreUpToNine, entry_count};
 ghost use Rattle.ml_grid.specs.Entry.{IsEntryOf, Adds, LosesEntries, Replaces, IsFree, AreEntriesOf, AreApart};
 ghost use Rattle.ml_grid.specs.Found.{AppendsNumbers, AppendsFirst, IsInHull, IsNumberOf, HasEntry, IsSeen};
 ghost use Rattle.ml_grid.specs.Column.{IsAmongFrom};
+ghost use Rattle.ml_grid.specs.Marks.{marked, end_by};
 
 use crate::bands::entries_of;
 use crate::find::{append, append_counted, ascending, find_cells, find_cells_from, has_in_cells};
 use crate::keep::{Tree, add_all, drop_all, move_all};
-use crate::list::{Entries, list_all};
+use crate::marks::{Ends, Marks, mark_all};
 use crate::window::window_cells;
 use ml_cone::{Cells, Label, Span, View, hull};
 use ml_ratio::{Ratio, Seq, Steps};
 use ml_spans::SpanTree;
-use ml_spans::sorting::in_order;
 use std::alloc::{AllocError, Global};
 use std::marker::Model;
 use std::sync::ledger::Ledger;
@@ -54,37 +54,38 @@ impl Grid {
         }
     }
 
-    /// Appends the entries of a label with this span, which begins at the label's minimum, to entries of which
-    /// no two are the same and none has the number.
+    /// Appends the marks of the entries of a label, whose number is below 32,768, to marks of which no two are
+    /// those of one entry and none has the number. Its end is the one that `ends` has for its number.
     ///
     /// # Errors
     /// Want of memory; some of them were appended.
-    pub fn list(
-        entries: &mut Entries,
+    pub fn mark(
+        marks: &mut Marks,
         number: u32,
         label: &Label,
-        span: &Span,
+        ends: &Ends,
     ) -> Result<(), AllocError>
-        requires begins { span.now.min ≡ label.now.min }
-        requires apart { AreApart entries.old.items }
-        requires free { IsFree number entries.old.items }
-        ensures apart { OnOk result (AreApart entries.new.items) }
-        ensures entries { OnOk result (Adds (IsEntryOf number label.now span.now.until) entries.old.items entries.new.items) }
+        requires number { number < 2 ^ 15 }
+        requires apart { AreApart (marked ends.now marks.old.items) }
+        requires free { IsFree number (marked ends.now marks.old.items) }
+        ensures apart { OnOk result (AreApart (marked ends.now marks.new.items)) }
+        ensures entries { OnOk result (Adds (IsEntryOf number label.now (end_by ends.now number)) (marked ends.now marks.old.items) (marked ends.now marks.new.items)) }
     {
-        list_all(entries, number, span.until, label)
+        mark_all(marks, number, label, ends)
     }
 
-    /// The grid of these entries, of which no two may be the same, with no room.
+    /// The grid of the entries that are marked, no two of which may be the same, with no room.
     ///
     /// # Errors
     /// Want of memory.
-    pub fn of(alloc: Global, entries: Entries) -> Result<Grid, AllocError>
-        requires apart { AreApart entries.items }
-        ensures entries { IfOk result (λ grid. IsPermutation entries.items grid.entries) }
+    pub fn of_marks(alloc: Global, marks: Marks, ends: &Ends) -> Result<Grid, AllocError>
+        requires apart { AreApart (marked ends.now marks.items) }
+        ensures entries { IfOk result (λ grid. IsPermutation (marked ends.now marks.items) grid.entries) }
         ensures spare { IfOk result (λ grid. grid.spare ≡ 0) }
     {
-        let sorted = in_order(entries);
-        let tree = SpanTree::of_sorted(alloc, sorted.as_slice())?;
+        let mut sorted = marks;
+        sorted.sort_unstable();
+        let tree = SpanTree::of_read(alloc, ends, sorted.as_slice())?;
         Ok(Grid { tree })
     }
 

@@ -8,8 +8,8 @@
 //! - [`laws`]: that no rival and no shown label is missed.
 //!
 //! Within: [`bands`] has the bands in which a label is kept, and in how many cells; [`keep`] puts a
-//! label's entries in and takes them out; [`find`] finds the numbers in cells; [`window`] has the cells
-//! that meet a window.
+//! label's entries in and takes them out, and [`marks`] has numbers for them, of which a grid is made at
+//! once; [`find`] finds the numbers in cells; [`window`] has the cells that meet a window.
 #![tactic(auto)]
 
 mod bands;
@@ -18,9 +18,9 @@ mod find;
 pub mod grid;
 mod keep;
 pub mod laws;
-mod list;
+mod marks;
 mod window;
 
 pub use cell::Cell;
 pub use grid::Grid;
-pub use list::Entries;
+pub use marks::{Ends, Marks};

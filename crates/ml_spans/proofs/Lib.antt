@@ -11,5 +11,5 @@ mod Placed
 mod Raised
 mod Replaced
 mod Results
-mod Sorted
+pub mod Sorted
 mod Wanted

@@ -3,6 +3,7 @@
 //!
 //! - [`key`]: values that can be keys, ends and values of an index;
 //! - [`entry`]: one entry, and the order of entries;
+//! - [`reading`]: entries read from shorter items that stand for them;
 //! - [`span_tree`]: the index itself ([`SpanTree`]).
 //!
 //! Within: [`shape`] has the nodes of the tree, [`ends`] their greatest ends, [`node`] one node over
@@ -21,6 +22,7 @@ pub mod key;
 mod moving;
 mod node;
 mod query;
+pub mod reading;
 mod removal;
 mod search;
 mod shape;
@@ -29,4 +31,5 @@ pub mod span_tree;
 
 pub use entry::Entry;
 pub use key::Key;
+pub use reading::Reads;
 pub use span_tree::SpanTree;

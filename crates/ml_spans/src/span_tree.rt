@@ -1,5 +1,5 @@
 //! The index: a balanced tree of entries, and spare nodes for those to come.
-ghost use Rattle.std.specs.Prelude.{◌≡◌, ◌≢◌, ℕ, ◌+◌, ◌*◌, ◌^◌, ◌<◌, ◌≤◌, ◌++◌, ◌↔◌, ◌⊎◌, [], length, vec_len, vec_capacity, IfOk, OnOk, OnErr, MatchBool, IsTrue, Contains, if◌then◌else◌, max};
+ghost use Rattle.std.specs.Prelude.{◌≡◌, ◌≢◌, ℕ, ◌+◌, ◌*◌, ◌^◌, ◌<◌, ◌≤◌, ◌++◌, ◌↔◌, ◌⊎◌, [], length, map, vec_len, vec_capacity, IfOk, OnOk, OnErr, MatchBool, IsTrue, Contains, if◌then◌else◌, max};
 ghost use Rattle.ml_spans.specs.Order.{entry_order, IsRising};
 ghost use Rattle.ml_spans.specs.Search.{is_in_range, is_stabbed, values_where, IsPart, IsValueOf, HasPassing};
 ghost use Rattle.ml_spans.specs.Spans.{entry_of};
@@ -12,6 +12,7 @@ use crate::key::Key;
 use crate::moving::set_in;
 use crate::node::height_of;
 use crate::query::Query;
+use crate::reading::{AsTheyAre, Reads};
 use crate::removal::take;
 use crate::search::{collect, has_wanted};
 use crate::shape::{Node, Tree};
@@ -72,7 +73,25 @@ impl<K: Key, E: Key, V: Key> SpanTree<K, E, V> {
         ensures spare { IfOk result (λ tree. tree.spare ≡ 0) }
         ensures low { (digits : ℕ) → length sorted.now < 2 ^ digits → IfOk result (λ tree. tree.height ≤ digits) }
     {
-        let root = tree_of(alloc, sorted)?;
+        SpanTree::of_read(alloc, &AsTheyAre, sorted)
+    }
+
+    /// The index of the entries that are read from these items, which stand in order without repeats, with
+    /// no spare nodes. It is as low as an index of so many entries can be.
+    ///
+    /// # Errors
+    /// Want of memory.
+    pub fn of_read<T, R: Reads<T, K, E, V>>(
+        alloc: Global,
+        reads: &R,
+        sorted: &[T],
+    ) -> Result<SpanTree<K, E, V>, AllocError>
+        requires rising { IsRising (entry_order K.order E.order V.order) (map (R.entry reads.now) sorted.now) }
+        ensures entries { IfOk result (λ tree. tree.entries ≡ map (R.entry reads.now) sorted.now) }
+        ensures spare { IfOk result (λ tree. tree.spare ≡ 0) }
+        ensures low { (digits : ℕ) → length sorted.now < 2 ^ digits → IfOk result (λ tree. tree.height ≤ digits) }
+    {
+        let root = tree_of(alloc, reads, sorted)?;
         let mut spares = Vec::new(alloc);
         spares.reserve(sorted.len())?;
         Ok(SpanTree {

@@ -1,4 +1,5 @@
 mod Different
+mod Endings
 mod Orders
 mod Lists
 mod ByName

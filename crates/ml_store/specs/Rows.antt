@@ -1,5 +1,6 @@
 -- Live labels with their numbers and slots.
 use Rattle.std.specs.Prelude.{ℕ, ◌≡◌, ◌≢◌, ◌<◌, List, length, map, slice_index, AllPairs, Contains}
+use Rattle.ml_ratio.specs.declared.ratio.Ratio.{Ratio}
 use Rattle.ml_cone.specs.declared.label.Label.{Label}
 use Rattle.ml_cone.specs.declared.slot.Slot.{Slot}
 use Rattle.ml_store.specs.declared.row.Row.{Row}
@@ -15,6 +16,10 @@ labels_in rows = map (λ r. r.label) rows
 -- the slots of rows
 abbrev pub slots_in : List Row → List Slot
 slots_in rows = map (λ r. r.slot) rows
+
+-- the ends of rows
+abbrev pub untils_in : List Row → List Ratio
+untils_in rows = map (λ r. r.slot.until) rows
 
 -- the number of the row at a place
 abbrev pub number_at : List Row → ℕ → ℕ

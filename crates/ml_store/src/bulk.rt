@@ -1,32 +1,45 @@
 //! What belongs to many rows in the grid and in the index of blockers, for a store that is made at once.
-ghost use Rattle.std.specs.Prelude.{◌≡◌, ◌≢◌, ◌⊎◌, ◌↔◌, AllPairs, Contains, IfOk, OnOk};
+ghost use Rattle.std.specs.Prelude.{◌≡◌, ◌≢◌, ◌≤◌, ◌⊎◌, ◌↔◌, AllPairs, Contains, IfOk, OnOk, length};
+ghost use Rattle.ml_ratio.specs.Limits.{most_labels};
 ghost use Rattle.ml_grid.specs.Entry.{AreApart};
+ghost use Rattle.ml_grid.specs.Marks.{marked};
 ghost use Rattle.ml_store.specs.Boxes.{unboxed};
-ghost use Rattle.ml_store.specs.Rows.{HaveOwnNumbers};
+ghost use Rattle.ml_store.specs.Rows.{AreInTurn, HaveOwnNumbers, untils_in};
 ghost use Rattle.ml_store.specs.Store.{AreWithin, IsEntryIn, IsIndex, IsPairBy, IsPairIn, Pair};
 
 use crate::pairs::Pairs;
 use crate::row::Row;
 use ml_cone::Outline;
-use ml_grid::{Entries, Grid};
+use ml_grid::{Ends, Grid, Marks};
+use ml_ratio::Ratio;
 use ml_spans::sorting::in_order;
 use ml_spans::{Entry, SpanTree};
 use std::alloc::{AllocError, Global};
 
-/// The entries of all rows.
-///
-/// # Errors
-/// Want of memory.
-pub fn entries_of(alloc: Global, rows: &[Box<Row>]) -> Result<Entries, AllocError>
-    requires { HaveOwnNumbers (unboxed rows.now) }
-    ensures apart { IfOk result (λ entries. AreApart entries.items) }
-    ensures kept { IfOk result (λ entries. IsIndex IsEntryIn (unboxed rows.now) entries.items) }
+// The ends of all rows, by number. No row has the other one's.
+fn ends_of(alloc: Global, rows: &[Box<Row>], other: Ratio) -> Result<Ends, AllocError>
+    ensures { IfOk result (λ ends. ends.by_number.items ≡ untils_in (unboxed rows.now)) }
 {
-    let mut entries = Vec::new(alloc);
+    let mut by_number = Vec::new(alloc);
     for row in rows {
-        Grid::list(&mut entries, row.number, &row.label, &row.span())?;
+        by_number.push(row.slot.until)?;
     }
-    Ok(entries)
+    Ok(Ends { by_number, other })
+}
+
+// The marks of all rows' entries in the grid.
+fn marks_of(alloc: Global, rows: &[Box<Row>], ends: &Ends) -> Result<Marks, AllocError>
+    requires few { length rows.now ≤ most_labels }
+    requires in_turn { AreInTurn (unboxed rows.now) }
+    requires ends { ends.now.by_number.items ≡ untils_in (unboxed rows.now) }
+    ensures apart { IfOk result (λ marks. AreApart (marked ends.now marks.items)) }
+    ensures kept { IfOk result (λ marks. IsIndex IsEntryIn (unboxed rows.now) (marked ends.now marks.items)) }
+{
+    let mut marks = Vec::new(alloc);
+    for row in rows {
+        Grid::mark(&mut marks, row.number, &row.label, ends)?;
+    }
+    Ok(marks)
 }
 
 // Appends the pair of a label and its blocker, if it has one.
@@ -79,16 +92,22 @@ pub fn pairs_of(alloc: Global, rows: &[Box<Row>]) -> Result<Pairs, AllocError>
     SpanTree::of_sorted(alloc, sorted.as_slice())
 }
 
-/// The grid of all rows, with no room.
+/// The grid of all rows, whose numbers are their places, with no room.
 ///
 /// # Errors
 /// Want of memory.
 pub fn grid_of(alloc: Global, rows: &[Box<Row>]) -> Result<Grid, AllocError>
-    requires { HaveOwnNumbers (unboxed rows.now) }
+    requires few { length rows.now ≤ most_labels }
+    requires in_turn { AreInTurn (unboxed rows.now) }
     ensures kept { IfOk result (λ grid. IsIndex IsEntryIn (unboxed rows.now) grid.entries) }
     ensures spare { IfOk result (λ grid. grid.spare ≡ 0) }
 {
-    Grid::of(alloc, entries_of(alloc, rows)?)
+    let Some(first) = rows.first() else {
+        return Ok(Grid::new(alloc));
+    };
+    let ends = ends_of(alloc, rows, first.slot.until)?;
+    let marks = marks_of(alloc, rows, &ends)?;
+    Grid::of_marks(alloc, marks, &ends)
 }
 
 /// The outline of all rows.
