@@ -81,11 +81,15 @@ class Build:
         self.busy.clear()
         # (a crate that was killed before begins alone)
         while not (self.alone and self.running):
-            jobs_of = {name: run.jobs for name, run in self.running.items()}
-            chosen = self.plan.next(self.done, jobs_of, machine.free_memory(), self.busy)
+            chosen = self.plan.next(self.done, self.checks(), machine.free_memory(), self.busy)
             if not chosen:
                 return
             self.start(*chosen)
+
+    def checks(self):
+        """What is left of the crates at work, so far as it can be told."""
+        running = {name: (run.jobs, shown.now() - run.begun) for name, run in self.running.items()}
+        return self.plan.checks(running, self.lines / self.spent if self.spent else 0.0)
 
     def start(self, name, jobs):
         crate = self.crates[name]
@@ -93,7 +97,7 @@ class Build:
             self.busy.add(name)
             self.view.waits(name)
             return
-        jobs, niceness = 1 if name in self.alone else jobs, self.plan.niceness(name, self.done)
+        jobs, niceness = 1 if name in self.alone else jobs, self.plan.niceness(name, self.done, self.checks())
         with open(self.lanes.log(name), "wb") as log:
             process = subprocess.Popen(
                 command_of(crate, jobs), cwd=self.lanes.folder(name), stdin=subprocess.DEVNULL, stdout=log,
@@ -147,8 +151,7 @@ class Build:
         """The line that tells where the build is."""
         seconds, left = shown.now() - self.begun, None
         if self.spent:
-            running = {name: (run.jobs, shown.now() - run.begun) for name, run in self.running.items()}
-            left = self.plan.seconds_left(self.done, running, self.lines / self.spent)
+            left = self.plan.seconds_left(self.done, self.checks(), self.lines / self.spent)
         return shown.line_of(len(self.done), len(self.crates), list(self.running), seconds, left)
 
     def end_all(self):

@@ -1,19 +1,32 @@
 """Which crate is checked next, by how many provers, how far it gives way, and how long all that is left will take.
 
 A crate is checked over the built libraries below it, and only a proved library is built. So a crate can
-begin once those that it uses are done, and the longest chain of crates bounds the whole time. The crate that the
-longest chain begins with has several provers and goes before all others. Each other crate has one prover, since
-each further one does a part of the work again, and it gives way the further, the shorter the chain behind it is.
-So the longest chain has what it can use of the processors, and the others have what it leaves: also a check by
-several provers begins and ends on one processor.
+begin once those that it uses are done, and the longest chain of crates bounds the whole time. Of a crate at work only
+what is left of its work counts in its chain: so a chain that was shorter is seen as the longest once the other has
+come further.
+
+What begins the longest chain, or one that is hardly shorter, has several provers where processors are free for them.
+Taken are those that the near crates at work keep busy, and one for each other near crate that can begin; near are
+those behind which the chain is not much shorter. Where the longest chain bounds the time by far, of those that can
+begin only so many count as find a place. Each other crate has one prover, since each further one does a part of the
+work again. A crate that is not near waits while those at work keep all processors busy: it would take the place of
+one of a longer chain that can begin soon.
+
+Each crate gives way the further, the shorter the chain behind it is. So the longest chain has what it can use of the
+processors, and the others have what it leaves: also a check by several provers begins and ends on one processor.
 """
 
 from typing import NamedTuple
 
 # More provers of one crate than this gain nothing, since each does a part of the work again.
 MOST_JOBS = 3
-# How many processors so many provers of a crate keep busy; only the guess of the time left rests on it.
+# How many processors so many provers of a crate keep busy.
 BUSY = {1: 1.0, 2: 1.6, 3: 2.0}
+# At least so long, as a part of the longest, is a chain whose first crate may have several provers, and one whose first
+# crate is near. A simulation from the times of this repository's crates chose these parts and the next.
+FRONT, NEAR = 0.95, 0.75
+# The longest chain bounds the time by far where it takes so many times as long as all that is left on all processors.
+BOUND = 1.7
 # What gives way to all others still has a little of the processors.
 LEAST = 0.1
 # The niceness of what gives way to all others.
@@ -32,6 +45,13 @@ class Step(NamedTuple):
     uses: tuple
     work: int
     memory: int
+
+
+class Check(NamedTuple):
+    """A check at work: its provers, and what is left of its work in lines of code."""
+
+    jobs: int
+    left: float
 
 
 def step_of(uses, lines, below):
@@ -61,55 +81,84 @@ class Plan:
         can = [it for it in left if all(below in done for below in self.steps[it].uses)]
         return sorted(can, key=lambda it: -self.behind[it])
 
-    def niceness(self, name, done):
+    def chains(self, done, running):
+        """How long the chain is that begins with each crate that is not done."""
+        found = {it: self.behind[it] for it in self.steps if it not in done}
+        for name, check in running.items():
+            found[name] -= self.steps[name].work - check.left
+        return found
+
+    def is_bound(self, done, running):
+        """Whether the longest chain, and not the work of all crates, bounds the time by far."""
+        steps = [step for it, step in self.steps.items() if it not in done and it not in running]
+        left = sum(it.work for it in steps) + sum(it.left for it in running.values())
+        return self.processors * max(self.chains(done, running).values()) >= BOUND * left
+
+    def niceness(self, name, done, running):
         """How far a crate that begins now gives way to the others: not at all where the longest chain of all that is
         left begins with it, and fully where the chain behind it is half as long. This holds until its check ends, also
         where its chain becomes the longest: who gave way needs a privilege to go before others again."""
-        longest = max(self.behind[it] for it in self.steps if it not in done)
-        return min(MOST_NICE, 2 * MOST_NICE * (longest - self.behind[name]) // longest)
+        longest = max(self.chains(done, running).values())
+        return min(MOST_NICE, int(2 * MOST_NICE * (longest - self.behind[name]) / longest))
+
+    def idle(self, names, running):
+        """How many processors these crates leave; each that is not yet at work will have one prover."""
+        return self.processors - sum(BUSY[running[it].jobs if it in running else 1] for it in names)
 
     def next(self, done, running, free, busy=()):
-        """The crate to begin now and its number of provers, or none. `running` tells the provers of each crate at
-        work, and `free` how much memory is free; crates that are `busy` for another reason are left out."""
-        if len(running) >= self.processors:
+        """The crate to begin now and its number of provers, or none. `running` has the check of each crate at work, and
+        `free` tells how much memory is free; crates that are `busy` for another reason are left out."""
+        places = self.processors - len(running)
+        ready = [it for it in self.ready(done, running) if it not in busy]
+        if places <= 0 or not ready:
             return None
-        free = min(free, self.memory - sum(self.memory_of(it, jobs) for it, jobs in running.items()))
-        for name in self.ready(done, running):
-            if name in busy:
+        free = min(free, self.memory - sum(self.memory_of(it, check.jobs) for it, check in running.items()))
+        chains = self.chains(done, running)
+        longest = max(chains.values())
+        near = [it for it in ready if chains[it] >= NEAR * longest]
+        takers = near[:places] if self.is_bound(done, running) else near
+        at_work = [it for it in running if chains[it] >= NEAR * longest]
+        for name in ready:
+            if running and name not in near and self.idle(running, running) <= 0:
                 continue
-            jobs = 1 if self.niceness(name, done) else min(MOST_JOBS, self.processors)
-            while jobs > 1 and self.memory_of(name, jobs) > free:
+            jobs = min(MOST_JOBS, self.processors) if chains[name] >= FRONT * longest else 1
+            idle = self.idle({*at_work, *takers} - {name}, running)
+            # (each further prover has to find a part of a processor)
+            while jobs > 1 and (BUSY[jobs - 1] > idle or self.memory_of(name, jobs) > free):
                 jobs -= 1
             if not running or self.memory_of(name, jobs) <= free:
                 return name, jobs
         return None
 
     def processors_of(self, running):
-        """How many processors each crate at work keeps busy, the longest chain first."""
+        """How many processors each crate at work has, the longest chain first. `running` tells their provers."""
         idle, found = self.processors, {}
         for name in sorted(running, key=lambda it: -self.behind[it]):
             found[name] = max(min(BUSY[running[name]], idle), LEAST)
             idle -= found[name]
         return found
 
-    def seconds_left(self, done, running, rate):
-        """How long the rest takes where one processor does `rate` lines a second. `running` tells the provers of each
-        crate at work and the seconds since it began."""
-        done, now = set(done), 0.0
-        jobs_of = {it: jobs for it, (jobs, _) in running.items()}
-        at_work, left = self.processors_of(jobs_of), {}
-        for name, (_, seconds) in running.items():
+    def checks(self, running, rate):
+        """What is left of the crates at work where one processor does `rate` lines a second. `running` tells the provers
+        of each and the seconds since it began."""
+        at_work, found = self.processors_of({it: jobs for it, (jobs, _) in running.items()}), {}
+        for name, (jobs, seconds) in running.items():
             work = self.steps[name].work
-            left[name] = max(work - seconds * rate * at_work[name], work / 20)
+            found[name] = Check(jobs, max(work - seconds * rate * at_work[name], work / 20))
+        return found
+
+    def seconds_left(self, done, running, rate):
+        """How long the rest takes where one processor does `rate` lines a second, `running` as in `next`."""
+        done, running, now = set(done), dict(running), 0.0
         while any(it not in done for it in self.steps):
-            while chosen := self.next(done, jobs_of, self.memory):
-                name, jobs_of[name] = chosen
-                left[name] = self.steps[name].work
-            speeds = {it: rate * count for it, count in self.processors_of(jobs_of).items()}
-            first = min(left, key=lambda it: left[it] / speeds[it])
-            seconds = left[first] / speeds[first]
-            left = {it: rest - seconds * speeds[it] for it, rest in left.items() if it != first}
-            del jobs_of[first]
+            while chosen := self.next(done, running, self.memory):
+                name, jobs = chosen
+                running[name] = Check(jobs, self.steps[name].work)
+            at_work = self.processors_of({it: check.jobs for it, check in running.items()})
+            speeds = {it: rate * count for it, count in at_work.items()}
+            first = min(running, key=lambda it: running[it].left / speeds[it])
+            seconds = running.pop(first).left / speeds[first]
+            running = {it: Check(jobs, left - seconds * speeds[it]) for it, (jobs, left) in running.items()}
             done.add(first)
             now += seconds
         return now

@@ -19,6 +19,11 @@ def steps(**told):
     return {name: schedule.Step(tuple(uses), work, schedule.GIGABYTE) for name, (work, *uses) in told.items()}
 
 
+def begun(plan, **jobs):
+    """Checks with so many provers that have just begun."""
+    return {name: schedule.Check(count, plan.steps[name].work) for name, count in jobs.items()}
+
+
 class Order(unittest.TestCase):
     def test_longest_chain_first(self):
         plan = schedule.Plan(steps(a=(900,), b=(10,), c=(10, "b"), d=(900, "c"), e=(900, "d")), 1, MUCH)
@@ -28,30 +33,32 @@ class Order(unittest.TestCase):
 
     def test_waits_for_what_it_uses(self):
         plan = schedule.Plan(steps(a=(10,), b=(10, "a")), 4, MUCH)
-        self.assertIsNone(plan.next(set(), {"a": 1}, MUCH))
+        self.assertIsNone(plan.next(set(), begun(plan, a=1), MUCH))
         self.assertEqual(plan.next({"a"}, {}, MUCH)[0], "b")
 
     def test_no_more_crates_than_processors(self):
         plan = schedule.Plan(steps(a=(10,), b=(20,), c=(30,)), 2, MUCH)
         self.assertEqual(plan.next(set(), {}, MUCH), ("c", 2))
-        self.assertEqual(plan.next(set(), {"c": 2}, MUCH), ("b", 1))
-        self.assertIsNone(plan.next(set(), {"c": 2, "b": 1}, MUCH))
+        self.assertEqual(plan.next(set(), begun(plan, c=2), MUCH), ("b", 1))
+        self.assertIsNone(plan.next(set(), begun(plan, c=2, b=1), MUCH))
 
     def test_provers(self):
         for processors, provers in ((1, 1), (2, 2), (3, 3), (4, 3), (8, 3)):
             with self.subTest(processors=processors):
                 plan = schedule.Plan(steps(a=(10,), b=(20,), c=(30,)), processors, MUCH)
                 self.assertEqual(plan.next(set(), {}, MUCH), ("c", provers))
-        # what is not the longest has one, and the longest has several also beside as many others as there are processors but one
+        # what is far shorter has one, and beside as many of those as there are processors but one the longest has several
         plan = schedule.Plan(steps(a=(10,), b=(20,), c=(30,), d=(5,), e=(5,)), 4, MUCH)
-        self.assertEqual(plan.next(set(), {"c": 3}, MUCH), ("b", 1))
-        self.assertEqual(plan.next(set(), {"b": 1, "d": 1, "e": 1}, MUCH), ("c", 3))
-        self.assertIsNone(plan.next(set(), {"a": 1, "b": 1, "d": 1, "e": 1}, MUCH))
+        self.assertEqual(plan.next(set(), begun(plan, c=3), MUCH), ("b", 1))
+        self.assertEqual(plan.next(set(), begun(plan, b=1, d=1, e=1), MUCH), ("c", 3))
+        self.assertIsNone(plan.next(set(), begun(plan, a=1, b=1, d=1, e=1), MUCH))
 
     def test_two_chains_of_one_length(self):
         plan = schedule.Plan(steps(a=(100,), b=(99,), c=(90,)), 4, MUCH)
-        self.assertEqual(plan.next(set(), {"a": 3}, MUCH), ("b", 3))
-        self.assertEqual(plan.next(set(), {"a": 3, "b": 3}, MUCH), ("c", 1))
+        # the second has what the first and the third leave
+        self.assertEqual(plan.next(set(), {}, MUCH), ("a", 3))
+        self.assertEqual(plan.next(set(), begun(plan, a=3), MUCH), ("b", 2))
+        self.assertEqual(plan.next(set(), begun(plan, a=3, b=2), MUCH), ("c", 1))
 
     def test_crates_that_are_busy(self):
         plan = schedule.Plan(steps(a=(10,), b=(20,)), 1, MUCH)
@@ -64,16 +71,67 @@ class Niceness(unittest.TestCase):
     PLAN = schedule.Plan(steps(a=(200,), b=(1000, "a"), c=(900, "a"), d=(500, "a"), e=(200, "a")), 4, MUCH)
 
     def test_longest_chain_gives_way_to_none(self):
-        self.assertEqual(self.PLAN.niceness("a", set()), 0)
-        self.assertEqual(self.PLAN.niceness("b", {"a"}), 0)
+        self.assertEqual(self.PLAN.niceness("a", set(), {}), 0)
+        self.assertEqual(self.PLAN.niceness("b", {"a"}, {}), 0)
 
     def test_shorter_chains_give_way(self):
         # a tenth shorter, half as long, and less than that
-        self.assertEqual([self.PLAN.niceness(it, {"a"}) for it in "cde"], [3, 19, 19])
+        self.assertEqual([self.PLAN.niceness(it, {"a"}, {}) for it in "cde"], [3, 19, 19])
 
     def test_what_is_longest_once_others_are_done(self):
-        self.assertEqual([self.PLAN.niceness(it, {"a", "b"}) for it in "cde"], [0, 16, 19])
-        self.assertEqual(self.PLAN.niceness("e", {"a", "b", "c", "d"}), 0)
+        self.assertEqual([self.PLAN.niceness(it, {"a", "b"}, {}) for it in "cde"], [0, 16, 19])
+        self.assertEqual(self.PLAN.niceness("e", {"a", "b", "c", "d"}, {}), 0)
+
+    def test_what_is_left_of_those_at_work(self):
+        # of b so much is left: c's chain is shorter by 50 of 950 and d's by 450, or c's is the longest
+        for left, more in ((1000, [3, 19]), (950, [2, 18]), (900, [0, 16]), (400, [0, 16])):
+            with self.subTest(left=left):
+                running = {"b": schedule.Check(3, left)}
+                self.assertEqual([self.PLAN.niceness(it, {"a"}, running) for it in "cd"], more)
+
+
+class AtWork(unittest.TestCase):
+    """What begins beside others at work on four processors."""
+
+    def test_chain_that_has_become_the_longest(self):
+        # the chains take 15600 and 14000, and once repair has 150 of its 3000 left, 12750 and 14000
+        told = steps(repair=(3000,), json=(1400,), editor=(2600, "repair", "json"), rest=(10000, "editor"))
+        plan = schedule.Plan(told, 4, MUCH)
+        running = begun(plan, repair=3)
+        self.assertEqual((plan.next(set(), running, MUCH), plan.niceness("json", set(), running)), (("json", 1), 3))
+        running["repair"] = schedule.Check(3, 150)
+        self.assertEqual((plan.next(set(), running, MUCH), plan.niceness("json", set(), running)), (("json", 3), 0))
+
+    def test_no_more_provers_than_find_a_processor(self):
+        plan = schedule.Plan(steps(a=(100,), b=(100,), c=(90,), d=(90,), e=(50,)), 4, MUCH)
+        # b, c and d take one each, so that a has one, of which a second prover finds a part; e is not near
+        self.assertEqual(plan.next(set(), begun(plan, b=1), MUCH), ("a", 2))
+        self.assertEqual(plan.next({"d"}, begun(plan, b=1), MUCH), ("a", 3))
+        self.assertEqual(plan.next({"c", "d"}, begun(plan, b=1, e=1), MUCH), ("a", 3))
+        self.assertEqual(plan.next(set(), begun(plan, b=2), MUCH), ("a", 1))
+
+    def test_what_can_begin_where_one_chain_is_the_limit(self):
+        # six chains of 1100 each and 1600 left in all: of the others only three find a place, and the first has one more
+        low = {name: (100,) for name in "abcdef"}
+        plan = schedule.Plan(steps(**low, last=(1000, *low)), 4, MUCH)
+        self.assertEqual(plan.next(set(), {}, MUCH), ("a", 2))
+        self.assertEqual(plan.next(set(), begun(plan, a=2), MUCH), ("b", 1))
+        self.assertEqual(plan.next(set(), begun(plan, a=2, b=1, c=1), MUCH), ("d", 1))
+        # beside one apart with 900 left of 5000 there are 2500 in all, 1.7 times which four processors do in the time of 1062
+        plan = schedule.Plan(steps(**low, last=(1000, *low), apart=(5000,)), 4, MUCH)
+        self.assertEqual(plan.next(set(), {"apart": schedule.Check(1, 900)}, MUCH), ("a", 2))
+        # with 1000 left it would be 1105, so all the others count
+        self.assertEqual(plan.next(set(), {"apart": schedule.Check(1, 1000)}, MUCH), ("a", 1))
+        # without the last there are 600 left, which is more than four processors do in the time of one
+        self.assertEqual(schedule.Plan(steps(**low), 4, MUCH).next(set(), {}, MUCH), ("a", 1))
+
+    def test_far_crates_take_no_place(self):
+        plan = schedule.Plan(steps(a=(1000,), b=(800,), c=(760,), d=(750,), e=(740,)), 4, MUCH)
+        # the near ones begin also where all processors are busy, by 2 + 1 + 1
+        self.assertEqual(plan.next(set(), begun(plan, a=3, b=1, c=1), MUCH), ("d", 1))
+        self.assertIsNone(plan.next({"d"}, begun(plan, a=3, b=1, c=1), MUCH))
+        self.assertEqual(plan.next({"d"}, begun(plan, a=2, b=1, c=1), MUCH), ("e", 1))
+        self.assertEqual(plan.next({"d"}, begun(plan, a=3, b=1), MUCH, {"c"}), ("e", 1))
 
 
 class Memory(unittest.TestCase):
@@ -86,19 +144,19 @@ class Memory(unittest.TestCase):
         self.assertEqual(self.plan.next(set(), {}, MUCH), ("c", 3))
         self.assertEqual(self.plan.next(set(), {}, 17 * TENTH), ("c", 3))
         self.assertEqual(self.plan.next(set(), {}, 16 * TENTH), ("c", 2))
-        self.assertEqual(self.plan.next(set(), {"b": 1}, MUCH), ("c", 3))
-        self.assertEqual(self.plan.next(set(), {"b": 1, "a": 1}, MUCH), ("c", 1))
+        self.assertEqual(self.plan.next(set(), begun(self.plan, b=1), MUCH), ("c", 3))
+        self.assertEqual(self.plan.next(set(), begun(self.plan, b=1, a=1), MUCH), ("c", 1))
 
     def test_nothing_beyond_what_is_free(self):
         # by what is reckoned for those at work, and by what the machine has now
-        self.assertEqual(self.plan.next(set(), {"c": 3}, MUCH), ("b", 1))
-        self.assertIsNone(self.plan.next(set(), {"c": 3, "b": 1}, MUCH))
-        self.assertEqual(self.plan.next(set(), {"c": 1}, 10 * TENTH), ("b", 1))
-        self.assertIsNone(self.plan.next(set(), {"c": 1}, 9 * TENTH))
+        self.assertEqual(self.plan.next(set(), begun(self.plan, c=3), MUCH), ("b", 1))
+        self.assertIsNone(self.plan.next(set(), begun(self.plan, c=3, b=1), MUCH))
+        self.assertEqual(self.plan.next(set(), begun(self.plan, c=1), 10 * TENTH), ("b", 1))
+        self.assertIsNone(self.plan.next(set(), begun(self.plan, c=1), 9 * TENTH))
 
     def test_smaller_crate_where_the_larger_does_not_fit(self):
         self.plan.steps["b"] = self.plan.steps["b"]._replace(memory=20 * TENTH)
-        self.assertEqual(self.plan.next(set(), {"c": 3}, MUCH), ("a", 1))
+        self.assertEqual(self.plan.next(set(), begun(self.plan, c=3), MUCH), ("a", 1))
 
     def test_first_begins_where_there_is_never_enough(self):
         self.assertEqual(schedule.Plan(steps(a=(10,)), 8, 0).next(set(), {}, 0), ("a", 1))
@@ -115,11 +173,22 @@ class Reckoning(unittest.TestCase):
 
 
 class Guess(unittest.TestCase):
+    def test_what_is_left(self):
+        plan = schedule.Plan(steps(a=(400,), b=(300,)), 2, MUCH)
+        # of the two processors, 1.6 for the longer chain and 0.4 for the other, each for 10 seconds at 10 lines
+        found = plan.checks({"b": (1, 10.0), "a": (2, 10.0)}, 10)
+        self.assertEqual([found[it].jobs for it in "ab"], [2, 1])
+        self.assertAlmostEqual(found["a"].left, 240)
+        self.assertAlmostEqual(found["b"].left, 260)
+        # a twentieth is left of what takes longer than was reckoned, and all where the rate is not known yet
+        self.assertEqual(plan.checks({"a": (1, 1000.0)}, 10), {"a": schedule.Check(1, 20)})
+        self.assertEqual(plan.checks({"a": (1, 1000.0)}, 0.0), {"a": schedule.Check(1, 400)})
+
     def test_one_after_another(self):
         plan = schedule.Plan(steps(a=(200,), b=(400, "a")), 1, MUCH)
         # at 10 lines a second
         self.assertAlmostEqual(plan.seconds_left(set(), {}, 10), 60)
-        self.assertAlmostEqual(plan.seconds_left(set(), {"a": (1, 5.0)}, 10), 55)
+        self.assertAlmostEqual(plan.seconds_left(set(), plan.checks({"a": (1, 5.0)}, 10), 10), 55)
         self.assertAlmostEqual(plan.seconds_left({"a"}, {}, 10), 40)
 
     def test_several_provers(self):
@@ -136,7 +205,7 @@ class Guess(unittest.TestCase):
 
     def test_late(self):
         plan = schedule.Plan(steps(a=(400,)), 1, MUCH)
-        self.assertGreater(plan.seconds_left(set(), {"a": (1, 1000.0)}, 10), 0)
+        self.assertGreater(plan.seconds_left(set(), plan.checks({"a": (1, 1000.0)}, 10), 10), 0)
         self.assertEqual(plan.seconds_left({"a"}, {}, 10), 0)
 
 

@@ -3,12 +3,10 @@ use Rattle.std.proofs.Common.{◌≡◌, ℕ, ◌<◌, List, length, Some, arith
 use Rattle.std.specs.Prelude.{◌≢◌}
 use Rattle.ml_io.specs.Files.{FileSet, IsLoaded, IsTooLong}
 use Rattle.ml_cert.specs.SlotsText.{AreSlotLines, IsSlotsFault}
-use Rattle.ml_cert.specs.declared.fault.SlotsFault.{SlotsFault}
 use Rattle.ml_cert.specs.declared.fault.SlotsFault.TheVariants as slots_fault
 use Rattle.ml_cone.specs.declared.label.Label.{Label}
 use Rattle.ml_cone.specs.declared.slot.Slot.{Slot}
 use Rattle.ml_follow.specs.States.{AreStates, IsStatesFault}
-use Rattle.ml_follow.specs.declared.fault.StateFault.{StateFault}
 use Rattle.ml_follow.specs.declared.fault.StateFault.TheVariants as state_fault
 use Rattle.ml_follow.specs.declared.state.State.{State}
 use Rattle.ml_pass.specs.Table.{IsTable, IsTableFault}

@@ -1,5 +1,5 @@
 -- Where what the words ask for is ready and no count of faults rose, it is answered, or memory was wanting.
-use Rattle.std.proofs.Common.{◌≡◌, ℕ, ◌≤◌, List, Some, refl, sym, subst, ◌∙◌, inl, inr, arith}
+use Rattle.std.proofs.Common.{◌≡◌, ℕ, List, Some, refl, sym, subst, ◌∙◌, inl, inr, arith}
 use Rattle.std.specs.Prelude.{◌⊎◌, Option}
 use Rattle.ml_io.specs.Calls.{Put}
 use Rattle.ml_ratio.specs.Count.{one_more}

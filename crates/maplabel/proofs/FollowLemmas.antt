@@ -1,5 +1,5 @@
 -- States that are offered one after another.
-use Rattle.std.proofs.Common.{◌≡◌, ℕ, ◌+◌, ◌≤◌, Bool, true, false, List, [], ◌∷◌, ◌++◌, length, take, Option, Some, None, Ok, Err, arith, refl, sym, ap, ◌∙◌, subst, inl, inr, append_assoc, length-append}
+use Rattle.std.proofs.Common.{◌≡◌, ℕ, ◌+◌, Bool, true, false, List, [], ◌∷◌, ◌++◌, length, take, Option, Some, None, Ok, Err, arith, refl, sym, ap, ◌∙◌, subst, inl, inr, append_assoc, length-append}
 use Rattle.std.specs.Prelude.{MatchBool, ◌&&◌}
 use Rattle.std.proofs.Math.ListN.{get_or-append}
 use Rattle.std.proofs.lemmas.Grind.{flat_map-append}

@@ -1,14 +1,36 @@
--- What a run that makes a map keeps.
+-- What a run comes to where an answer was due, and what making a map keeps.
+use Rattle.std.proofs.Common.{◌≡◌, ℕ, List, Ok, Err, refl, inl, inr}
+use Rattle.std.specs.Prelude.{◌⊎◌, Result, IfOk, IfErr}
+use Rattle.ml_io.specs.Calls.{Put}
 use Rattle.ml_io.specs.Files.{Seen, KeptName}
-use Rattle.maplabel.specs.Inputs.{StopKeeps}
+use Rattle.maplabel.specs.Inputs.{Keeps}
 use Rattle.maplabel.specs.Making.{IsMakingStop}
+use Rattle.maplabel.specs.Outcome.{IsAnswerPrinted, IsVerdictPrinted}
+use Rattle.maplabel.specs.Run.{IsTold, IsStopped}
+use Rattle.maplabel.specs.declared.status.Status.{Status}
+use Rattle.maplabel.specs.declared.status.Status.TheVariants.{Done}
 use Rattle.maplabel.specs.declared.stop.Stop.{Stop}
 use Rattle.maplabel.specs.declared.stop.Stop.TheVariants as stop
 
--- a stop of making is no file fault
-pub making_keeps : (saw : Seen) (s : Stop) → KeptName saw → IsMakingStop s → StopKeeps saw s
-making_keeps saw (stop.StyleRefused line) kept is = kept
-making_keeps saw (stop.InputRefused line) kept is = kept
-making_keeps saw stop.FileFault kept is = absurd is
-making_keeps saw stop.TooLong kept is = kept
-making_keeps saw stop.Memory kept is = kept
+-- a text was due, or a stop came in its place, and the one or the other was printed
+pub text_end : (saw : Seen) (out : Put) (due : List ℕ → Type 0) (stops : Stop → Type 0) (answer : Result (List ℕ) Stop) (status : Status)
+    → IfOk answer due → IfErr answer stops → Keeps saw answer → IsAnswerPrinted answer out status
+    → IsTold saw out (λ now text. due text × (now ≡ Done)) status ⊎ IsStopped saw out stops status
+text_end saw out due stops (Ok text) status is why kept printed = inl (Done, text, (is, refl), kept, printed)
+text_end saw out due stops (Err s) status is why kept printed = inr (s, why, kept, printed)
+
+-- the same of a verdict
+pub verdict_end : (saw : Seen) (out : Put) (due : Status → List ℕ → Type 0) (stops : Stop → Type 0) (answer : Result (Status × List ℕ) Stop) (status : Status)
+    → IfOk answer (λ verdict. due verdict.0 verdict.1) → IfErr answer stops → Keeps saw answer → IsVerdictPrinted answer out status
+    → IsTold saw out due status ⊎ IsStopped saw out stops status
+verdict_end saw out due stops (Ok verdict) status is why kept printed = inl (verdict.0, verdict.1, is, kept, printed)
+verdict_end saw out due stops (Err s) status is why kept printed = inr (s, why, kept, printed)
+
+-- making a map loads no file
+pub making_keeps : (saw : Seen) (answer : Result (List ℕ) Stop) → KeptName saw → IfErr answer IsMakingStop → Keeps saw answer
+making_keeps saw (Ok text) kept why = kept
+making_keeps saw (Err (stop.StyleRefused line)) kept why = kept
+making_keeps saw (Err (stop.InputRefused line)) kept why = kept
+making_keeps saw (Err stop.FileFault) kept why = absurd why
+making_keeps saw (Err stop.TooLong) kept why = kept
+making_keeps saw (Err stop.Memory) kept why = kept

@@ -1,6 +1,5 @@
 -- The stays of labels, and their lines, a label more at a time.
 use Rattle.std.proofs.Common.{◌≡◌, ℕ, ◌+◌, ◌<◌, List, [], ◌∷◌, ◌++◌, length, get_or, take, arith, sym, ap, ◌∙◌, inl, inr, refl, append_assoc}
-use Rattle.std.specs.Prelude.{All}
 use Rattle.std.proofs.Math.ListN.{get_or-append}
 use Rattle.std.proofs.Math.Seq.{get_or-append_seam}
 use Rattle.std.proofs.lemmas.List.{append-nil, length-append, length-take, take_more, get_or_default}

@@ -1,5 +1,5 @@
 -- What is due of a command, and what is printed.
-use Rattle.std.specs.Prelude.{◌≡◌, ℕ, List, [], Option, codes, ◌⊎◌}
+use Rattle.std.specs.Prelude.{◌≡◌, ℕ, List, [], Option, Result, Ok, Err, codes, ◌⊎◌}
 use Rattle.ml_io.specs.Calls.{Put}
 use Rattle.ml_ratio.specs.Count.{one_more}
 use Rattle.ml_io.specs.Causes.{Appends, AppendsPart}
@@ -11,7 +11,7 @@ use Rattle.maplabel.specs.Answers.{IsVerdictTold, status_of}
 use Rattle.maplabel.specs.Inputs.{HasTable, IsTableStop, IsSlotsStop}
 use Rattle.maplabel.specs.MapInputs.{HasStyle, IsStyleStop, IsMapStop}
 use Rattle.maplabel.specs.declared.status.Status.{Status}
-use Rattle.maplabel.specs.declared.status.Status.TheVariants.{StyleRefused, InputRefused, FileFault, WriteFault, Memory, TooLong}
+use Rattle.maplabel.specs.declared.status.Status.TheVariants.{Done, StyleRefused, InputRefused, FileFault, WriteFault, Memory, TooLong}
 use Rattle.maplabel.specs.declared.stop.Stop.{Stop}
 use Rattle.maplabel.specs.declared.stop.Stop.TheVariants as stop
 
@@ -50,3 +50,13 @@ IsStopLine stop.Memory status text = (status ≡ Memory) × (text ≡ [])
 -- the line of a stop was printed, whole or as a write fault leaves it
 abbrev pub IsStopPrinted : Stop → Put → Status → Type 0
 IsStopPrinted s out result = (status : Status) × (text : List ℕ) × IsStopLine s status text × IsPrinted text status out result
+
+-- a text that was due was printed, or the line of the stop that came in its place
+abbrev pub IsAnswerPrinted : Result (List ℕ) Stop → Put → Status → Type 0
+IsAnswerPrinted (Ok text) out result = IsPrinted text Done out result
+IsAnswerPrinted (Err s) out result = IsStopPrinted s out result
+
+-- the line of a verdict was printed under its status, or the line of the stop that came in its place
+abbrev pub IsVerdictPrinted : Result (Status × List ℕ) Stop → Put → Status → Type 0
+IsVerdictPrinted (Ok verdict) out result = IsPrinted verdict.1 verdict.0 out result
+IsVerdictPrinted (Err s) out result = IsStopPrinted s out result

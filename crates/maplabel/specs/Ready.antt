@@ -1,5 +1,5 @@
 -- When nothing but want of memory keeps a command from being done.
-use Rattle.std.specs.Prelude.{ℕ, List, Option, Some, ◌⊎◌, ◌≡◌}
+use Rattle.std.specs.Prelude.{ℕ, List, Some, ◌⊎◌, ◌≡◌}
 use Rattle.ml_io.specs.Causes.{Rose}
 use Rattle.ml_io.specs.Files.{FileSet}
 use Rattle.ml_cone.specs.declared.label.Label.{Label}

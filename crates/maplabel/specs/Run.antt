@@ -58,6 +58,12 @@ IsSiteServed r Pipe first status = IsPiped r.hearing first r.old.crowd r.new.cro
 IsSiteServed r (Serve port count) first status =
     IsAllServed r.hearing r.ends first r.old.crowd r.new.crowd port count r.door r.out status × (r.new.input ≡ r.old.input)
 
+-- states were not loaded, as the line says, and the watchers stay as they were; or the states were followed
+abbrev pub IsFollowEnd : {W : Type 0} → (W → Hearing) → Seen → Put → List ℕ → List W → List W → Status → Type 0
+IsFollowEnd hearing files out name crowd crowd_after status =
+    (IsStopped files out (IsStatesStop files name) status × (crowd_after ≡ crowd))
+    ⊎ ((states : List follow.State) × HasStates files.told name states × KeptName files × IsFollowed hearing states crowd crowd_after out status)
+
 -- a command ended so
 abbrev pub IsDone : {S D I O W : Type 0} → Call S D I O W → Command → Status → Type 0
 IsDone r (OnTable table task) status = IsTextEnd r (λ now text. IsTableAnswer r.files.told table.now task text × (now ≡ Done)) (IsTableStop r.files table.now) status

@@ -1,6 +1,9 @@
 //! A map that is loaded to be served.
-ghost use Rattle.std.specs.Prelude.{◌≡◌, ◌≤◌, IfOk, IfErr};
+ghost use Rattle.std.specs.Prelude.{◌≡◌, ◌≤◌, IfOk, IfErr, length};
+ghost use Rattle.ml_ratio.specs.Limits.{most_labels};
 ghost use Rattle.ml_io.specs.Files.{seen};
+ghost use Rattle.ml_editor.specs.State.{first_state};
+ghost use Rattle.ml_geojson.specs.Map.{HaveDifferentIds};
 ghost use Rattle.maplabel.specs.Inputs.{Keeps};
 ghost use Rattle.maplabel.specs.Outcome.{IsMapAnswerStop};
 ghost use Rattle.maplabel.specs.Serving.{IsFirstState, no_tiles};
@@ -9,6 +12,8 @@ use crate::map_inputs::{load_map, load_style};
 use crate::stop::Stop;
 use ml_editor::{Editor, LoadRefused};
 use ml_io::Files;
+use ml_ratio::{Feature, Seq};
+use ml_style::Style;
 use ml_tile::Tiles;
 use std::alloc::{AllocError, Global};
 
@@ -34,13 +39,30 @@ pub fn load_editor<F: Files>(
 {
     let classes = load_style(alloc, files, style)?;
     let features = load_map(alloc, files, map)?;
+    let site = site_of(alloc, classes, features)?;
+    Ok(site)
+}
+
+// The map of these features under the style, at its first revision, and room for tiles of it.
+fn site_of(alloc: Global, classes: Style, features: Seq<Feature>) -> Result<Site, AllocError>
+    requires differ { HaveDifferentIds features }
+    requires few { length features ≤ most_labels }
+    ensures state { IfOk result (λ p. p.0.state ≡ first_state classes features) }
+    ensures none { IfOk result (λ p. p.1 ≡ no_tiles) }
+{
     match Editor::load(alloc, classes, features) {
-        Ok(editor) => match Tiles::new(alloc) {
-            Ok(tiles) => Ok((editor, tiles)),
-            Err(AllocError) => Err(Stop::Memory),
-        },
-        // the map was read, so it has no more features than there may be
+        Ok(editor) => with_tiles(alloc, editor),
+        // there are no more features than there may be
         Err(LoadRefused::Full) => unreachable!(),
-        Err(LoadRefused::Memory) => Err(Stop::Memory),
+        Err(LoadRefused::Memory) => Err(AllocError),
     }
+}
+
+// The map, and room for tiles of it.
+fn with_tiles(alloc: Global, editor: Editor) -> Result<Site, AllocError>
+    ensures state { IfOk result (λ p. p.0.state ≡ editor.state) }
+    ensures none { IfOk result (λ p. p.1 ≡ no_tiles) }
+{
+    let tiles = Tiles::new(alloc)?;
+    Ok((editor, tiles))
 }

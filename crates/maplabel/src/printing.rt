@@ -1,12 +1,13 @@
 //! What a run prints.
 ghost use Rattle.std.specs.Prelude.{◌≤◌};
 ghost use Rattle.ml_io.specs.Calls.{put};
-ghost use Rattle.maplabel.specs.Outcome.{IsPrinted, IsStopPrinted, usage_line};
+ghost use Rattle.maplabel.specs.Outcome.{IsAnswerPrinted, IsPrinted, IsStopPrinted, IsVerdictPrinted, usage_line};
 ghost use Rattle.maplabel.specs.declared.status.Status.TheVariants.{Usage};
 
 use crate::status::Status;
 use crate::stop::Stop;
 use ml_io::{Failed, Sink, put_all};
+use ml_ratio::Seq;
 
 // What is printed for words that have none of the forms.
 const USAGE: &str = "usage: maplabel show, slots, check, view, pipe, serve or gen\n";
@@ -33,6 +34,30 @@ pub fn print_stop<K: Sink>(out: &mut K, stop: &Stop) -> Status
         Stop::FileFault => print(out, b"file fault\n", Status::FileFault),
         Stop::TooLong => print(out, b"file too long\n", Status::TooLong),
         Stop::Memory => print(out, b"", Status::Memory),
+    }
+}
+
+/// Prints a text that was due, or the line that says why there is none, and gives the status;
+/// `WriteFault` where not all was printed.
+pub fn print_answer<K: Sink>(out: &mut K, answer: Result<Seq<u8>, Stop>) -> Status
+    ensures printed { IsAnswerPrinted answer (put K.written K.faults out.old out.new) result }
+    ensures later { K.faults out.old ≤ K.faults out.new }
+{
+    match answer {
+        Ok(text) => print(out, text.as_slice(), Status::Done),
+        Err(stop) => print_stop(out, &stop),
+    }
+}
+
+/// Prints the line of a verdict, or the one that says why there is none, and gives the status;
+/// `WriteFault` where not all was printed.
+pub fn print_verdict<K: Sink>(out: &mut K, answer: Result<(Status, Seq<u8>), Stop>) -> Status
+    ensures printed { IsVerdictPrinted answer (put K.written K.faults out.old out.new) result }
+    ensures later { K.faults out.old ≤ K.faults out.new }
+{
+    match answer {
+        Ok((status, line)) => print(out, line.as_slice(), status),
+        Err(stop) => print_stop(out, &stop),
     }
 }
 

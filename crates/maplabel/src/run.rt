@@ -2,7 +2,8 @@
 ghost use Rattle.std.specs.Prelude.{◌≡◌, ◌≤◌, None, false, map, string_bytes};
 ghost use Rattle.ml_io.specs.Files.{seen};
 ghost use Rattle.ml_io.specs.Calls.{put, taken, passed, link_ends};
-ghost use Rattle.maplabel.specs.Run.{IsRun, lending};
+ghost use Rattle.maplabel.specs.Run.{IsDone, IsFollowEnd, IsRun, lending};
+ghost use Rattle.maplabel.specs.declared.command.Command.TheVariants.{Live};
 
 use crate::check::check;
 use crate::command::{Command, LiveTask, read_command};
@@ -10,7 +11,7 @@ use crate::following::{follow, load_states};
 use crate::loading::load_editor;
 use crate::making::totals_of;
 use crate::map::on_map;
-use crate::printing::{print, print_stop, print_usage};
+use crate::printing::{print_answer, print_stop, print_usage, print_verdict};
 use crate::serving::{pipe, serve_at};
 use crate::status::Status;
 use crate::table::on_table;
@@ -55,35 +56,79 @@ pub fn run<F: Files, S: Source, K: Sink, D: Door, W: Watcher>(
     ensures out { D.is_out door.new ≡ false }
 {
     match read_command(words) {
-        Some(Command::OnTable(table, task)) => match on_table(alloc, files, table, task) {
-            Ok(text) => print(out, text.as_slice(), Status::Done),
-            Err(stop) => print_stop(out, &stop),
-        },
-        Some(Command::Judge(table, slots)) => match check(alloc, files, table, slots) {
-            Ok((status, text)) => print(out, text.as_slice(), status),
-            Err(stop) => print_stop(out, &stop),
-        },
-        Some(Command::OnMap(style, map, task)) => match on_map(alloc, files, style, map, task) {
-            Ok(text) => print(out, text.as_slice(), Status::Done),
-            Err(stop) => print_stop(out, &stop),
-        },
-        Some(Command::Live(style, map, task)) => match load_editor(alloc, files, style, map) {
-            Ok(site) => match task {
-                LiveTask::Pipe => pipe(alloc, site, input, out, crowd),
-                LiveTask::Serve(port, count) => {
-                    serve_at(alloc, site, out, door, crowd, Hours { port, count })
-                }
-            },
-            Err(stop) => print_stop(out, &stop),
-        },
-        Some(Command::Make(groups, seed)) => match totals_of(alloc, groups, seed) {
-            Ok(text) => print(out, text.as_slice(), Status::Done),
-            Err(stop) => print_stop(out, &stop),
-        },
-        Some(Command::Follow(name)) => match load_states(alloc, files, name) {
-            Ok(states) => follow(alloc, states, out, crowd),
-            Err(stop) => print_stop(out, &stop),
-        },
+        Some(Command::OnTable(table, task)) => {
+            print_answer(out, on_table(alloc, files, table, task))
+        }
+        Some(Command::Judge(table, slots)) => print_verdict(out, check(alloc, files, table, slots)),
+        Some(Command::OnMap(style, map, task)) => {
+            print_answer(out, on_map(alloc, files, style, map, task))
+        }
+        Some(Command::Live(style, map, task)) => {
+            live(alloc, style, map, task, files, input, out, door, crowd)
+        }
+        Some(Command::Make(groups, seed)) => print_answer(out, totals_of(alloc, groups, seed)),
+        Some(Command::Follow(name)) => follow_file(alloc, name, files, out, crowd),
         None => print_usage(out),
+    }
+}
+
+// Loads a map, and serves connections over it.
+fn live<F: Files, S: Source, K: Sink, D: Door, W: Watcher>(
+    alloc: Global,
+    style: &str,
+    map: &str,
+    task: LiveTask,
+    files: &mut F,
+    input: &mut S,
+    out: &mut K,
+    door: &mut D,
+    crowd: &mut Crowd<W>,
+) -> Status
+    requires fresh { D.at_port door.old ≡ None }
+    requires out { D.is_out door.old ≡ false }
+    ensures end { IsDone
+        (record {
+          files = seen F.told F.faults F.failed_name files.old files.new;
+          out = put K.written K.faults out.old out.new;
+          input = taken S.left S.faults input.old input.new;
+          door = passed D.coming D.served D.faults D.at_port D.listens door.old door.new;
+          old = lending input.old door.old crowd.old;
+          new = lending input.new door.new crowd.new;
+          hearing = W.hearing;
+          ends = link_ends D.In.left D.In.faults D.Out.written D.Out.faults;
+        })
+        (Live style.entry map.entry task) result }
+    ensures same { F.told files.new ≡ F.told files.old }
+    ensures later { (F.faults files.old ≤ F.faults files.new) × (K.faults out.old ≤ K.faults out.new)
+        × (S.faults input.old ≤ S.faults input.new) × (D.faults door.old ≤ D.faults door.new) }
+    ensures out { D.is_out door.new ≡ false }
+{
+    match load_editor(alloc, files, style, map) {
+        Ok(site) => match task {
+            LiveTask::Pipe => pipe(alloc, site, input, out, crowd),
+            LiveTask::Serve(port, count) => {
+                serve_at(alloc, site, out, door, crowd, Hours { port, count })
+            }
+        },
+        Err(stop) => print_stop(out, &stop),
+    }
+}
+
+// Loads states, and follows them.
+fn follow_file<F: Files, K: Sink, W: Watcher>(
+    alloc: Global,
+    name: &str,
+    files: &mut F,
+    out: &mut K,
+    crowd: &mut Crowd<W>,
+) -> Status
+    ensures end { IsFollowEnd W.hearing (seen F.told F.faults F.failed_name files.old files.new)
+        (put K.written K.faults out.old out.new) name.now crowd.old crowd.new result }
+    ensures same { F.told files.new ≡ F.told files.old }
+    ensures later { (F.faults files.old ≤ F.faults files.new) × (K.faults out.old ≤ K.faults out.new) }
+{
+    match load_states(alloc, files, name) {
+        Ok(states) => follow(alloc, states, out, crowd),
+        Err(stop) => print_stop(out, &stop),
     }
 }

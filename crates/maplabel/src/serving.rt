@@ -5,6 +5,7 @@ ghost use Rattle.maplabel.specs.Serving.{IsPiped, IsAllServed, no_tiles, status_
 
 use crate::loading::Site;
 use crate::status::Status;
+use ml_editor::Editor;
 use ml_http::{ConnEnd, Context, serve_link};
 use ml_io::{Door, Sink, Source};
 use ml_ratio::Steps;
@@ -59,8 +60,7 @@ fn pipe_counted<L: Ledger, S: Source, K: Sink, W: Watcher>(
         &mut tiles,
         &mut steps,
     );
-    // The run ends here, and the system takes back all memory at once.
-    forget(editor);
+    let_go(editor);
     status_of_link(end)
 }
 
@@ -115,9 +115,13 @@ fn serve_counted<L: Ledger, K: Sink, D: Door, W: Watcher>(
         steps: &mut steps,
     };
     let end = serve(&mut context, out, door, hours);
-    // The run ends here, and the system takes back all memory at once.
-    forget(editor);
+    let_go(editor);
     status_of_serving(end)
+}
+
+// Lets go of the map: the run ends here, and the system takes back all memory at once.
+fn let_go(editor: Editor) {
+    forget(editor);
 }
 
 // The status of a run by how its one connection ended.

@@ -1,5 +1,5 @@
 -- What the rules accept, the features allow.
-use Rattle.std.proofs.Common.{◌≡◌, ℕ, ◌<◌, ◌≤◌, List, Option, length, subst, sym, ◌∙◌, arith}
+use Rattle.std.proofs.Common.{◌≡◌, ℕ, ◌≤◌, List, Option, length, subst, sym, ◌∙◌, arith}
 use Rattle.ml_ratio.specs.Limits.{most_labels}
 use Rattle.ml_ratio.specs.declared.feature.Feature.{Feature}
 use Rattle.ml_geojson.specs.Map.{IsFeature, IsSameFeature}

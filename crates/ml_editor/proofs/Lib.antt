@@ -6,6 +6,7 @@ mod Unchanged
 mod Readiness
 mod OneEdit
 mod Refusals
+mod Checks
 mod Changing
 mod Works
 mod Accepted

@@ -1,5 +1,5 @@
 -- Why an edit is refused: of these the first that holds, in this order: RevMoved, Geo, Style, Duplicate, Unknown, Full, RevEnd.
-use Rattle.std.specs.Prelude.{◌≡◌, ◌≢◌, ℕ, List, length, Option, Some, None}
+use Rattle.std.specs.Prelude.{◌≡◌, ◌≢◌, ◌<◌, ℕ, List, length, Option, Some, None}
 use Rattle.ml_ratio.specs.Limits.{most_labels}
 use Rattle.ml_ratio.specs.declared.feature.Feature.{Feature}
 use Rattle.ml_geojson.specs.Map.{IsFeature, IsFeatureFault}
@@ -74,6 +74,14 @@ IsFull s = length s.features ≡ most_labels
 abbrev pub IsLast : State → Type 0
 IsLast s = s.rev ≡ last_rev
 
+-- why no feature with this id may come as a new one; want of memory says nothing
+abbrev pub IsNewFault : State → List ℕ → EditFault → Type 0
+IsNewFault s id (Duplicate other) = (other ≡ id) × HasFeature s.features id
+IsNewFault s id Full = ¬ (HasFeature s.features id) × IsFull s
+IsNewFault s id RevEnd = ¬ (HasFeature s.features id) × ¬ (IsFull s) × IsLast s
+IsNewFault s id Memory = Unit {0}
+IsNewFault s id fault = ⊥
+
 -- why an addition of the body is refused; want of memory says nothing
 abbrev pub IsAddFault : State → Option ℕ → List ℕ → EditFault → Type 0
 IsAddFault s rev body (RevMoved now) = HasMoved s rev now
@@ -108,6 +116,13 @@ IsStyleFault s rev body (BadStyle fault) = HasStyleFault s rev body fault
 IsStyleFault s rev body RevEnd = IsPresent s rev × ((style : Style) × IsStyle body style) × IsLast s
 IsStyleFault s rev body Memory = Unit {0}
 IsStyleFault s rev body fault = ⊥
+
+-- a feature with this id may come as a new one
+pub record MayCome (s : State) (id : List ℕ) : Type 0 where
+  pub is_new : ¬ (HasFeature s.features id)
+  pub not_full : ¬ (IsFull s)
+  pub room : length s.features < most_labels
+  pub not_last : ¬ (IsLast s)
 
 -- nothing refuses the addition of the body
 pub record IsAddition (s : State) (rev : Option ℕ) (body : List ℕ) : Type 0 where

@@ -1,11 +1,11 @@
 //! What refuses an edit.
-ghost use Rattle.std.specs.Prelude.{◌≡◌, ℕ, IfOk, IfErr, OnOk, MatchBool};
+ghost use Rattle.std.specs.Prelude.{◌≡◌, ℕ, IfOk, IfErr, OnOk, MatchBool, None as any_rev};
 ghost use Rattle.ml_geojson.specs.Map.{IsFeature};
 ghost use Rattle.ml_style.specs.StyleTable.{IsStyle};
 ghost use Rattle.ml_editor.specs.State.{HasFeature, IsAllowed};
 ghost use Rattle.ml_editor.specs.declared.edit.Edit.TheVariants.{Add as add_edit, Replace as replace_edit};
 ghost use Rattle.ml_editor.specs.Editing.{IsEditing};
-ghost use Rattle.ml_editor.specs.Faults.{HasMoved, IsPresent, IsFull, IsLast, IsAddition, IsAddFault, IsReplacement, IsReplaceFault, IsRemoval, IsRemoveFault, IsRestyle, IsStyleFault, IsBodyFault, IsStyleBodyFault};
+ghost use Rattle.ml_editor.specs.Faults.{HasMoved, IsPresent, IsFull, IsLast, IsNewFault, MayCome, IsAddition, IsAddFault, IsReplacement, IsReplaceFault, IsRemoval, IsRemoveFault, IsRestyle, IsStyleFault, IsBodyFault, IsStyleBodyFault};
 
 use crate::editor::Editor;
 use crate::fault::EditFault;
@@ -83,6 +83,37 @@ impl Editor {
         self.revision == LAST_REV
     }
 
+    // Whether a feature with this id may come as a new one.
+    fn check_new(&self, id: &Text) -> Result<(), EditFault>
+        ensures ok { OnOk result (MayCome self.now.state id.now) }
+        ensures err { IfErr result (IsNewFault self.now.state id.now) }
+    {
+        if self.has_feature(id) {
+            return Err(EditFault::Duplicate(id.copy()?));
+        }
+        if self.is_full() {
+            return Err(EditFault::Full);
+        }
+        if self.is_last() {
+            return Err(EditFault::RevEnd);
+        }
+        Ok(())
+    }
+
+    // Whether the feature with this id may be replaced or removed.
+    fn check_known(&self, id: &Text) -> Result<(), EditFault>
+        ensures ok { OnOk result (IsRemoval self.now.state any_rev id.now) }
+        ensures err { IfErr result (IsRemoveFault self.now.state any_rev id.now) }
+    {
+        if !self.has_feature(id) {
+            return Err(EditFault::Unknown(id.copy()?));
+        }
+        if self.is_last() {
+            return Err(EditFault::RevEnd);
+        }
+        Ok(())
+    }
+
     // The feature that is to come, if nothing refuses it.
     pub(crate) fn check_add(
         &self,
@@ -97,16 +128,7 @@ impl Editor {
     {
         self.check_rev(rev)?;
         let feature = read_feature_body(alloc, body)?;
-        if self.has_feature(&feature.id) {
-            return Err(EditFault::Duplicate(feature.id.copy()?));
-        }
-        if self.is_full() {
-            return Err(EditFault::Full);
-        }
-        if self.is_last() {
-            return Err(EditFault::RevEnd);
-        }
-        Ok(feature)
+        self.check_new(&feature.id).and(Ok(feature))
     }
 
     // The feature that is to take the place of that with its id, if nothing refuses it.
@@ -123,13 +145,7 @@ impl Editor {
     {
         self.check_rev(rev)?;
         let feature = read_feature_body(alloc, body)?;
-        if !self.has_feature(&feature.id) {
-            return Err(EditFault::Unknown(feature.id.copy()?));
-        }
-        if self.is_last() {
-            return Err(EditFault::RevEnd);
-        }
-        Ok(feature)
+        self.check_known(&feature.id).and(Ok(feature))
     }
 
     // Whether nothing refuses the removal of the feature with this id.
@@ -138,13 +154,7 @@ impl Editor {
         ensures err { IfErr result (IsRemoveFault self.now.state rev id.now) }
     {
         self.check_rev(rev)?;
-        if !self.has_feature(id) {
-            return Err(EditFault::Unknown(id.copy()?));
-        }
-        if self.is_last() {
-            return Err(EditFault::RevEnd);
-        }
-        Ok(())
+        self.check_known(id)
     }
 
     // The style that is to come, if nothing refuses it.

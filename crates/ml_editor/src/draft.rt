@@ -1,9 +1,9 @@
 //! What is drawn up for an edit.
-ghost use Rattle.std.specs.Prelude.{◌≡◌, ◌+◌, ◌<◌, length, IfOk, IfSome, IsSome};
+ghost use Rattle.std.specs.Prelude.{◌≡◌, ◌+◌, ◌<◌, length, IfOk, IfSome, IsSome, OnOk};
 ghost use Rattle.ml_ratio.specs.Limits.{most_labels};
 ghost use Rattle.ml_store.specs.Rows.{labels_in, HasId};
 ghost use Rattle.ml_repair.specs.Settled.{IsSettled};
-ghost use Rattle.ml_editor.specs.Editing.{IsDraft, IsWorkFor, evaluated_of};
+ghost use Rattle.ml_editor.specs.Editing.{IsDraft, IsWorkFor, changes_of, evaluated_of};
 
 use crate::work::{Work, plan_coming, plan_going};
 use ml_cone::Label;
@@ -20,6 +20,18 @@ pub struct Draft {
     pub(crate) work: Work,
     pub(crate) label: Option<Label>,
     pub(crate) changes: Seq<Change>,
+}
+
+impl Draft {
+    // Takes the changes of the work, as a list of its own.
+    fn copy_changes(&mut self, alloc: Global) -> Result<(), AllocError>
+        ensures changes { OnOk result (self.new.changes ≡ changes_of self.old.work) }
+        ensures work { self.new.work ≡ self.old.work }
+        ensures label { self.new.label ≡ self.old.label }
+    {
+        self.changes = self.work.changes(alloc)?;
+        Ok(())
+    }
 }
 
 // The label again, if there is one.
@@ -72,10 +84,11 @@ pub(crate) fn draft_for<L: Ledger>(
 {
     let label = label_again(&come)?;
     let work = plan_for(engine, alloc, id, come, steps)?;
-    let changes = work.changes(alloc)?;
-    Ok(Draft {
+    let mut draft = Draft {
         work,
         label,
-        changes,
-    })
+        changes: Seq::new(alloc),
+    };
+    let copied = draft.copy_changes(alloc);
+    copied.and(Ok(draft))
 }

@@ -98,13 +98,13 @@ impl Editor {
         ensures room { IfOk result (λ ready. HasRoomFor ready self.new) }
         ensures same { IsSameMap self.old self.new }
     {
-        self.reserve_for(&edit, &draft)?;
-        Ok(Ready {
+        let rev = self.revision + 1;
+        self.reserve_for(&edit, &draft).and(Ok(Ready {
             edit,
             key,
             draft,
-            rev: self.revision + 1,
-        })
+            rev,
+        }))
     }
 
     // The addition of a new feature, made ready.
@@ -162,10 +162,10 @@ impl Editor {
         ensures spent { IfOk result (λ ready. steps.new ≡ steps.old + ready.evaluated) }
         ensures same { IsSameMap self.old self.new }
     {
-        let edit = Edit::Remove(id.copy()?);
+        let removed = id.copy()?;
         let key = id.copy()?;
         let draft = self.draft_removal(alloc, id, steps)?;
-        self.make_ready(edit, key, draft)
+        self.make_ready(Edit::Remove(removed), key, draft)
     }
 
     // The new style, made ready.

@@ -16,7 +16,7 @@ use Rattle.ml_ratio.specs.RatioOrder.{ratio_cmp, ratio_total}
 use Rattle.ml_ratio.proofs.lemmas.Lists.{contains_cons}
 use Rattle.ml_spans.specs.Order.{entry_order, IsRising}
 use Rattle.ml_spans.specs.Spans.{entry_of}
-use Rattle.ml_spans.proofs.Sorted.{rises_sorted}
+use Rattle.ml_spans.proofs.lemmas.Sorted.{rises_sorted}
 use Rattle.ml_grid.specs.Cell.{cell_cmp}
 use Rattle.ml_grid.specs.Entry.{Entry, Adds, AreApart}
 use Rattle.ml_grid.specs.Marks.{cell_marked, number_marked, end_by, entry_marked, marked}

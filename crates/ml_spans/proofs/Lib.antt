@@ -11,5 +11,5 @@ mod Placed
 mod Raised
 mod Replaced
 mod Results
-pub mod Sorted
+pub mod lemmas
 mod Wanted

@@ -1,4 +1,4 @@
-use Rattle.std.proofs.Common.{◌++◌, ◌<◌, ◌∙◌, ap, length, arith, sym}
+use Rattle.std.proofs.Common.{◌<◌, ◌∙◌, ap, length, arith, sym}
 use Rattle.maplabel.proofs.ZoomLemmas.{lines_more}
 use Rattle.maplabel.proofs.zoom_text.lines_of.Goals as goal
 

@@ -1,21 +1,25 @@
-use Rattle.std.proofs.Common.{ℕ, List, refl, subst, sym}
-use Rattle.ml_editor.specs.State.{HasFeature}
+use Rattle.ml_geojson.specs.Map.{IsFeature}
+use Rattle.ml_editor.specs.State.{IsAllowed}
+use Rattle.ml_editor.specs.declared.edit.Edit.TheVariants.{Replace}
+use Rattle.ml_editor.proofs.Checks.{kept_so, refused_so, replace_fault_of, replacement_of}
 use Rattle.ml_editor.proofs.editor.Editor.check_replace.Goals as goal
-
-pub returns-then-not-has_feature-clause-err : goal.returns-then-not-has_feature-clause-err
-returns-then-not-has_feature-clause-err c =
-    let P : List ℕ → Type 0 = λ id. ¬ (HasFeature c.args.self.now.state.features id) in
-    ((c.in_ok-check_rev.ensures.ok, (c.in_ok-feature.feature, c.in_ok-feature.ensures.ok, sym c.in_ok-copy.ensures)), subst P (sym c.in_ok-copy.ensures) c.if-not-has_feature.ensures)
-
-pub returns-then-is_last-clause-err : goal.returns-then-is_last-clause-err
-returns-then-is_last-clause-err c =
-    let f = c.in_ok-feature.feature in
-    ((f.id, ((c.in_ok-check_rev.ensures.ok, (f, c.in_ok-feature.ensures.ok, refl)), c.if-not-has_feature.ensures)), c.if-is_last.ensures.last)
 
 pub returns-clause-ok : goal.returns-clause-ok
 returns-clause-ok c =
     let f = c.in_ok-feature.feature in
-    record {
-      is_known = (f.id, ((c.in_ok-check_rev.ensures.ok, (f, c.in_ok-feature.ensures.ok, refl)), c.if-not-has_feature.ensures));
-      not_last = c.if-is_last.ensures.last;
-    }
+    kept_so f _ _ c.check_known.result _ c.and.ensures (replacement_of c.args.self.now.state c.args.rev c.args.body.now f c.in_ok-check_rev.ensures.ok c.in_ok-feature.ensures.ok) c.check_known.ensures.ok
+
+pub returns-clause-body : goal.returns-clause-body
+returns-clause-body c =
+    let f = c.in_ok-feature.feature in
+    kept_so f _ (IsFeature c.args.body.now) c.check_known.result _ c.and.ensures (λ may. c.in_ok-feature.ensures.ok) c.check_known.ensures.ok
+
+pub returns-clause-allowed : goal.returns-clause-allowed
+returns-clause-allowed c =
+    let f = c.in_ok-feature.feature in
+    kept_so f _ (λ g. IsAllowed c.args.self.now.state.features (Replace g)) c.check_known.result _ c.and.ensures (λ may. may.is_there) c.check_known.ensures.ok
+
+pub returns-clause-err : goal.returns-clause-err
+returns-clause-err c =
+    let f = c.in_ok-feature.feature in
+    refused_so f _ _ c.check_known.result _ c.and.ensures (replace_fault_of c.args.self.now.state c.args.rev c.args.body.now f c.in_ok-check_rev.ensures.ok c.in_ok-feature.ensures.ok) c.check_known.ensures.err

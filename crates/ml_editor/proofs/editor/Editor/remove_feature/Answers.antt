@@ -13,11 +13,11 @@ with_copy e draft id copy same ready =
 
 pub make_ready-requires-clause-of_state : goal.make_ready-requires-clause-of_state
 make_ready-requires-clause-of_state g c =
-    with_copy c.args.self.now c.in_ok-draft.draft c.args.id.now c.in_ok-copy.field-0 c.in_ok-copy.ensures
+    with_copy c.args.self.now c.in_ok-draft.draft c.args.id.now c.in_ok-removed.removed c.in_ok-removed.ensures
     (ready_remove c.args.self.now c.in_ok-draft.draft c.draft_removal.ensures.holds c.requires.not_last c.args.id.now c.requires.allowed c.in_ok-draft.ensures.draft)
 
 pub returns-clause-ready : goal.returns-clause-ready
 returns-clause-ready g c =
     all_ready c.make_ready.result _ c.args.self.now.state c.make_ready.new.self.state c.args.self.now.engine.rows c.make_ready.new.self.engine.rows c.make_ready.ensures.same.state c.make_ready.ensures.same.rows
-    (with_copy c.args.self.now c.in_ok-draft.draft c.args.id.now c.in_ok-copy.field-0 c.in_ok-copy.ensures
+    (with_copy c.args.self.now c.in_ok-draft.draft c.args.id.now c.in_ok-removed.removed c.in_ok-removed.ensures
     (ready_remove c.args.self.now c.in_ok-draft.draft c.draft_removal.ensures.holds c.requires.not_last c.args.id.now c.requires.allowed c.in_ok-draft.ensures.draft)) c.make_ready.ensures.ok
