@@ -7,10 +7,9 @@ come further.
 
 What begins the longest chain, or one that is hardly shorter, has several provers where processors are free for them.
 Taken are those that the near crates at work keep busy, and one for each other near crate that can begin; near are
-those behind which the chain is not much shorter. Where the longest chain bounds the time by far, of those that can
-begin only so many count as find a place. Each other crate has one prover, since each further one does a part of the
-work again. A crate that is not near waits while those at work keep all processors busy: it would take the place of
-one of a longer chain that can begin soon.
+those behind which the chain is not much shorter. Each other crate has one prover, since each further one does a part
+of the work again. A crate that is not near waits while those at work keep all processors busy: it would take the
+place of one of a longer chain that can begin soon.
 
 Each crate gives way the further, the shorter the chain behind it is. So the longest chain has what it can use of the
 processors, and the others have what it leaves: also a check by several provers begins and ends on one processor.
@@ -23,10 +22,8 @@ MOST_JOBS = 3
 # How many processors so many provers of a crate keep busy.
 BUSY = {1: 1.0, 2: 1.6, 3: 2.0}
 # At least so long, as a part of the longest, is a chain whose first crate may have several provers, and one whose first
-# crate is near. A simulation from the times of this repository's crates chose these parts and the next.
+# crate is near. A simulation from the times of this repository's crates chose these parts.
 FRONT, NEAR = 0.95, 0.75
-# The longest chain bounds the time by far where it takes so many times as long as all that is left on all processors.
-BOUND = 1.7
 # What gives way to all others still has a little of the processors.
 LEAST = 0.1
 # The niceness of what gives way to all others.
@@ -88,12 +85,6 @@ class Plan:
             found[name] -= self.steps[name].work - check.left
         return found
 
-    def is_bound(self, done, running):
-        """Whether the longest chain, and not the work of all crates, bounds the time by far."""
-        steps = [step for it, step in self.steps.items() if it not in done and it not in running]
-        left = sum(it.work for it in steps) + sum(it.left for it in running.values())
-        return self.processors * max(self.chains(done, running).values()) >= BOUND * left
-
     def niceness(self, name, done, running):
         """How far a crate that begins now gives way to the others: not at all where the longest chain of all that is
         left begins with it, and fully where the chain behind it is half as long. This holds until its check ends, also
@@ -108,21 +99,19 @@ class Plan:
     def next(self, done, running, free, busy=()):
         """The crate to begin now and its number of provers, or none. `running` has the check of each crate at work, and
         `free` tells how much memory is free; crates that are `busy` for another reason are left out."""
-        places = self.processors - len(running)
         ready = [it for it in self.ready(done, running) if it not in busy]
-        if places <= 0 or not ready:
+        if len(running) >= self.processors or not ready:
             return None
         free = min(free, self.memory - sum(self.memory_of(it, check.jobs) for it, check in running.items()))
         chains = self.chains(done, running)
         longest = max(chains.values())
         near = [it for it in ready if chains[it] >= NEAR * longest]
-        takers = near[:places] if self.is_bound(done, running) else near
         at_work = [it for it in running if chains[it] >= NEAR * longest]
         for name in ready:
             if running and name not in near and self.idle(running, running) <= 0:
                 continue
             jobs = min(MOST_JOBS, self.processors) if chains[name] >= FRONT * longest else 1
-            idle = self.idle({*at_work, *takers} - {name}, running)
+            idle = self.idle({*at_work, *near} - {name}, running)
             # (each further prover has to find a part of a processor)
             while jobs > 1 and (BUSY[jobs - 1] > idle or self.memory_of(name, jobs) > free):
                 jobs -= 1

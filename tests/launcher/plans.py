@@ -110,21 +110,6 @@ class AtWork(unittest.TestCase):
         self.assertEqual(plan.next({"c", "d"}, begun(plan, b=1, e=1), MUCH), ("a", 3))
         self.assertEqual(plan.next(set(), begun(plan, b=2), MUCH), ("a", 1))
 
-    def test_what_can_begin_where_one_chain_is_the_limit(self):
-        # six chains of 1100 each and 1600 left in all: of the others only three find a place, and the first has one more
-        low = {name: (100,) for name in "abcdef"}
-        plan = schedule.Plan(steps(**low, last=(1000, *low)), 4, MUCH)
-        self.assertEqual(plan.next(set(), {}, MUCH), ("a", 2))
-        self.assertEqual(plan.next(set(), begun(plan, a=2), MUCH), ("b", 1))
-        self.assertEqual(plan.next(set(), begun(plan, a=2, b=1, c=1), MUCH), ("d", 1))
-        # beside one apart with 900 left of 5000 there are 2500 in all, 1.7 times which four processors do in the time of 1062
-        plan = schedule.Plan(steps(**low, last=(1000, *low), apart=(5000,)), 4, MUCH)
-        self.assertEqual(plan.next(set(), {"apart": schedule.Check(1, 900)}, MUCH), ("a", 2))
-        # with 1000 left it would be 1105, so all the others count
-        self.assertEqual(plan.next(set(), {"apart": schedule.Check(1, 1000)}, MUCH), ("a", 1))
-        # without the last there are 600 left, which is more than four processors do in the time of one
-        self.assertEqual(schedule.Plan(steps(**low), 4, MUCH).next(set(), {}, MUCH), ("a", 1))
-
     def test_far_crates_take_no_place(self):
         plan = schedule.Plan(steps(a=(1000,), b=(800,), c=(760,), d=(750,), e=(740,)), 4, MUCH)
         # the near ones begin also where all processors are busy, by 2 + 1 + 1
