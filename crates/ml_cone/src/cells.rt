@@ -14,14 +14,8 @@ pub struct Cells {
     pub y1: i32,
 }
 
-/// How many world units the side of a cell of the band has. The band is at most 27.
-pub(crate) fn side_of(band: u8) -> i64
-    requires { band ≤ 27 }
-    ensures { result ≡ pos (cell_side band) }
-{
-    let side = 1024u64 << band;
-    side as i64
-}
+/// The side of a cell of the least band has 2 to this power world units, and each further band twice as many.
+pub(crate) const SIDE_BITS: u8 = 10;
 
 /// How many world units a pixel has at the upper end of the band. The band is at most 27.
 pub(crate) fn pixel_of(band: u8) -> i64

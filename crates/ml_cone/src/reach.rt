@@ -6,7 +6,7 @@ ghost use Rattle.ml_cone.specs.Overlap.{widened};
 ghost use Rattle.ml_cone.specs.Cells.{column_of};
 ghost use Rattle.ml_cone.specs.Hull.{reach_of, join, hull_of, AreFew};
 
-use crate::cells::{Cells, pixel_of, side_of};
+use crate::cells::{Cells, SIDE_BITS, pixel_of};
 use crate::label::{BoxPx, Label};
 use crate::margin::widened;
 use std::cmp::{max, min};
@@ -59,7 +59,7 @@ pub(crate) fn column(x: i64, u: i32, band: u8, cells: u8) -> i32
     let wide = u as i64;
     let offset = wide * pixel_of(band);
     let place = x + offset;
-    let column = place.div_euclid(side_of(cells));
+    let column = place >> (cells + SIDE_BITS);
     column as i32
 }
 

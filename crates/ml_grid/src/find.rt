@@ -114,7 +114,7 @@ pub fn ascending(found: Seq<u32>) -> Vec<u32>
     numbers
 }
 
-/// AppendsNumbers the numbers.
+/// Appends the numbers.
 ///
 /// # Errors
 /// Want of memory; a prefix of them was appended.
@@ -133,7 +133,7 @@ pub fn append(numbers: &[u32], out: &mut Seq<u32>) -> Result<(), AllocError>
     Ok(())
 }
 
-/// AppendsNumbers the numbers, a step for each.
+/// Appends the numbers, a step for each.
 ///
 /// # Errors
 /// Want of memory; a prefix of them was appended.

@@ -160,7 +160,7 @@ impl Grid {
         move_all(&mut self.tree, number, label, from, to);
     }
 
-    /// AppendsNumbers the numbers that have an entry in the band in a cell of the label's hull there, ascending
+    /// Appends the numbers that have an entry in the band in a cell of the label's hull there, ascending
     /// and each once. The band is at most 27. The label itself need not be in the grid.
     ///
     /// # Errors
@@ -203,7 +203,7 @@ impl Grid {
         has_in_cells(&self.tree, cells, scale)
     }
 
-    /// AppendsNumbers the numbers that have an entry in the band of the view's scale, in a cell whose square meets
+    /// Appends the numbers that have an entry in the band of the view's scale, in a cell whose square meets
     /// the window (lower sides counted in, upper sides left out), with an end of at least that scale;
     /// ascending and each once. It spends a step for each number appended.
     ///

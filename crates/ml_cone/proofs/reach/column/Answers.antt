@@ -1,8 +1,9 @@
-use Rattle.std.proofs.Common.{ℕ, ◌+◌, ◌<◌, ◌^◌, ◌≤◌, ◌≤ℤ◌, arith, rules, w32, w64, ℤ, pos, negsuc, ◌+ℤ◌, ◌*ℤ◌, FitsSigned, to_z, of_z, ap, ◌∙◌}
+use lib.Signed.{shr_z}
+use Rattle.std.proofs.Common.{ℕ, ◌≡◌, ◌/◌, ◌+◌, ◌<◌, ◌^◌, ◌≤◌, ◌≤ℤ◌, arith, rules, w32, w64, ℤ, pos, negsuc, ◌+ℤ◌, ◌*ℤ◌, FitsSigned, ap}
 use Rattle.std.specs.Int.{int_div_euclid}
 use Rattle.std.proofs.Math.Nat.{pow-le-pow_right}
 use Rattle.std.proofs.lemmas.Int.{ints, to_z-of_z}
-use Rattle.std.proofs.lemmas.Nat.{mul-le}
+use Rattle.std.proofs.lemmas.Nat.{mul-le, pow-add}
 use borrow.Author.Differences.{up, down}
 use Rattle.ml_ratio.specs.World.{IsInWorld}
 use Rattle.ml_ratio.proofs.lemmas.Rounding.{quotient_low, quotient_high, stretch_le}
@@ -52,8 +53,25 @@ place_near x u p h k q =
     let down' = mul-le (down u) p 2048 (2 ^ 28) bu.1 q in
     (omega (arith, ints, up', down'), omega (arith, ints, up', down'))
 
+side_is : (k : ℕ) → 2 ^ (k + 10) ≡ cell_side k
+side_is k = let e = pow-add 2 k 10 in omega arith
+
 side_wide : (k : ℕ) → 1024 ≤ cell_side k
 side_wide k = let least : 0 ≤ k = omega arith in let some : 2 ^ 0 ≤ 2 ^ k = pow-le-pow_right (omega arith) least in omega arith
+
+-- a shift by the bits of a cell's side is a division by it, rounded down
+shifted_is : (p : ℤ) (k : ℕ) → shr_z p (2 ^ (k + 10)) ≡ int_div_euclid p (pos (cell_side k))
+shifted_is (pos n) k = ap (λ m. pos (n / m)) (side_is k)
+shifted_is (negsuc n) k = ap (λ m. negsuc (n / m)) (side_is k)
+
+shifted_fits : (x u : ℤ) (k j : ℕ) → IsInWorld x → IsReach u → k ≤ 27 → FitsSigned w32 (shr_z (x +ℤ (u *ℤ pos (2 ^ (k + 1)))) (2 ^ (j + 10)))
+shifted_fits x u k j h r low =
+    let near = place_near x u (2 ^ (k + 1)) h r (pixel_low k low) in
+    rw (shifted_is (x +ℤ (u *ℤ pos (2 ^ (k + 1)))) j) (column_fits _ (cell_side j) (side_wide j) near.0 near.1)
+
+wider : (q : ℤ) → FitsSigned w32 q → FitsSigned w64 q
+wider (pos n) h = omega (arith, ints)
+wider (negsuc n) h = omega (arith, ints)
 
 pub overflow_mul-offset : goal.overflow_mul-offset
 overflow_mul-offset c =
@@ -77,15 +95,12 @@ overflow_cast-result c =
     let fu : FitsSigned w32 c.args.u = c.ranges.u in
     let fw : FitsSigned w64 c.args.u = wide_fits c.args.u c.requires.u_in_reach in
     let fp : FitsSigned w64 c.pixel_of.result = search rules in
-    let fs : FitsSigned w64 c.side_of.result = search rules in
-    let fr : FitsSigned w64 c.div_euclid-column.result = search rules in
     let low = pixel_low c.args.band c.requires.low_band in
     let fo : FitsSigned w64 (c.args.u *ℤ c.pixel_of.result) = rw (c.pixel_of.ensures) (offset_fits c.args.u (2 ^ (c.args.band + 1)) c.requires.u_in_reach low) in
     let fq : FitsSigned w64 (c.args.x +ℤ (c.args.u *ℤ c.pixel_of.result)) = rw (c.pixel_of.ensures) (place_fits c.args.x c.args.u (2 ^ (c.args.band + 1)) c.requires.x_in_world c.requires.u_in_reach low) in
-    let near = place_near c.args.x c.args.u (2 ^ (c.args.band + 1)) c.requires.x_in_world c.requires.u_in_reach low in
-    let e = simp to_z-of_z at c.div_euclid-column.ensures in
-    let is = rw (c.pixel_of.ensures, c.side_of.ensures) at e in
-    simp to_z-of_z (rw is (column_fits _ (cell_side c.args.cells) (side_wide c.args.cells) near.0 near.1))
+    let narrow : FitsSigned w32 (shr_z (c.args.x +ℤ (c.args.u *ℤ c.pixel_of.result)) (2 ^ (c.args.cells + 10))) = rw (c.pixel_of.ensures) (shifted_fits c.args.x c.args.u c.args.band c.args.cells c.requires.x_in_world c.requires.u_in_reach c.requires.low_band) in
+    let fs : FitsSigned w64 (shr_z (c.args.x +ℤ (c.args.u *ℤ c.pixel_of.result)) (2 ^ (c.args.cells + 10))) = wider _ narrow in
+    simp to_z-of_z narrow
 
 pub returns : goal.returns
 returns c =
@@ -93,12 +108,9 @@ returns c =
     let fu : FitsSigned w32 c.args.u = c.ranges.u in
     let fw : FitsSigned w64 c.args.u = wide_fits c.args.u c.requires.u_in_reach in
     let fp : FitsSigned w64 c.pixel_of.result = search rules in
-    let fs : FitsSigned w64 c.side_of.result = search rules in
-    let fr : FitsSigned w64 c.div_euclid-column.result = search rules in
-    let fo : FitsSigned w64 (c.args.u *ℤ c.pixel_of.result) = rw (c.pixel_of.ensures) (offset_fits c.args.u (2 ^ (c.args.band + 1)) c.requires.u_in_reach (pixel_low c.args.band c.requires.low_band)) in
-    let fq : FitsSigned w64 (c.args.x +ℤ (c.args.u *ℤ c.pixel_of.result)) = rw (c.pixel_of.ensures) (place_fits c.args.x c.args.u (2 ^ (c.args.band + 1)) c.requires.x_in_world c.requires.u_in_reach (pixel_low c.args.band c.requires.low_band)) in
-    let e = simp to_z-of_z at c.div_euclid-column.ensures in
-    let is = rw (c.pixel_of.ensures, c.side_of.ensures) at e in
-    let near = place_near c.args.x c.args.u (2 ^ (c.args.band + 1)) c.requires.x_in_world c.requires.u_in_reach (pixel_low c.args.band c.requires.low_band) in
-    let narrow : FitsSigned w32 c.div_euclid-column.result = rw is (column_fits _ (cell_side c.args.cells) (side_wide c.args.cells) near.0 near.1) in
-    ap (λ (z : ℤ). to_z w32 (of_z w32 z)) (to_z-of_z w64 c.div_euclid-column.result fr) ∙ to_z-of_z w32 c.div_euclid-column.result narrow ∙ is
+    let low = pixel_low c.args.band c.requires.low_band in
+    let fo : FitsSigned w64 (c.args.u *ℤ c.pixel_of.result) = rw (c.pixel_of.ensures) (offset_fits c.args.u (2 ^ (c.args.band + 1)) c.requires.u_in_reach low) in
+    let fq : FitsSigned w64 (c.args.x +ℤ (c.args.u *ℤ c.pixel_of.result)) = rw (c.pixel_of.ensures) (place_fits c.args.x c.args.u (2 ^ (c.args.band + 1)) c.requires.x_in_world c.requires.u_in_reach low) in
+    let narrow : FitsSigned w32 (shr_z (c.args.x +ℤ (c.args.u *ℤ c.pixel_of.result)) (2 ^ (c.args.cells + 10))) = rw (c.pixel_of.ensures) (shifted_fits c.args.x c.args.u c.args.band c.args.cells c.requires.x_in_world c.requires.u_in_reach c.requires.low_band) in
+    let fs : FitsSigned w64 (shr_z (c.args.x +ℤ (c.args.u *ℤ c.pixel_of.result)) (2 ^ (c.args.cells + 10))) = wider _ narrow in
+    simp to_z-of_z (rw c.pixel_of.ensures (shifted_is (c.args.x +ℤ (c.args.u *ℤ pos (2 ^ (c.args.band + 1)))) c.args.cells))
