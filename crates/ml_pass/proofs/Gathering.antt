@@ -2,6 +2,7 @@
 use Rattle.std.proofs.Common.{◌≡◌, ℕ, ◌+◌, ◌*◌, ◌<◌, ◌≤◌, List, [], length, get_or, inl, inr, arith}
 use Rattle.std.specs.List.Sorted.{IsPermutation, IsSorted}
 use Rattle.std.specs.Ordering.{nat_cmp}
+use Rattle.std.proofs.lemmas.Bool.{cases_lt}
 use Rattle.std.proofs.lemmas.List.Elements.{All-nil}
 use Rattle.std.proofs.lemmas.List.Sorted.{All-permutation, Contains-permutation, IsNonDecreasingBy-from_sort}
 use Rattle.ml_ratio.specs.Fraction.{Fraction, value_of}
@@ -49,12 +50,35 @@ module _ (labels : List Label) (slots : List Slot) (low : Label) (spots : List S
 
   -- ---- the whole search
 
-  pub gathered : (start : ℕ) (bound mid next : Fraction) (before during after : List ℕ) → length slots ≤ length labels →
-      IsSearched low (rivals_in labels slots low) (length slots) (SeesSpot spots 0 start) bound mid before during → IsSearched low (rivals_in labels slots low) (length slots) (SeesSpot spots start (length spots)) mid next during after →
-      IsSearched low (rivals_in labels slots low) (length slots) (λ j. j < length slots) bound next before after
-  gathered start bound mid next before during after fits one two =
-      searched_more low (rivals_in labels slots low) (length slots) (SeesSpot spots 0 start) (SeesSpot spots start (length spots)) (λ j. j < length slots) bound mid next before during after one two
-      (λ j lt. fields.either_side labels low spots reach field start j (omega arith))
+  -- some spots more were seen to the west
+  pub turn_west : (west left right : ℕ) (bound mid next : Fraction) (before during after : List ℕ) → IsSearched low (rivals_in labels slots low) (length slots) (SeesSpot spots left right) bound mid before during →
+      IsSearched low (rivals_in labels slots low) (length slots) (SeesSpot spots west left) mid next during after → IsSearched low (rivals_in labels slots low) (length slots) (SeesSpot spots west right) bound next before after
+  turn_west west left right bound mid next before during after one two =
+      searched_more low (rivals_in labels slots low) (length slots) (SeesSpot spots left right) (SeesSpot spots west left) (SeesSpot spots west right) bound mid next before during after one two
+      (λ j saw. elim (cases_lt saw.0 left) [
+        | inl less ↦ inr (saw.0, saw.1, less, saw.3)
+        | inr more ↦ inl (saw.0, more, saw.2, saw.3)
+      ])
+
+  -- some more to the east
+  pub turn_east : (left right east : ℕ) (bound mid next : Fraction) (before during after : List ℕ) → IsSearched low (rivals_in labels slots low) (length slots) (SeesSpot spots left right) bound mid before during →
+      IsSearched low (rivals_in labels slots low) (length slots) (SeesSpot spots right east) mid next during after → IsSearched low (rivals_in labels slots low) (length slots) (SeesSpot spots left east) bound next before after
+  turn_east left right east bound mid next before during after one two =
+      searched_more low (rivals_in labels slots low) (length slots) (SeesSpot spots left right) (SeesSpot spots right east) (SeesSpot spots left east) bound mid next before during after one two
+      (λ j saw. elim (cases_lt saw.0 right) [
+        | inl less ↦ inl (saw.0, saw.1, less, saw.3)
+        | inr more ↦ inr (saw.0, more, saw.2, saw.3)
+      ])
+
+  -- no spot is left on either side
+  pub gathered : (left right : ℕ) (bound next : Fraction) (before after : List ℕ) → left ≡ 0 → length spots ≤ right → length slots ≤ length labels →
+      IsSearched low (rivals_in labels slots low) (length slots) (SeesSpot spots left right) bound next before after → IsSearched low (rivals_in labels slots low) (length slots) (λ j. j < length slots) bound next before after
+  gathered left right bound next before after none all fits one =
+      searched_all low (rivals_in labels slots low) (length slots) (SeesSpot spots left right) (λ j. j < length slots) bound next before after one
+      (λ j saw lt. elim (fields.either_side labels low spots reach field (length spots) j (omega arith)) [
+        | inl there ↦ inl (there.0, omega arith, omega (arith, there.2), there.3)
+        | inr beyond ↦ absurd (omega (arith, beyond.1, beyond.2))
+      ])
 
 -- what was found is enough
 pub enough_of : (low : Label) (rivals : ℕ → Rival) (n : ℕ) (bound : Fraction) (places sorted : List ℕ) → IsSearched low rivals n (λ j. j < n) (value_of low.max) bound [] places → IsPermutation places sorted → IsSorted nat_cmp sorted → AreEnough low rivals n bound sorted

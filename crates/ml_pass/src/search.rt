@@ -1,8 +1,10 @@
 //! The search for the labels before a place that may bound the one there.
 //!
-//! It goes from the label's anchor to the west and to the east. Each limit that it finds is the bound
-//! up to which it goes on, and it ends where the next label is too far away to set one up to there.
-ghost use Rattle.std.specs.Prelude.{ℕ, ◌≡◌, ◌≤◌, ◌<◌, [], length, IfOk, OnOk};
+//! It goes from the label's anchor to the west and to the east, by turns. Each limit that it finds is the
+//! bound up to which it goes on, and it ends where the next label on either side is too far away to set one up
+//! to there. By turns, since the nearest labels set the least limits, whichever side they are on: so the bound
+//! falls soon, and few labels lie within it.
+ghost use Rattle.std.specs.Prelude.{ℕ, ◌≡◌, ◌+◌, ◌-◌, ◌≤◌, ◌<◌, [], length, min, IfOk, OnOk};
 ghost use Rattle.ml_ratio.specs.Fraction.{Fraction, value_of};
 ghost use Rattle.ml_cone.specs.SiteOf.{IsSiteOf};
 
@@ -24,6 +26,17 @@ pub struct Search<'a> {
     ghost fits: { length slots.now ≤ length labels.now },
 }
 
+// How many spots a turn to one side looks at.
+const TURN: usize = 64;
+
+// The spots from one place until another, which were seen or are too far away, and the bound that they leave.
+#[derive(Clone, Copy)]
+struct Seen {
+    left: usize,
+    right: usize,
+    bound: Ratio,
+}
+
 impl Search<'_> {
     ghost use Rattle.ml_conflict.specs.Reach.{Reaches};
     ghost use Rattle.ml_conflict.specs.declared.axis.Axis.TheVariants.{Across};
@@ -43,64 +56,86 @@ impl Search<'_> {
     {
         let x = self.low.x();
         let start = field.spots.partition_point(|spot| spot.x < x);
-        let bound = self.west(field, start, self.low.max(), places)?;
-        self.east(field, start, bound, places)?;
+        let mut seen = Seen {
+            left: start,
+            right: start,
+            bound: self.low.max(),
+        };
+        while seen.left > 0 || seen.right < field.spots.len() {
+            let west = self.west(field, seen, places)?;
+            seen = self.east(field, west, places)?;
+        }
         Ok(())
     }
 
-    // Looks at the spots before `start`, the nearest first.
-    fn west(
-        &self,
-        field: &Field,
-        start: usize,
-        bound: Ratio,
-        places: &mut Vec<u32>,
-    ) -> Result<Ratio, AllocError>
+    // Looks at some more spots to the west, the nearest first. What is too far away is seen with all behind it.
+    fn west(&self, field: &Field, seen: Seen, places: &mut Vec<u32>) -> Result<Seen, AllocError>
         requires field { IsFieldOf self.now.labels.now field.now.spots.items field.now.reach }
         requires reaches { Reaches Across self.now.low.now field.now.reach }
-        requires start { start ≤ length field.now.spots.items }
-        ensures { IfOk result (λ next. IsSearched self.now.low.now (rivals_in self.now.labels.now self.now.slots.now self.now.low.now)
-            (length self.now.slots.now) (SeesSpot field.now.spots.items 0 start) (value_of bound) (value_of next) places.old.items places.new.items) }
+        requires within { seen.left ≤ length field.now.spots.items }
+        ensures further { IfOk result (λ next. next.left ≤ seen.left - 64) }
+        ensures same { IfOk result (λ next. next.right ≡ seen.right) }
+        ensures searched { IfOk result (λ next. IsSearched self.now.low.now (rivals_in self.now.labels.now self.now.slots.now self.now.low.now)
+            (length self.now.slots.now) (SeesSpot field.now.spots.items next.left seen.left) (value_of seen.bound) (value_of next.bound) places.old.items places.new.items) }
     {
         let spots = field.spots.as_slice();
-        let mut next = bound;
-        let mut left = start;
-        while left > 0 {
+        let Seen {
+            left: from,
+            right,
+            mut bound,
+        } = seen;
+        let until = from.saturating_sub(TURN);
+        let mut left = from;
+        while left > until {
             let at = left - 1;
             let spot = &spots[at];
-            if is_beyond(self.low.x(), spot.x, 2 * field.reach as u64, &next) {
-                return Ok(next);
+            if is_beyond(self.low.x(), spot.x, 2 * field.reach as u64, &bound) {
+                return Ok(Seen {
+                    left: 0,
+                    right,
+                    bound,
+                });
             }
-            next = self.look(spot, next, places)?;
+            bound = self.look(spot, bound, places)?;
             left = at;
         }
-        Ok(next)
+        Ok(Seen { left, right, bound })
     }
 
-    // Looks at the spots from `start` on, the nearest first.
-    fn east(
-        &self,
-        field: &Field,
-        start: usize,
-        bound: Ratio,
-        places: &mut Vec<u32>,
-    ) -> Result<Ratio, AllocError>
+    // Looks at some more spots to the east, the nearest first. What is too far away is seen with all behind it.
+    fn east(&self, field: &Field, seen: Seen, places: &mut Vec<u32>) -> Result<Seen, AllocError>
         requires field { IsFieldOf self.now.labels.now field.now.spots.items field.now.reach }
         requires reaches { Reaches Across self.now.low.now field.now.reach }
-        requires start { start ≤ length field.now.spots.items }
-        ensures { IfOk result (λ next. IsSearched self.now.low.now (rivals_in self.now.labels.now self.now.slots.now self.now.low.now)
-            (length self.now.slots.now) (SeesSpot field.now.spots.items start (length field.now.spots.items)) (value_of bound) (value_of next) places.old.items places.new.items) }
+        requires within { seen.right ≤ length field.now.spots.items }
+        ensures further { IfOk result (λ next. min (length field.now.spots.items) (seen.right + 64) ≤ next.right) }
+        ensures within { IfOk result (λ next. next.right ≤ length field.now.spots.items) }
+        ensures same { IfOk result (λ next. next.left ≡ seen.left) }
+        ensures searched { IfOk result (λ next. IsSearched self.now.low.now (rivals_in self.now.labels.now self.now.slots.now self.now.low.now)
+            (length self.now.slots.now) (SeesSpot field.now.spots.items seen.right next.right) (value_of seen.bound) (value_of next.bound) places.old.items places.new.items) }
     {
         let spots = field.spots.as_slice();
-        let mut next = bound;
-        for right in start..spots.len() {
+        let Seen {
+            left,
+            right: from,
+            mut bound,
+        } = seen;
+        let until = spots.len().min(from + TURN);
+        for right in from..until {
             let spot = &spots[right];
-            if is_beyond(spot.x, self.low.x(), 2 * field.reach as u64, &next) {
-                return Ok(next);
+            if is_beyond(spot.x, self.low.x(), 2 * field.reach as u64, &bound) {
+                return Ok(Seen {
+                    left,
+                    right: spots.len(),
+                    bound,
+                });
             }
-            next = self.look(spot, next, places)?;
+            bound = self.look(spot, bound, places)?;
         }
-        Ok(next)
+        Ok(Seen {
+            left,
+            right: until,
+            bound,
+        })
     }
 
     // The limit that the label of the spot sets, where it is before and that is at most the bound, and then its

@@ -9,7 +9,7 @@ use Rattle.ml_pass.proofs.search.Search.east.Goals as goal
 
 pub loop-right-init : goal.loop-right-init
 loop-right-init c =
-    searched_none c.args.self.now.low.now (rivals_in c.args.self.now.labels.now c.args.self.now.slots.now c.args.self.now.low.now) (length c.args.self.now.slots.now) (SeesSpot c.args.field.now.spots.items c.args.start c.args.start) (value_of c.args.bound) c.args.places.now.items
+    searched_none c.args.self.now.low.now (rivals_in c.args.self.now.labels.now c.args.self.now.slots.now c.args.self.now.low.now) (length c.args.self.now.slots.now) (SeesSpot c.args.field.now.spots.items c.args.seen.right c.args.seen.right) (value_of c.args.seen.bound) c.args.places.now.items
     (λ j saw lt. absurd (omega (arith, saw.1, saw.2)))
 
 pub loop-right-preserved : goal.loop-right-preserved
@@ -18,11 +18,11 @@ loop-right-preserved c =
     let value = c.as_slice-spots.ensures.value in
     let sized = ap length value in
     let is : c.index-spots-right.result ≡ get_or spots c.loop-right.right c.index-spots-right.result = rw value at c.index-spots-right.is in
-    east_more c.args.self.now.labels.now c.args.self.now.slots.now c.args.self.now.low.now spots c.args.field.now.reach c.requires.field c.loop-right.right c.args.start c.index-spots-right.result (omega arith) is
-    (value_of c.args.bound) c.args.places.now.items c.loop-right.places.items (value_of c.loop-right.next) (value_of c.in_ok-next.next) c.look.new.places.items c.loop-right.invariant c.in_ok-next.ensures
+    east_more c.args.self.now.labels.now c.args.self.now.slots.now c.args.self.now.low.now spots c.args.field.now.reach c.requires.field c.loop-right.right c.args.seen.right c.index-spots-right.result (omega arith) is
+    (value_of c.args.seen.bound) c.args.places.now.items c.loop-right.places.items (value_of c.loop-right.bound) (value_of c.in_ok-bound.bound) c.look.new.places.items c.loop-right.invariant c.in_ok-bound.ensures
 
-pub returns-then-is_beyond : goal.returns-then-is_beyond
-returns-then-is_beyond c =
+pub returns-then-is_beyond-clause-searched : goal.returns-then-is_beyond-clause-searched
+returns-then-is_beyond-clause-searched c =
     let low = c.args.self.now.low.now in
     let spots = c.args.field.now.spots.items in
     let spot = c.index-spots-right.result in
@@ -34,8 +34,8 @@ returns-then-is_beyond c =
     let fl : FitsSigned w64 low.x = omega (arith, ints) in
     let fs : FitsSigned w64 spot.x = omega (arith, ints) in
     let beyond = simp to_z-of_z at (rw c.x.ensures at (c.is_beyond.ensures c.if-is_beyond.true)) in
-    east_far c.args.self.now.labels.now c.args.self.now.slots.now low spots c.args.field.now.reach c.requires.field c.loop-right.right c.args.start spot (omega arith) is (value_of c.args.bound) c.args.places.now.items c.loop-right.places.items
-    c.requires.reaches c.loop-right.next beyond c.loop-right.invariant
+    rw value (east_far c.args.self.now.labels.now c.args.self.now.slots.now low spots c.args.field.now.reach c.requires.field c.loop-right.right c.args.seen.right spot (omega arith) is (value_of c.args.seen.bound) c.args.places.now.items c.loop-right.places.items
+    c.requires.reaches c.loop-right.bound beyond c.loop-right.invariant)
 
 pub look-requires : goal.look-requires
 look-requires c =
@@ -44,9 +44,8 @@ look-requires c =
     let is = rw value at c.index-spots-right.is in
     rw is (c.requires.field.good c.loop-right.right c.index-spots-right.result (omega arith))
 
-pub returns : goal.returns
-returns c =
-    let sized = ap length c.as_slice-spots.ensures.value in
-    let all : c.loop-right.right ≡ length c.args.field.now.spots.items = omega arith in
+pub returns-clause-searched : goal.returns-clause-searched
+returns-clause-searched c =
+    let all : c.loop-right.right ≡ c.min-until.result = (let sized = ap length c.as_slice-spots.ensures.value in let s = c.requires.within in omega arith) in
     subst (λ (k : ℕ). IsSearched c.args.self.now.low.now (rivals_in c.args.self.now.labels.now c.args.self.now.slots.now c.args.self.now.low.now) (length c.args.self.now.slots.now)
-    (SeesSpot c.args.field.now.spots.items c.args.start k) (value_of c.args.bound) (value_of c.loop-right.next) c.args.places.now.items c.loop-right.places.items) all c.loop-right.invariant
+    (SeesSpot c.args.field.now.spots.items c.args.seen.right k) (value_of c.args.seen.bound) (value_of c.loop-right.bound) c.args.places.now.items c.loop-right.places.items) all c.loop-right.invariant

@@ -7,4 +7,4 @@ use Rattle.ml_pass.proofs.search.Search.east.Given as goal
 abbrev pub invariant-loop-right : goal.invariant-loop-right
 invariant-loop-right l =
     IsSearched l.self.low.now (rivals_in l.self.labels.now l.self.slots.now l.self.low.now) (length l.self.slots.now)
-    (SeesSpot l.field.spots.items l.start l.right) (value_of l.fn.bound) (value_of l.next) l.initial.places.items l.places.items
+    (SeesSpot l.field.spots.items l.fn.seen.right l.right) (value_of l.fn.seen.bound) (value_of l.bound) l.initial.places.items l.places.items

@@ -6,9 +6,10 @@ use Rattle.ml_pass.proofs.search.Search.west.Given as goal
 
 abbrev pub invariant-loop-left : goal.invariant-loop-left
 invariant-loop-left l = record {
-  in_range : l.left ≤ l.start;
+  least : l.until ≤ l.left;
+  in_range : l.left ≤ l.fn.seen.left;
   searched : IsSearched l.self.low.now (rivals_in l.self.labels.now l.self.slots.now l.self.low.now) (length l.self.slots.now)
-      (SeesSpot l.field.spots.items l.left l.start) (value_of l.fn.bound) (value_of l.next) l.initial.places.items l.places.items;
+      (SeesSpot l.field.spots.items l.left l.fn.seen.left) (value_of l.fn.seen.bound) (value_of l.bound) l.initial.places.items l.places.items;
 }
 
 abbrev pub decreases-loop-left : goal.decreases-loop-left
