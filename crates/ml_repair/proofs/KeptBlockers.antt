@@ -260,6 +260,16 @@ module _ (at : ℕ) (comes : Bool) where
     ];
   }
 
+  pub noted_skip : (was is : ℕ → Fraction) (i until : ℕ) (changed : List ℕ) → i ≤ until → AreChanged was is at comes i changed → ((j : ℕ) → i ≤ j → IsSame (was j) (is j)) → AreChanged was is at comes until changed
+  noted_skip was is i until changed le so_far same = record {
+    stand = λ p there. let h = so_far.stand p there in (let lt : p < i = h.0 in omega arith, h.1);
+    edited = so_far.edited;
+    others = λ j lt apart none. elim (cases_lt j i) [
+      | inl less ↦ so_far.others j less apart none
+      | inr more ↦ same j more
+    ];
+  }
+
   pub noted_more : (was is next : ℕ → Fraction) (i : ℕ) (changed more : List ℕ) → at < i → AreChanged was is at comes i changed → ((k : ℕ) → k < i → IsSame (is k) (next k)) → ((p : ℕ) → Contains more p ↔ (Contains changed p ⊎ (p ≡ i))) → ((a b c : Fraction) → IsSame a b → IsSame b c → IsSame a c) → AreChanged was next at comes (i + 1) more
   noted_more was is next i changed more from so_far same just trans = record {
     stand = λ p there. elim ((just p).0 there) [

@@ -8,6 +8,7 @@ pub mod Plan
 pub mod Shown
 pub mod Moves
 pub mod Roster
+pub mod Waiting
 pub mod Repair
 pub mod Kept
 pub mod Placed

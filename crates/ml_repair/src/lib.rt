@@ -7,7 +7,7 @@
 //! - [`laws`]: what the changes of an edit tell of its labels.
 //!
 //! Within: `gather`, `sought`, `chosen` and `settle` find the rivals of one label and evaluate it, `kept`
-//! where its blocker stays; `wake`, `repair` and `pass` go through the labels that an edit touches;
+//! where its blocker stays; `wake`, `waiting`, `repair` and `pass` go through the labels that an edit touches;
 //! `roster`, `moves`, `place` and `planning` are what a plan is made of; `carry`, `build`, `shown` and
 //! `read` carry it out, build an engine and tell of its labels.
 #![tactic(auto)]
@@ -33,6 +33,7 @@ mod roster;
 mod settle;
 mod shown;
 mod sought;
+mod waiting;
 mod wake;
 
 pub use edit::{LabelEdit, Moved};

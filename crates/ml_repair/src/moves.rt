@@ -16,7 +16,7 @@ use std::marker::Model;
 #[derive(Drop)]
 pub struct Moves {
     moved: Vec<Moved>,
-    column: Vec<u32>,
+    column: Vec<u16>,
 }
 
 impl Model for Moves {
@@ -68,7 +68,7 @@ impl Moves {
             self.moved[at - 1].slot = slot;
         } else {
             self.moved.push(Moved { number, slot })?;
-            self.column[number as usize] = self.moved.len() as u32;
+            self.column[number as usize] = self.moved.len() as u16;
         }
         Ok(())
     }

@@ -18,6 +18,7 @@ use crate::kept::settle_again;
 use crate::moves::Moves;
 use crate::roster::Roster;
 use crate::sought::Edited;
+use crate::waiting::next_waiting;
 use crate::wake::wake;
 use ml_cone::Slot;
 use ml_conflict::laws::{carried, rivals_or_free, smaller_ends};
@@ -167,12 +168,16 @@ pub fn repair<L: Ledger>(
     let mut changed = first_changed(alloc, at, comes)?;
     wake(alloc, roster, at, &mut waits)?;
     let mut evaluated = if comes { 1 } else { 0 };
-    for i in at + 1..many {
+    let mut i = at + 1;
+    while i < many {
         if waits[i] {
             if renew(alloc, roster, moves, &changed, edited, i, steps)? {
                 note(alloc, roster, i, &mut waits, &mut changed)?;
             }
             evaluated += 1;
+            i += 1;
+        } else {
+            i = next_waiting(&waits, i);
         }
     }
     Ok(evaluated)

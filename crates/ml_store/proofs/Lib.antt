@@ -1,6 +1,7 @@
 mod Different
 mod Endings
 mod Orders
+mod Turning
 mod Lists
 mod ByName
 mod Naming

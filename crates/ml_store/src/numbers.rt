@@ -11,8 +11,8 @@ use std::marker::Model;
 /// Different numbers below 32,768 in some order, each found at once.
 #[derive(Drop)]
 pub struct Numbers {
-    order: Vec<u32>,
-    places: Vec<u32>,
+    order: Vec<u16>,
+    places: Vec<u16>,
     used: usize,
 }
 
@@ -28,19 +28,19 @@ impl Model for Numbers {
 }
 
 // All numbers, ascending.
-fn all_numbers(alloc: Global) -> Result<Vec<u32>, AllocError>
+fn all_numbers(alloc: Global) -> Result<Vec<u16>, AllocError>
     ensures len { IfOk result (λ all. length all.items ≡ most_labels) }
     ensures numbers { IfOk result (λ all. (k : ℕ) → k < most_labels → slice_index all.items k ≡ k) }
 {
     let mut all = Vec::with_capacity(alloc, MOST_LABELS)?;
-    for number in 0..MOST_LABELS as u32 {
+    for number in 0..MOST_LABELS as u16 {
         all.push(number)?;
     }
     Ok(all)
 }
 
 // Writes the places of the numbers from `from` up to `to`.
-fn write_places(order: &[u32], places: &mut Vec<u32>, from: usize, to: usize)
+fn write_places(order: &[u16], places: &mut Vec<u16>, from: usize, to: usize)
     requires all_numbers { length order.now ≡ most_labels }
     requires all_places { length places.old.items ≡ most_labels }
     requires low { All (λ n. n < most_labels) order.now }
@@ -52,29 +52,25 @@ fn write_places(order: &[u32], places: &mut Vec<u32>, from: usize, to: usize)
     ensures placed { (k : ℕ) → k < most_labels → slice_index places.new.items (slice_index order.now k) ≡ k }
 {
     for k in from..to {
-        places[order[k] as usize] = k as u32;
+        places[order[k] as usize] = k as u16;
     }
 }
 
-// The number at `from` moves to `to`.
-fn shift(order: &mut Vec<u32>, from: usize, to: usize)
+// The number at `from` moves to `to`. Only what lies between the two moves with it.
+fn shift(order: &mut Vec<u16>, from: usize, to: usize)
     requires from_place { from < length order.old.items }
     requires to_place { to < length order.old.items }
     ensures { order.new.items ≡ insert (remove order.old.items from) to (slice_index order.old.items from) }
 {
-    // a label that comes last takes the first free number, and nothing need move
-    if from == to {
-        return;
-    }
-    let number = order.remove(from);
-    match order.insert(to, number) {
-        Ok(()) => {}
-        Err(_) => unreachable!(),
+    if from < to {
+        order[from..to + 1].rotate_left(1);
+    } else {
+        order[to..from + 1].rotate_right(1);
     }
 }
 
 // The place of the number, if it is one of the first `used`.
-fn find(order: &[u32], places: &[u32], used: usize, number: u32) -> Option<usize>
+fn find(order: &[u16], places: &[u16], used: usize, number: u32) -> Option<usize>
     requires { AreOrdered order.now places.now used }
     ensures { MatchOption result (¬ (Contains (take used order.now) number)) (IsAt (take used order.now) number) }
 {
@@ -87,7 +83,7 @@ fn find(order: &[u32], places: &[u32], used: usize, number: u32) -> Option<usize
 }
 
 // A free number comes into use at `at`.
-fn put_in(order: &mut Vec<u32>, places: &mut Vec<u32>, used: usize, at: usize, number: u32)
+fn put_in(order: &mut Vec<u16>, places: &mut Vec<u16>, used: usize, at: usize, number: u32)
     requires ordered { AreOrdered order.old.items places.old.items used }
     requires is_place { at ≤ used }
     requires free { ¬ (Contains (take used order.old.items) number) }
@@ -102,7 +98,7 @@ fn put_in(order: &mut Vec<u32>, places: &mut Vec<u32>, used: usize, at: usize, n
 }
 
 // The number at `at` is free again.
-fn take_out(order: &mut Vec<u32>, places: &mut Vec<u32>, used: usize, at: usize)
+fn take_out(order: &mut Vec<u16>, places: &mut Vec<u16>, used: usize, at: usize)
     requires ordered { AreOrdered order.old.items places.old.items used }
     requires is_place { at < used }
     ensures ordered { AreOrdered order.new.items places.new.items (used - 1) }
@@ -156,7 +152,7 @@ impl Numbers {
         requires { k < length self.now }
         ensures { result ≡ slice_index self.now k }
     {
-        self.order[k]
+        self.order[k] as u32
     }
 
     /// The place of a number; none where it is not in use.
@@ -172,7 +168,7 @@ impl Numbers {
         ensures free { ¬ (Contains self.now result) }
         ensures low { result < most_labels }
     {
-        self.order[self.used]
+        self.order[self.used] as u32
     }
 
     /// A number that is not in use comes into use at `at`.

@@ -1,20 +1,21 @@
-use Rattle.std.proofs.Common.{◌≡◌, ℕ, ◌+◌, ◌<◌, ◌≢◌, arith, get_or, refl, sym, subst, ap, ◌∙◌, length, true, false, inl, inr, replicate}
+use Rattle.std.proofs.Common.{◌≡◌, ℕ, ◌+◌, ◌-◌, ◌<◌, ◌≤◌, ◌≢◌, arith, get_or, refl, sym, subst, ap, ◌∙◌, length, true, false, inl, inr, replicate}
 use Rattle.std.specs.Prelude.{IsTrue}
 use Rattle.std.proofs.lemmas.List.{get_or_read, get_or-replicate}
 use Rattle.std.proofs.lemmas.List.{length-map}
 use Rattle.ml_store.specs.Rows.{numbers_in, number_at, labels_in}
 use Rattle.ml_store.specs.declared.row.Row.{Row}
 use Rattle.ml_repair.specs.Repair.{present_slots}
+use Rattle.ml_repair.specs.Waiting.{NoneWaits}
 use Rattle.ml_repair.proofs.Present.{length-labels, length-present}
 use Rattle.ml_repair.proofs.Repairing.{Repairing}
-use Rattle.ml_repair.proofs.RepairSteps.{repairing_start, repairing_ends, repairing_kept, repairing_moved, repairing_still, repaired_own, repaired_size, first_count}
+use Rattle.ml_repair.proofs.RepairSteps.{repairing_start, repairing_ends, repairing_skip, repairing_moved, repairing_still, repaired_own, repaired_size, first_count}
 use Rattle.ml_repair.proofs.repair.repair.Goals as goal
-use Rattle.ml_repair.proofs.repair.repair.Goals.{then-comes, else-comes, then-index+in_ok-renew, else-index, then-branch+in_ok-note, else-branch}
+use Rattle.ml_repair.proofs.repair.repair.Goals.{then-comes, else-comes, then-branch+in_ok-note, else-branch}
 use Rattle.ml_ratio.proofs.lemmas.Fractions.{same_trans}
 use Rattle.ml_ratio.proofs.lemmas.Lists.{same_place}
 use Rattle.ml_cone.specs.Slots.{IsOwnSlot, row, ends}
 use Rattle.ml_repair.specs.Repair.{Stands}
-use Rattle.ml_repair.proofs.KeptBlockers.{noted_start, noted_still, noted_more, end_kept, end_from, pushed_one}
+use Rattle.ml_repair.proofs.KeptBlockers.{noted_start, noted_skip, noted_still, noted_more, end_kept, end_from, pushed_one}
 
 pub loop-i-init : goal.loop-i-init
 loop-i-init g c =
@@ -78,6 +79,64 @@ renew-requires-clause-known g c =
       changed_are = rw c.deref.ensures.value c.loop-i.invariant.1.noted;
     }
 
+pub loop-i-preserved-then-index : goal.loop-i-preserved-then-index
+loop-i-preserved-then-index g c =
+    let rows = c.args.roster.now in
+    let labels = labels_in rows in
+    let old = present_slots rows c.args.moves.now in
+    let slots = present_slots rows c.loop-i.moves in
+    let many = length-labels rows in
+    let at_in : c.args.at < length labels = omega arith in
+    let so_far = c.loop-i.invariant.1.repairing in
+    let one_wait = c.loop-i.invariant.1.one_wait in
+    let few = c.loop-i.invariant.1.few in
+    let before = c.loop-i.invariant.1.spent in
+    let i_in : c.loop-i.i < length labels = omega arith in
+    let read : c.index.result.now ≡ get_or c.loop-i.waits.items c.loop-i.i false = get_or_read c.loop-i.waits.items c.loop-i.i c.index.result.now (omega arith) c.index.ensures false in
+    let waited : get_or c.loop-i.waits.items c.loop-i.i false ≡ true = sym read ∙ c.if-index.true in
+    let next = present_slots rows c.renew.new.moves in
+    let len = length-present rows c.renew.new.moves in
+    let spent = c.in_ok-renew.ensures.spent in
+    let numbers = length-map rows (λ (r : Row). r.number) in
+    let apart : number_at rows c.args.at ≢ number_at rows c.loop-i.i = (λ e. let f = same_place (numbers_in rows) c.args.at c.loop-i.i 0 c.len-many.ensures.numbered.differ (omega arith) (omega arith) e in let beyond = so_far.from in omega arith) in
+    elim c.if-branch.branch [
+      | then-branch+in_ok-note w' ↦ (
+        c.loop-i.invariant.0,
+        record {
+          repairing = rw w'.waits-is
+              (repairing_moved c.rivals_or_free.ensures c.smaller_ends.ensures c.carried.ensures (number_at rows) labels old c.args.at c.args.comes at_in c.requires.was c.loop-i.i slots
+              (λ k. IsTrue (get_or c.loop-i.waits.items k false)) c.loop-i.evaluated so_far next i_in (omega arith) c.in_ok-renew.ensures.others c.in_ok-renew.ensures.own waited
+              (λ k. IsTrue (get_or w'.note.new.waits.items k false)) (rw w'.if-branch.true at c.in_ok-renew.ensures.moved)
+              (λ k k_in lt. w'.in_ok-note.ensures.woken k (omega arith)));
+          one_wait = rw w'.waits-is w'.in_ok-note.ensures.one_each;
+          spent = omega arith;
+          few = omega arith;
+          far = omega arith;
+          kept = (λ own. c.in_ok-renew.ensures.same (number_at rows c.args.at) own apart ∙ c.loop-i.invariant.1.kept own);
+          noted = rw w'.changed-is
+              (noted_more c.args.at c.args.comes (ends old) (ends slots) (ends next) c.loop-i.i c.loop-i.changed.items w'.note.new.changed.items so_far.from c.loop-i.invariant.1.noted (λ k lt. end_kept slots next k (c.in_ok-renew.ensures.others k (λ e. omega arith)))
+              (pushed_one c.loop-i.changed.items c.loop-i.i w'.note.new.changed.items w'.in_ok-note.ensures.noted) same_trans);
+        },
+      )
+      | else-branch w' ↦ (
+        c.loop-i.invariant.0,
+        record {
+          repairing = rw w'.waits-is
+              (repairing_still c.rivals_or_free.ensures c.smaller_ends.ensures c.carried.ensures (number_at rows) labels old c.args.at c.args.comes at_in c.requires.was c.loop-i.i slots
+              (λ k. IsTrue (get_or c.loop-i.waits.items k false)) c.loop-i.evaluated so_far next i_in (omega arith) c.in_ok-renew.ensures.others c.in_ok-renew.ensures.own waited
+              (rw w'.if-branch.false at c.in_ok-renew.ensures.moved));
+          one_wait = rw w'.waits-is one_wait;
+          spent = omega arith;
+          few = omega arith;
+          far = omega arith;
+          kept = (λ own. c.in_ok-renew.ensures.same (number_at rows c.args.at) own apart ∙ c.loop-i.invariant.1.kept own);
+          noted = rw w'.changed-is
+              (noted_still c.args.at c.args.comes (ends old) (ends slots) (ends next) c.loop-i.i c.loop-i.changed.items c.loop-i.invariant.1.noted (λ k lt. end_kept slots next k (c.in_ok-renew.ensures.others k (λ e. omega arith)))
+              (end_from slots old c.loop-i.i (ends next c.loop-i.i) (so_far.rest c.loop-i.i (omega arith)) (rw w'.if-branch.false at c.in_ok-renew.ensures.moved)) same_trans);
+        },
+      )
+    ]
+
 pub loop-i-preserved : goal.loop-i-preserved
 loop-i-preserved g c =
     let rows = c.args.roster.now in
@@ -92,69 +151,25 @@ loop-i-preserved g c =
     let before = c.loop-i.invariant.1.spent in
     let i_in : c.loop-i.i < length labels = omega arith in
     let read : c.index.result.now ≡ get_or c.loop-i.waits.items c.loop-i.i false = get_or_read c.loop-i.waits.items c.loop-i.i c.index.result.now (omega arith) c.index.ensures false in
-    elim c.if-index.branch [
-      | then-index+in_ok-renew w ↦
-          let waited : get_or c.loop-i.waits.items c.loop-i.i false ≡ true = sym read ∙ w.if-index.true in
-          let next = present_slots rows w.renew.new.moves in
-          let len = length-present rows w.renew.new.moves in
-          let spent = w.in_ok-renew.ensures.spent in
-          let numbers = length-map rows (λ (r : Row). r.number) in
-          let apart : number_at rows c.args.at ≢ number_at rows c.loop-i.i = (λ e. let f = same_place (numbers_in rows) c.args.at c.loop-i.i 0 c.len-many.ensures.numbered.differ (omega arith) (omega arith) e in let beyond = so_far.from in omega arith) in
-          elim w.if-branch.branch [
-            | then-branch+in_ok-note w' ↦ (
-              c.loop-i.invariant.0,
-              record {
-                repairing = rw (w.moves-is, w.waits-is, w'.waits-is, w.evaluated-is)
-                    (repairing_moved c.rivals_or_free.ensures c.smaller_ends.ensures c.carried.ensures (number_at rows) labels old c.args.at c.args.comes at_in c.requires.was c.loop-i.i slots
-                    (λ k. IsTrue (get_or c.loop-i.waits.items k false)) c.loop-i.evaluated so_far next i_in (omega arith) w.in_ok-renew.ensures.others w.in_ok-renew.ensures.own waited
-                    (λ k. IsTrue (get_or w'.note.new.waits.items k false)) (rw w'.if-branch.true at w.in_ok-renew.ensures.moved)
-                    (λ k k_in lt. w'.in_ok-note.ensures.woken k (omega arith)));
-                one_wait = rw (w.waits-is, w'.waits-is) w'.in_ok-note.ensures.one_each;
-                spent = rw (w.steps-is, w.evaluated-is) (omega arith);
-                few = rw w.evaluated-is (omega arith);
-                far = omega arith;
-                kept = rw w.moves-is (λ own. w.in_ok-renew.ensures.same (number_at rows c.args.at) own apart ∙ c.loop-i.invariant.1.kept own);
-                noted = rw (w.moves-is, w.changed-is, w'.changed-is)
-                    (noted_more c.args.at c.args.comes (ends old) (ends slots) (ends next) c.loop-i.i c.loop-i.changed.items w'.note.new.changed.items so_far.from c.loop-i.invariant.1.noted (λ k lt. end_kept slots next k (w.in_ok-renew.ensures.others k (λ e. omega arith)))
-                    (pushed_one c.loop-i.changed.items c.loop-i.i w'.note.new.changed.items w'.in_ok-note.ensures.noted) same_trans);
-              },
-            )
-            | else-branch w' ↦ (
-              c.loop-i.invariant.0,
-              record {
-                repairing = rw (w.moves-is, w.waits-is, w'.waits-is, w.evaluated-is)
-                    (repairing_still c.rivals_or_free.ensures c.smaller_ends.ensures c.carried.ensures (number_at rows) labels old c.args.at c.args.comes at_in c.requires.was c.loop-i.i slots
-                    (λ k. IsTrue (get_or c.loop-i.waits.items k false)) c.loop-i.evaluated so_far next i_in (omega arith) w.in_ok-renew.ensures.others w.in_ok-renew.ensures.own waited
-                    (rw w'.if-branch.false at w.in_ok-renew.ensures.moved));
-                one_wait = rw (w.waits-is, w'.waits-is) one_wait;
-                spent = rw (w.steps-is, w.evaluated-is) (omega arith);
-                few = rw w.evaluated-is (omega arith);
-                far = omega arith;
-                kept = rw w.moves-is (λ own. w.in_ok-renew.ensures.same (number_at rows c.args.at) own apart ∙ c.loop-i.invariant.1.kept own);
-                noted = rw (w.moves-is, w.changed-is, w'.changed-is)
-                    (noted_still c.args.at c.args.comes (ends old) (ends slots) (ends next) c.loop-i.i c.loop-i.changed.items c.loop-i.invariant.1.noted (λ k lt. end_kept slots next k (w.in_ok-renew.ensures.others k (λ e. omega arith)))
-                    (end_from slots old c.loop-i.i (ends next c.loop-i.i) (so_far.rest c.loop-i.i (omega arith)) (rw w'.if-branch.false at w.in_ok-renew.ensures.moved)) same_trans);
-              },
-            )
-          ]
-      | else-index w ↦
-          let idle : get_or c.loop-i.waits.items c.loop-i.i false ≡ false = sym read ∙ w.if-index.false in (
-            c.loop-i.invariant.0,
-            record {
-              repairing = rw (w.moves-is, w.waits-is, w.evaluated-is)
-                  (repairing_kept c.rivals_or_free.ensures c.smaller_ends.ensures c.carried.ensures (number_at rows) labels old c.args.at c.args.comes at_in c.requires.was c.loop-i.i slots
-                  (λ k. IsTrue (get_or c.loop-i.waits.items k false)) c.loop-i.evaluated so_far i_in (λ t. let e : false ≡ true = sym idle ∙ t in cc));
-              one_wait = rw w.waits-is one_wait;
-              spent = rw (w.steps-is, w.evaluated-is) before;
-              few = rw w.evaluated-is (omega arith);
-              far = omega arith;
-              kept = rw w.moves-is c.loop-i.invariant.1.kept;
-              noted = rw (w.moves-is, w.changed-is)
-                  (noted_still c.args.at c.args.comes (ends old) (ends slots) (ends slots) c.loop-i.i c.loop-i.changed.items c.loop-i.invariant.1.noted (λ k lt. refl)
-                  (end_from slots old c.loop-i.i (ends slots c.loop-i.i) (so_far.rest c.loop-i.i (omega arith)) refl) same_trans);
-            },
-          )
-    ]
+    let idle : NoneWaits c.loop-i.waits.items c.loop-i.i c.next_waiting-i.result = rw c.deref-else-index.ensures.value at c.next_waiting-i.ensures.idle in
+    let size = c.deref-else-index.ensures.value in
+    let within : c.next_waiting-i.result ≤ length rows = (let w = c.next_waiting-i.ensures.within in let e = ap length c.deref-else-index.ensures.value in omega arith) in
+    let behind = c.next_waiting-i.ensures.behind in
+    let on : c.loop-i.i + (c.next_waiting-i.result - c.loop-i.i) ≡ c.next_waiting-i.result = omega arith in (
+      c.loop-i.invariant.0,
+      record {
+        repairing = subst (λ (j : ℕ). Repairing (number_at rows) labels old c.args.at c.args.comes j slots (λ k. IsTrue (get_or c.loop-i.waits.items k false)) c.loop-i.evaluated) on
+            (repairing_skip c.rivals_or_free.ensures c.smaller_ends.ensures c.carried.ensures (number_at rows) labels old c.args.at c.args.comes at_in c.requires.was (c.next_waiting-i.result - c.loop-i.i) c.loop-i.i slots
+            (λ k. IsTrue (get_or c.loop-i.waits.items k false)) c.loop-i.evaluated (omega arith) (λ k a b. idle k a (omega arith)) so_far);
+        one_wait = one_wait;
+        spent = before;
+        few = omega arith;
+        far = within;
+        kept = c.loop-i.invariant.1.kept;
+        noted = noted_skip c.args.at c.args.comes (ends old) (ends slots) c.loop-i.i c.next_waiting-i.result c.loop-i.changed.items behind c.loop-i.invariant.1.noted
+            (λ j from. end_from slots old j (ends slots j) (so_far.rest j from) refl);
+      },
+    )
 
 pub returns-clause-own : goal.returns-clause-own
 returns-clause-own g c =

@@ -1,4 +1,4 @@
-use Rattle.std.proofs.Common.{ℕ, ◌≡◌, ◌+◌, ◌≤◌, List, Bool, false, length, get_or}
+use Rattle.std.proofs.Common.{ℕ, ◌≡◌, ◌+◌, ◌-◌, ◌≤◌, List, Bool, false, length, get_or}
 use Rattle.std.specs.Prelude.{IsTrue, if◌then◌else◌}
 use Rattle.ml_store.specs.Rows.{number_at, labels_in}
 use Rattle.ml_store.specs.declared.row.Row.{Row}
@@ -23,3 +23,6 @@ pub record Running (rows : List Row) (old : List Moved) (at : ℕ) (comes : Bool
 
 abbrev pub invariant-loop-i : goal.invariant-loop-i
 invariant-loop-i g l = (l.many ≡ length l.roster) × Running l.roster l.fn.moves l.at l.comes l.i l.moves l.waits.items l.changed.items l.evaluated l.fn.steps l.steps
+
+abbrev pub decreases-loop-i : goal.decreases-loop-i
+decreases-loop-i g l = l.many - l.i
