@@ -12,6 +12,9 @@ from typing import NamedTuple
 
 STARTER = str(Path(__file__).resolve().parent / "starter.py")
 PATIENCE = 120  # seconds in which a server sends or takes something
+PROCESSORS = sorted(os.sched_getaffinity(0))
+# All programs run on this one; who makes their requests stands aside where there are others.
+PROCESSOR = PROCESSORS[-1]
 
 
 class Refused(Exception):
@@ -51,7 +54,7 @@ class Started:
         self.name = f"{program} {words[0]}"
         told, tell = os.pipe()
         self.told = open(told, encoding="ascii")
-        command = [sys.executable, "-I", "-S", "-B", STARTER, str(tell), program, *words]
+        command = [sys.executable, "-I", "-S", "-B", STARTER, str(tell), str(PROCESSOR), program, *words]
         self.process = subprocess.Popen(command, stdin=source, stdout=sink, stderr=notes, pass_fds=[tell],
                                         start_new_session=True)
         os.close(tell)
@@ -133,6 +136,11 @@ def served(program, run, notes):
         last = started.process.stdout.read()
         status, seconds, kib = started.end()
     return Ended(status, b"".join([first, last, *replies]), seconds - loaded, kib)
+
+
+def stand_aside():
+    """Leaves the processor on which programs run, if there is another."""
+    os.sched_setaffinity(0, PROCESSORS[:-1] or PROCESSORS)
 
 
 def end_of(program, run, folder, notes=subprocess.DEVNULL):

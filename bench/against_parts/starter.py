@@ -1,12 +1,12 @@
 """Starts a program, tells its number, and at its end the exit code, processor seconds and the greatest memory in KiB.
 
-    python3 -I -S -B starter.py FILE PROGRAM WORDS..
+    python3 -I -S -B starter.py FILE PROCESSOR PROGRAM WORDS..
 
 FILE is the number of the open file to which it tells them, in two lines. The greatest memory that the system tells of
 a process is never below that of the process that started it, so this one imports little and has some 8 MiB.
 
-Every program runs on the same processor, the last of those that this one may use: those of a virtual machine may differ
-in speed by half, and programs that run in turn would come to stand on one each.
+The program runs on this processor alone: those of a virtual machine may differ in speed by half, and programs that run
+in turn would come to stand on one each.
 """
 
 import os
@@ -14,10 +14,10 @@ import sys
 
 
 def main():
-    told, program = int(sys.argv[1]), sys.argv[2]
+    told, program = int(sys.argv[1]), sys.argv[3]
     os.set_inheritable(told, False)
-    os.sched_setaffinity(0, {max(os.sched_getaffinity(0))})
-    child = os.posix_spawn(program, sys.argv[2:], os.environ)
+    os.sched_setaffinity(0, {int(sys.argv[2])})
+    child = os.posix_spawn(program, sys.argv[3:], os.environ)
     os.write(told, f"{child}\n".encode())
     _, status, usage = os.wait4(child, 0)
     line = f"{os.waitstatus_to_exitcode(status)} {usage.ru_utime + usage.ru_stime} {usage.ru_maxrss}\n"
