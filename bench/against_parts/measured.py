@@ -9,6 +9,9 @@ from against_parts.works import Work
 HEAD = """| Workload | Seconds | Seconds of OTHER | Ratio | MiB | MiB of OTHER | Owed |
 |---|---|---|---|---|---|---|"""
 LEAST = 0.001  # seconds: what takes less counts as this much in a ratio
+# A processor may be slower for seconds on end: so a short workload is timed until OTHER has run for so many seconds in
+# all, but not more often than this.
+ENOUGH, MOST = 1.0, 20
 
 
 class Taken:
@@ -46,7 +49,8 @@ class Measured(NamedTuple):
 
 
 def measure(programs, work, folder, times):
-    """Runs both programs in turn. The first run of each is not timed; there standard error is compared too."""
+    """Runs both programs in turn, so many times at least. The first run of each is not timed; there standard error is
+    compared too."""
     taken, first, fault = tuple(Taken() for _ in programs), None, ""
     notes = folder / "notes"
     for name, program in zip(("the program", "OTHER"), programs):
@@ -58,7 +62,9 @@ def measure(programs, work, folder, times):
             fault = fault or f"{name} fails"
         elif seen != first:
             fault = fault or "outputs differ"
-    for _ in range(times):
+    turn, spent = 0, 0.0
+    while turn < times or turn < MOST and spent < ENOUGH:
+        turn += 1
         for program, its in zip(programs, taken):
             if work.less:
                 its.less = min(its.less, end_of(program, work.less, folder).seconds)
@@ -66,4 +72,5 @@ def measure(programs, work, folder, times):
             its.seconds, its.kib = min(its.seconds, ended.seconds), max(its.kib, ended.kib)
             if (ended.status, ended.out) != first[:2]:
                 fault = fault or "outputs differ"
+        spent += ended.seconds  # (OTHER ran last)
     return Measured(work, taken, fault)
