@@ -1,6 +1,5 @@
 //! Cells: squares of the world by which labels are found.
 ghost use Rattle.std.specs.Prelude.{◌≡◌, ◌≤◌, ◌+◌, ◌^◌, pos};
-ghost use Rattle.ml_cone.specs.Cells.{cell_side};
 
 /// The cells of a band from `(x0, y0)` to `(x1, y1)`, both counted in.
 ///
