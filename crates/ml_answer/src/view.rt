@@ -13,6 +13,9 @@ use ml_ratio::{Ratio, Seq};
 use std::alloc::{AllocError, Global};
 use std::marker::Model;
 
+// The bytes for which room is taken at first, enough for some eight labels.
+const ROOM: usize = 1000;
+
 /// The text of a view, fed with the labels that it shows.
 ///
 /// The text grows with each label, so the labels themselves are not kept.
@@ -40,7 +43,8 @@ impl JsonView {
     pub fn new(alloc: Global, scale: Ratio) -> Result<JsonView, AllocError>
         ensures { IfOk result (λ view. view ≡ no_label scale) }
     {
-        let text = Vec::from_slice(alloc, b"{\"labels\":[")?;
+        let mut text = Vec::with_capacity(alloc, ROOM)?;
+        text.extend_from_slice(b"{\"labels\":[")?;
         Ok(JsonView {
             scale,
             text,

@@ -3,15 +3,15 @@ use Rattle.std.proofs.Common.{◌≡◌, ℕ, ◌-◌, ◌<◌, Bool, true, fals
 use Rattle.std.proofs.lemmas.Bool.Decides.{nat_tests}
 use Rattle.ml_io.specs.Causes.{Appends, AppendsPart}
 use Rattle.ml_io.specs.Takes.{Draws, HasRunOut}
-use Rattle.ml_http.specs.declared.request.Event.{Event}
+use Rattle.ml_request.specs.declared.request.Event.{Event}
 use Rattle.ml_http.specs.declared.connection_end.ConnEnd.{ConnEnd}
 use Rattle.ml_http.specs.declared.connection_end.ConnEnd.TheVariants.{Shut, Starved, Closed, ReadFault, WriteFault}
 use Rattle.ml_http.specs.declared.connection_end.Turn.{Turn}
 use Rattle.ml_http.specs.declared.connection_end.Turn.TheVariants.{Open, Over}
-use Rattle.ml_http.specs.Stream.{BeginsWith, HasNoEvent, closes, Reads, AreFirstEvents}
+use Rattle.ml_request.specs.Stream.{BeginsWith, HasNoEvent, closes, Reads, AreFirstEvents}
 use Rattle.ml_http.specs.Connection.{memory_reply, brought, IsCut, Exchange, IsConnEnd, IsServed, IsOpenTurn, IsTurn, IsReply, IsStarved}
-use Rattle.ml_http.proofs.StreamLemmas.{event_grows}
-use Rattle.ml_http.proofs.TakesLemmas.{takes_nothing, takes_twice, appends_nothing, appends_twice}
+use Rattle.ml_request.proofs.lemmas.Streams.{event_grows}
+use Rattle.ml_request.proofs.lemmas.Takes.{takes_nothing, takes_twice, appends_nothing, appends_twice}
 
 -- what a source brought, piece by piece
 nothing_more : (bs : List ℕ) (c : Option (List ℕ)) (rest : List ℕ) → bs ≡ [] → Draws (Some bs) c rest → rest ≡ bs

@@ -1,11 +1,11 @@
 -- Tiles that go, and those that stay.
-use Rattle.std.proofs.Common.{◌≡◌, ◌≢◌, ℕ, zero, suc, ◌+◌, ◌<◌, List, [], ◌∷◌, ◌++◌, length, take, get_or, Contains, ◌⊎◌, inl, inr, refl, sym, ap, subst, ◌∙◌, arith, Option, Some, None}
+use Rattle.std.proofs.Common.{◌≡◌, ◌≢◌, ℕ, ◌+◌, ◌<◌, List, [], ◌∷◌, ◌++◌, length, take, get_or, Contains, ◌⊎◌, inl, inr, refl, sym, ap, subst, ◌∙◌, Option, Some, None}
 use Rattle.std.specs.Prelude.{◌↔◌}
 use Rattle.std.proofs.lemmas.List.{take_more}
 use Rattle.ml_cone.specs.declared.label.Label.{Label}
 use Rattle.ml_cone.specs.declared.slot.Span.{Span}
 use Rattle.ml_watch.specs.declared.change.Change.{Change}
-use Rattle.ml_store.specs.Rows.{labels_in, HasId}
+use Rattle.ml_store.specs.Rows.{labels_in}
 use Rattle.ml_store.specs.declared.row.Row.{Row}
 use Rattle.ml_ratio.proofs.lemmas.Lists.{contains_map, map_contains}
 use Rattle.ml_repair.specs.Changes.{IsTold, span_of}

@@ -1,6 +1,5 @@
 -- The bodies of tiles that are held stay right while a map is edited.
-use Rattle.std.proofs.Common.{◌≡◌, ◌≢◌, ℕ, zero, suc, ◌<◌, ◌≤◌, Bool, List, [], ◌∷◌, ◌++◌, length, map, take, get_or, Contains, All, ◌⊎◌, inl, inr, refl, sym, ap, subst, ◌∙◌, arith, Option, Some, None, Result, Ok, Err}
-use Rattle.std.specs.Prelude.{◌↔◌}
+use Rattle.std.proofs.Common.{◌≡◌, ℕ, ◌<◌, List, [], ◌∷◌, length, map, get_or, Contains, All, ◌⊎◌, inl, inr, refl, sym, ap, subst, ◌∙◌, arith}
 use Rattle.std.specs.declared.cmp.Ordering.TheVariants.{Less}
 use Rattle.std.proofs.lemmas.List.{get_or_default, get_or-map, length-map}
 use Rattle.std.proofs.lemmas.List.Elements.{All-contains, All-cons, All-nil}
@@ -9,7 +8,6 @@ use Rattle.ml_cone.specs.Range.{ActiveBetween}
 use Rattle.ml_cone.specs.Shown.{IsInView}
 use Rattle.ml_cone.specs.Order.{order_cmp}
 use Rattle.ml_cone.specs.Slots.{no_slot}
-use Rattle.ml_cone.specs.declared.label.Label.{Label}
 use Rattle.ml_cone.specs.declared.view.View.{View}
 use Rattle.ml_watch.specs.declared.change.Change.{Change}
 use Rattle.ml_store.specs.Rows.{labels_in, slots_in}
@@ -19,14 +17,14 @@ use Rattle.ml_repair.specs.Changes.{AreChanges, IsChanged, StandsAmong, span_of}
 use Rattle.ml_repair.specs.Settled.{IsSettled}
 use Rattle.ml_answer.specs.View.{view_text}
 use Rattle.ml_editor.specs.State.{State}
-use Rattle.ml_tile.specs.Cache.{HeldTile, ShowsIn}
+use Rattle.ml_tile.specs.Cache.{ShowsIn}
 use Rattle.ml_tile.specs.Tile.{IsTileView}
 use Rattle.ml_tile.specs.declared.key.TileKey.{TileKey}
-use Rattle.ml_answer.specs.MapView.{AreRowsOf, AreShownRows, IsViewText, json_body, shown_of}
+use Rattle.ml_answer.specs.MapView.{AreRowsOf, AreShownRows, shown_of}
 use Rattle.ml_http.specs.Step.{IsTileText}
-use Rattle.ml_http.specs.TileWork.{ShowsId, ShowsChange, ShowsChanges}
+use Rattle.ml_http.specs.TileWork.{ShowsId, ShowsChanges}
 use Rattle.ml_http.proofs.SameLabels.{same_labels}
-use Rattle.ml_http.proofs.SameLists.{here, later, cases}
+use Rattle.ml_http.proofs.SameLists.{here, later}
 use Rattle.ml_http.proofs.SameReplies.{OneLabel}
 use Rattle.ml_http.proofs.SameViews.{OneLongest, same_untils}
 use Rattle.ml_http.proofs.ShownRows.{ShowsRow, AreJustShown, just_shown, rows_shown}

@@ -1,5 +1,5 @@
 -- Two accounts of one connection that both end well over the same bytes from one state write the same bytes.
-use Rattle.std.proofs.Common.{◌≡◌, ◌≢◌, ℕ, ◌+◌, ◌≤◌, Bool, List, [], ◌∷◌, ◌++◌, length, map, flat_map, Option, Some, None, Result, Ok, Err, ◌⊎◌, inl, inr, refl, sym, ap, subst, ◌∙◌, arith}
+use Rattle.std.proofs.Common.{◌≡◌, ℕ, ◌≤◌, Bool, List, [], ◌∷◌, ◌++◌, length, map, flat_map, Option, Some, None, Result, Ok, Err, inl, inr, refl, sym, ap, subst, ◌∙◌, arith}
 use Rattle.std.specs.Prelude.{MatchOption, codes}
 use Rattle.std.proofs.lemmas.List.{append-nil, length-append}
 use Rattle.ml_io.specs.Causes.{Appends}
@@ -9,26 +9,24 @@ use Rattle.ml_editor.specs.State.{State, IsState, step}
 use Rattle.ml_editor.specs.declared.edit.Edit.{Edit}
 use Rattle.ml_editor.specs.declared.edit.Edit.TheVariants.{Remove as Removes}
 use Rattle.ml_editor.specs.declared.fault.EditFault.{EditFault}
-use Rattle.ml_http.specs.Connection.{IsConnEnd, brought}
 use Rattle.ml_http.specs.Link.{LinkState, LinkStep, IsLinkServed}
 use Rattle.ml_http.specs.Once.{AreOneAnswer, EndsWell}
-use Rattle.ml_http.specs.Request.{RequestParts}
+use Rattle.ml_request.specs.Request.{RequestParts}
 use Rattle.ml_http.specs.Routes.{path_of, query_of, route_of, query_pairs, named, revision_in, id_in}
 use Rattle.ml_http.specs.Run.{Run}
-use Rattle.ml_http.specs.Step.{LinkAnswer, Query, Stays, IsTileFor, IsTileAnswer, IsEditAnswered, IsEditReply, IsRouted, MapStep}
-use Rattle.ml_http.specs.Stream.{AreEvents}
+use Rattle.ml_http.specs.Step.{LinkAnswer, Query, Stays, IsTileFor, IsEditAnswered, IsEditReply, IsRouted, MapStep}
+use Rattle.ml_request.specs.Stream.{AreEvents}
 use Rattle.ml_http.specs.declared.connection_end.ConnEnd.{ConnEnd}
 use Rattle.ml_http.specs.declared.connection_end.ConnEnd.TheVariants.{Shut, Starved, Closed, ReadFault, WriteFault}
-use Rattle.ml_http.specs.declared.request.Event.{Event}
-use Rattle.ml_http.specs.declared.request.Event.TheVariants.{Whole, Refused}
+use Rattle.ml_request.specs.declared.request.Event.{Event}
+use Rattle.ml_request.specs.declared.request.Event.TheVariants.{Whole, Refused}
 use Rattle.ml_http.specs.declared.route.EditRoute.{EditRoute}
 use Rattle.ml_http.specs.declared.route.EditRoute.TheVariants as edits
 use Rattle.ml_http.specs.declared.route.NoRoute.{NoRoute}
 use Rattle.ml_http.specs.declared.route.Route.{Route}
 use Rattle.ml_http.specs.declared.route.Route.TheVariants as routes
-use Rattle.ml_http.specs.declared.route.ReadRoute.{ReadRoute}
 use Rattle.ml_tile.specs.declared.key.TileKey.{TileKey}
-use Rattle.ml_http.proofs.StreamLemmas.{events_of_prefix}
+use Rattle.ml_request.proofs.lemmas.Streams.{events_of_prefix}
 
 -- what the rules accept leads to a state that can be reached
 pub record Reaches : Type 0 where

@@ -1,5 +1,5 @@
 -- A request that changes nothing has one reply.
-use Rattle.std.proofs.Common.{◌≡◌, ◌≢◌, ℕ, ◌<◌, Bool, List, [], length, get_or, Contains, Option, Some, None, Result, Ok, Err, inl, inr, refl, sym, ap, subst, ◌∙◌, arith}
+use Rattle.std.proofs.Common.{◌≡◌, ℕ, ◌<◌, Bool, List, length, get_or, Contains, Option, Some, None, Result, Ok, Err, inl, inr, refl, sym, ap, subst, ◌∙◌, arith}
 use Rattle.std.specs.Prelude.{MatchOption, codes}
 use Rattle.std.proofs.lemmas.Bool.{cases_order}
 use Rattle.std.proofs.lemmas.List.{get_or_default, get_or-map, length-map}
@@ -10,19 +10,17 @@ use Rattle.ml_ratio.specs.declared.ratio.Ratio.{Ratio}
 use Rattle.ml_cone.specs.Slots.{IsBlockerBy, AreSlots, ends, no_slot}
 use Rattle.ml_cone.specs.declared.label.Label.{Label}
 use Rattle.ml_cone.specs.declared.slot.Slot.{Slot}
-use Rattle.ml_geojson.specs.Map.{HaveDifferentIds}
-use Rattle.ml_style.specs.declared.style.Style.{Style}
 use Rattle.ml_label.specs.Labelling.{IsLabelling, IsSameAnswer}
 use Rattle.ml_label.specs.Labels.{AreLabelsOf}
 use Rattle.ml_label.specs.declared.reason.Reason.{Reason}
 use Rattle.ml_store.specs.Rows.{labels_in, slots_in, number_at}
 use Rattle.ml_store.specs.declared.row.Row.{Row}
 use Rattle.ml_repair.specs.Settled.{IsSettled}
-use Rattle.ml_editor.specs.State.{State, IsState, HasFeature}
+use Rattle.ml_editor.specs.State.{State, IsState}
 use Rattle.ml_editor.specs.declared.standing.Standing.{Standing}
 use Rattle.ml_editor.specs.declared.standing.Standing.TheVariants.{Unlabelled, Labelled}
 use Rattle.ml_answer.specs.Edit.{rev_text}
-use Rattle.ml_answer.specs.MapView.{AreRowsOf, json_body, svg_body}
+use Rattle.ml_answer.specs.MapView.{json_body, svg_body}
 use Rattle.ml_answer.specs.Reason.{reason_text}
 use Rattle.ml_answer.specs.Slot.{slot_text}
 use Rattle.ml_follow.specs.StateText.{state_text}

@@ -1,19 +1,18 @@
 -- An event that is answered in a state has one reply, one list of changes and one cost, and leaves one state.
-use Rattle.std.proofs.Common.{◌≡◌, ◌≢◌, ℕ, ◌<◌, Bool, List, [], length, Option, Some, None, Result, Ok, Err, ◌⊎◌, inl, inr, refl, sym, ap, subst, ◌∙◌}
+use Rattle.std.proofs.Common.{◌≡◌, ◌≢◌, ℕ, Bool, List, [], Option, Some, None, Result, Ok, Err, inl, inr, refl, sym, ap, subst, ◌∙◌}
 use Rattle.std.specs.Prelude.{MatchOption, codes}
 use Rattle.std.proofs.lemmas.Option.{same_Some}
 use Rattle.ml_cone.specs.Label.{IsLabelList}
 use Rattle.ml_cone.specs.declared.label.Label.{Label}
 use Rattle.ml_cone.specs.declared.slot.Slot.{Slot}
-use Rattle.ml_label.specs.Labels.{AreLabelsOf}
 use Rattle.ml_store.specs.Rows.{labels_in, slots_in}
 use Rattle.ml_store.specs.declared.row.Row.{Row}
 use Rattle.ml_watch.specs.declared.change.Change.{Change}
 use Rattle.ml_repair.specs.Changes.{AreChanges}
 use Rattle.ml_repair.specs.Cost.{IsCost}
-use Rattle.ml_editor.specs.Editing.{IsEditCost, id_of}
+use Rattle.ml_editor.specs.Editing.{id_of}
 use Rattle.ml_editor.specs.Faults.{ExcludeOneAnother, IsAddFault, IsAdding, IsAddition, IsReplaceFault, IsReplacing, IsReplacement, IsRemoveFault, IsRemoval, IsStyleFault, IsRestyle, IsRestyling}
-use Rattle.ml_editor.specs.State.{State, IsState, step}
+use Rattle.ml_editor.specs.State.{State, IsState}
 use Rattle.ml_editor.specs.declared.edit.Edit.{Edit}
 use Rattle.ml_editor.specs.declared.edit.Edit.TheVariants.{Remove as Removes}
 use Rattle.ml_editor.specs.declared.fault.EditFault.{EditFault}
@@ -23,19 +22,19 @@ use Rattle.ml_answer.specs.MapView.{AreRowsOf}
 use Rattle.ml_tile.specs.declared.key.TileKey.{TileKey}
 use Rattle.ml_http.specs.Once.{AreOneAnswer}
 use Rattle.ml_http.specs.Replies.{json_reply, fault_code, fault_reply}
-use Rattle.ml_http.specs.Request.{RequestParts}
+use Rattle.ml_request.specs.Request.{RequestParts}
 use Rattle.ml_http.specs.Routes.{path_of, query_of, route_of, query_pairs, named, revision_in, id_in}
-use Rattle.ml_http.specs.Step.{LinkAnswer, Query, Stays, plain, IsTileFor, IsTileAnswer, IsCarriedOut, IsTurnedDown, IsEditAnswered, ForRevision, IsEditReply, IsRouted, MapStep}
-use Rattle.ml_http.specs.declared.request.Event.{Event}
-use Rattle.ml_http.specs.declared.request.Event.TheVariants.{Whole, Refused}
+use Rattle.ml_http.specs.Step.{LinkAnswer, Query, Stays, IsTileFor, IsTileAnswer, IsCarriedOut, IsEditAnswered, IsEditReply, IsRouted, MapStep}
+use Rattle.ml_request.specs.declared.request.Event.{Event}
+use Rattle.ml_request.specs.declared.request.Event.TheVariants.{Whole, Refused}
 use Rattle.ml_http.specs.declared.route.EditRoute.{EditRoute}
 use Rattle.ml_http.specs.declared.route.EditRoute.TheVariants as edits
 use Rattle.ml_http.specs.declared.route.NoRoute.{NoRoute}
 use Rattle.ml_http.specs.declared.route.Route.{Route}
 use Rattle.ml_http.specs.declared.route.Route.TheVariants as routes
 use Rattle.ml_http.proofs.OneRead.{labels_again, one_read}
-use Rattle.ml_http.proofs.OneTile.{one_reply as one_tile_reply, one_asked}
-use Rattle.ml_http.proofs.SameChanges.{SameEnds, turned, changes_moved}
+use Rattle.ml_http.proofs.OneTile.{one_reply as one_tile_reply}
+use Rattle.ml_http.proofs.SameChanges.{SameEnds, changes_moved}
 use Rattle.ml_http.proofs.SameReplies.{OneLabel}
 use Rattle.ml_http.proofs.SameViews.{KnownChoice, same_untils}
 

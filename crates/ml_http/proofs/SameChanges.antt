@@ -1,6 +1,5 @@
 -- Changes see of a slot the end alone.
 use Rattle.std.proofs.Common.{◌≡◌, ℕ, ◌<◌, List, length, get_or, Option, Some, None, sym, ap, ◌∙◌}
-use Rattle.std.specs.Prelude.{All}
 use Rattle.std.proofs.lemmas.List.Elements.{All-weaker}
 use Rattle.ml_cone.specs.Slots.{no_slot}
 use Rattle.ml_cone.specs.declared.label.Label.{Label}
@@ -8,7 +7,7 @@ use Rattle.ml_cone.specs.declared.slot.Slot.{Slot}
 use Rattle.ml_cone.specs.declared.slot.Span.{Span}
 use Rattle.ml_ratio.specs.declared.ratio.Ratio.{Ratio}
 use Rattle.ml_watch.specs.declared.change.Change.{Change}
-use Rattle.ml_repair.specs.Changes.{Ranged, IsStanding, IsStateOf, IsChange, AreChanges}
+use Rattle.ml_repair.specs.Changes.{Ranged, IsStateOf, IsChange, AreChanges}
 
 -- the slots of these labels have the same ends
 abbrev pub SameEnds : List Label → List Slot → List Slot → Type 0

@@ -1,11 +1,9 @@
 -- What a view shows depends on the labels alone.
-use Rattle.std.proofs.Common.{◌≡◌, ◌≢◌, ℕ, ◌+◌, ◌<◌, Option, List, [], ◌∷◌, length, map, get_or, Contains, All, ◌⊎◌, inl, inr, refl, sym, ap, subst, ◌∙◌, arith}
-use Rattle.std.specs.Prelude.{◌↔◌}
+use Rattle.std.proofs.Common.{◌≡◌, ℕ, ◌<◌, Option, List, [], ◌∷◌, length, map, get_or, Contains, All, inl, inr, refl, sym, ap, subst, ◌∙◌, arith}
 use Rattle.std.proofs.lemmas.Bool.{cases_lt}
 use Rattle.std.proofs.lemmas.List.{get_or_default, get_or-map, length-map}
 use Rattle.std.proofs.lemmas.List.Elements.{All-get_or}
 use Rattle.ml_ratio.specs.Fraction.{value_of, IsSame}
-use Rattle.ml_ratio.specs.declared.feature.Feature.{Feature}
 use Rattle.ml_cone.specs.Choice.{Choice, IsLongest}
 use Rattle.ml_cone.specs.Shown.{AreShown, IsShown, IsShownUntil}
 use Rattle.ml_cone.specs.Slots.{AreSlots, IsBlockerBy, ends, no_slot}
@@ -15,7 +13,6 @@ use Rattle.ml_cone.specs.declared.view.View.{View}
 use Rattle.ml_store.specs.Rows.{labels_in, slots_in, numbers_in, number_at, HaveOwnNumbers}
 use Rattle.ml_store.specs.declared.row.Row.{Row}
 use Rattle.ml_repair.specs.Settled.{IsSettled}
-use Rattle.ml_repair.specs.Shown.{AreShownNumbers}
 use Rattle.ml_answer.specs.View.{Shown}
 use Rattle.ml_answer.specs.MapView.{AreShownRows, shown_of}
 use Rattle.ml_http.proofs.SameLists.{one_list, here, later}

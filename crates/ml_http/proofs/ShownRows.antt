@@ -1,27 +1,22 @@
 -- What a view shows of rows, told row by row.
-use Rattle.std.proofs.Common.{◌≡◌, ◌≢◌, ℕ, zero, suc, ◌+◌, ◌<◌, List, [], ◌∷◌, length, map, get_or, Contains, All, ◌⊎◌, inl, inr, refl, sym, ap, subst, ◌∙◌, arith}
-use Rattle.std.specs.Prelude.{◌↔◌}
+use Rattle.std.proofs.Common.{◌≡◌, ℕ, zero, suc, ◌<◌, List, [], ◌∷◌, length, map, get_or, Contains, All, inl, inr, refl, sym, ap, subst, ◌∙◌, arith}
 use Rattle.std.specs.Ordering.{ordering_reverse}
 use Rattle.std.specs.declared.cmp.Ordering.TheVariants.{Less, Greater}
 use Rattle.std.proofs.lemmas.Bool.{cases_lt}
 use Rattle.std.proofs.lemmas.List.{get_or_default, get_or-map, length-map}
-use Rattle.std.proofs.lemmas.List.Elements.{All-contains, All-cons, All-head, All-tail, All-nil}
+use Rattle.std.proofs.lemmas.List.Elements.{All-contains, All-head, All-tail}
 use Rattle.ml_ratio.specs.Fraction.{value_of}
 use Rattle.ml_cone.specs.Choice.{ActiveUntil}
-use Rattle.ml_cone.specs.Label.{IsLabelList}
 use Rattle.ml_cone.specs.Order.{order_cmp, order_total}
 use Rattle.ml_cone.specs.Shown.{AreShown, IsShown, IsInView}
 use Rattle.ml_cone.specs.Slots.{ends, no_slot}
 use Rattle.ml_cone.specs.declared.label.Label.{Label}
 use Rattle.ml_cone.specs.declared.order.Order.{Order}
 use Rattle.ml_cone.specs.declared.view.View.{View}
-use Rattle.ml_store.specs.Rows.{labels_in, slots_in, numbers_in, number_at, HaveOwnNumbers}
+use Rattle.ml_store.specs.Rows.{labels_in, slots_in, numbers_in, number_at}
 use Rattle.ml_store.specs.declared.row.Row.{Row}
 use Rattle.ml_repair.specs.Settled.{IsSettled}
-use Rattle.ml_repair.specs.Shown.{AreShownNumbers}
-use Rattle.ml_answer.specs.View.{Shown}
-use Rattle.ml_answer.specs.MapView.{AreShownRows, shown_of}
-use Rattle.ml_http.proofs.SameLists.{here, later}
+use Rattle.ml_answer.specs.MapView.{AreShownRows}
 use Rattle.ml_http.proofs.SameViews.{row_of}
 
 -- the row's label, active until its end, is shown

@@ -1,10 +1,8 @@
 -- Whatever is answered, the bodies of tiles that are held stay right.
-use Rattle.std.proofs.Common.{◌≡◌, ℕ, zero, suc, codes, Bool, List, [], ◌∷◌, ◌++◌, take, Contains, ◌⊎◌, inl, inr, refl, sym, ap, subst, ◌∙◌, arith, Option, Some, None, Result, Ok, Err}
+use Rattle.std.proofs.Common.{◌≡◌, ℕ, zero, suc, codes, Bool, List, [], ◌∷◌, ◌++◌, take, Contains, ◌⊎◌, inl, inr, sym, subst, Option, Some, None, Result, Ok, Err}
 use Rattle.std.specs.Prelude.{MatchOption}
 use Rattle.std.specs.Option.{option_map}
 use Rattle.std.specs.Prelude.{unwrap_or}
-use Rattle.ml_watch.specs.declared.change.Change.{Change}
-use Rattle.ml_store.specs.declared.row.Row.{Row}
 use Rattle.ml_editor.specs.State.{State}
 use Rattle.ml_editor.specs.Editing.{id_of}
 use Rattle.ml_editor.specs.Faults.{IsAddFault, IsAddition, IsAdding, IsReplaceFault, IsReplacement, IsReplacing, IsRemoveFault, IsRemoval, IsStyleFault, IsRestyle, IsRestyling}
@@ -14,18 +12,18 @@ use Rattle.ml_http.specs.Replies.{fault_reply, query_reply}
 use Rattle.ml_editor.specs.declared.fault.EditFault.{EditFault}
 use Rattle.ml_tile.specs.Cache.{Cache, HeldTile}
 use Rattle.ml_tile.specs.declared.key.TileKey.{TileKey}
-use Rattle.ml_http.specs.declared.request.Event.{Event}
-use Rattle.ml_http.specs.declared.request.Event.TheVariants.{Whole, Refused}
+use Rattle.ml_request.specs.declared.request.Event.{Event}
+use Rattle.ml_request.specs.declared.request.Event.TheVariants.{Whole, Refused}
 use Rattle.ml_http.specs.declared.route.Route.{Route}
 use Rattle.ml_http.specs.declared.route.Route.TheVariants as routes
 use Rattle.ml_http.specs.declared.route.NoRoute.{NoRoute}
 use Rattle.ml_http.specs.declared.route.EditRoute.{EditRoute}
 use Rattle.ml_http.specs.declared.route.EditRoute.TheVariants as edits
-use Rattle.ml_http.specs.Request.{RequestParts}
+use Rattle.ml_request.specs.Request.{RequestParts}
 use Rattle.ml_http.specs.Routes.{path_of, query_of, query_pairs, route_of, named, revision_in, id_in}
-use Rattle.ml_http.specs.Step.{LinkAnswer, Query, Stays, IsTileText, IsTileFor, IsCarriedOut, IsEditAnswered, ForRevision, IsEditReply, IsRouted, MapStep, work_of}
+use Rattle.ml_http.specs.Step.{LinkAnswer, Query, Stays, IsTileText, IsTileFor, IsCarriedOut, IsEditAnswered, ForRevision, IsEditReply, IsRouted, MapStep}
 use Rattle.ml_http.specs.Link.{AreTexts}
-use Rattle.ml_http.specs.TileWork.{TileWork, Untouched, Asked, Changed, Remade, IsAsked, IsDoneTo}
+use Rattle.ml_http.specs.TileWork.{Changed, Remade, IsAsked, IsDoneTo}
 use Rattle.ml_http.proofs.SameLists.{here, later, cases, none_in_none}
 use Rattle.ml_http.proofs.SameReplies.{OneLabel}
 use Rattle.ml_http.proofs.SameViews.{OneLongest}

@@ -15,11 +15,11 @@ use Rattle.ml_http.specs.declared.route.Route.TheVariants as routes
 use Rattle.ml_http.specs.declared.route.ReadRoute.{ReadRoute}
 use Rattle.ml_http.specs.declared.route.EditRoute.TheVariants as edits
 use Rattle.ml_http.specs.declared.route.NoRoute.{NoRoute}
-use Rattle.ml_http.specs.Request.{RequestParts}
+use Rattle.ml_request.specs.Request.{RequestParts}
 use Rattle.ml_http.specs.Routes.{query_of, query_pairs, IsTileAsked, named, revision_in, id_in}
-use Rattle.ml_http.specs.declared.request.Event.{Event}
-use Rattle.ml_http.specs.declared.request.Event.TheVariants.{Refused}
-use Rattle.ml_http.specs.declared.request.Refusal.{Refusal}
+use Rattle.ml_request.specs.declared.request.Event.{Event}
+use Rattle.ml_request.specs.declared.request.Event.TheVariants.{Refused}
+use Rattle.ml_request.specs.declared.request.Refusal.{Refusal}
 use Rattle.ml_http.specs.Replies.{json_reply, refusal_reply, no_route_reply, query_reply, fault_code, fault_reply}
 use Rattle.ml_http.specs.Step.{LinkAnswer, Query, plain, tiled, tile_name, Stays, IsRead, IsEditReply, IsEditAnswered, IsCarriedOut, ForRevision, IsRouted, MapStep}
 use Rattle.ml_http.specs.TileWork.{IsDoneTo}

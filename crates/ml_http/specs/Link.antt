@@ -4,7 +4,7 @@ use Rattle.ml_watch.specs.Hearing.{Hearing, AllHear}
 use Rattle.ml_editor.specs.State.{State}
 use Rattle.ml_editor.specs.Editing.{Editing}
 use Rattle.ml_editor.specs.declared.edit.Edit.{Edit}
-use Rattle.ml_http.specs.declared.request.Event.{Event}
+use Rattle.ml_request.specs.declared.request.Event.{Event}
 use Rattle.ml_http.specs.declared.connection_end.ConnEnd.{ConnEnd}
 use Rattle.ml_http.specs.declared.connection_end.ConnEnd.TheVariants.{Shut, Starved, Closed, ReadFault, WriteFault}
 use Rattle.ml_http.specs.Step.{LinkAnswer, IsCarriedOut, IsTileText, MapStep}

@@ -4,8 +4,8 @@ use Rattle.ml_answer.specs.Fault.{fault_text}
 use Rattle.ml_editor.specs.declared.fault.EditFault.{EditFault}
 use Rattle.ml_editor.specs.declared.fault.EditFault.TheVariants as faults
 use Rattle.ml_http.specs.declared.kind.Kind.TheVariants.{Json}
-use Rattle.ml_http.specs.declared.request.Refusal.{Refusal}
-use Rattle.ml_http.specs.declared.request.Refusal.TheVariants as refusals
+use Rattle.ml_request.specs.declared.request.Refusal.{Refusal}
+use Rattle.ml_request.specs.declared.request.Refusal.TheVariants as refusals
 use Rattle.ml_http.specs.declared.route.NoRoute.{NoRoute}
 use Rattle.ml_http.specs.declared.route.NoRoute.TheVariants.{Path, Method}
 use Rattle.ml_http.specs.Reply.{reply_text}

@@ -1,6 +1,8 @@
 -- What a request asks for: its path, its method and its query.
-use Rattle.std.specs.Prelude.{ℕ, ◌+◌, take, drop, position, Bool, ◌==◌, List, [], ◌∷◌, length, map, filter, codes, bytes_eq, Option, Some, None, unwrap_or, Result, Ok, Err, MatchResult, if◌then◌else◌, String, string_bytes}
+use Rattle.std.specs.Prelude.{ℕ, ◌+◌, take, drop, position, ◌==◌, List, [], ◌∷◌, length, map, filter, codes, bytes_eq, Option, Some, None, unwrap_or, Result, Ok, Err, MatchResult, if◌then◌else◌}
 use Rattle.std.specs.declared.alloc.Global.{Global}
+use Rattle.std.specs.Cow.{cow_str_bytes}
+use Rattle.std.specs.declared.borrow.CowStr.{CowStr}
 use Rattle.std.specs.Option.{option_map}
 use Rattle.std.specs.Str.Lossy.{utf8_lossy}
 use Rattle.ml_ratio.specs.Number.{number_up_to}
@@ -74,8 +76,8 @@ abbrev pub query_pairs : List ℕ → List (List ℕ × List ℕ)
 query_pairs query = map text_pair (raw_pairs query)
 
 -- what a pair of texts is
-abbrev pub pair_bytes : String Global × String Global → List ℕ × List ℕ
-pair_bytes p = (string_bytes p.0, string_bytes p.1)
+abbrev pub pair_bytes : CowStr Global × CowStr Global → List ℕ × List ℕ
+pair_bytes p = (cow_str_bytes p.0, cow_str_bytes p.1)
 
 -- the values of this name, in order
 abbrev pub named : List ℕ → List (List ℕ × List ℕ) → List (List ℕ)

@@ -1,5 +1,5 @@
 -- The machine: what a request is answered, and the state that the map is in afterwards.
-use Rattle.std.specs.Prelude.{◌≡◌, ◌⊎◌, ℕ, zero, suc, Bool, List, [], length, map, codes, Contains, Option, Some, None, unwrap_or, Result, Ok, Err, MatchOption}
+use Rattle.std.specs.Prelude.{◌≡◌, ◌⊎◌, ℕ, zero, suc, Bool, List, [], length, codes, Contains, Option, Some, None, unwrap_or, Result, Ok, Err, MatchOption}
 use Rattle.std.specs.Option.{option_map}
 use Rattle.ml_ratio.specs.declared.feature.Feature.{Feature}
 use Rattle.ml_cone.specs.declared.view.View.{View}
@@ -28,8 +28,8 @@ use Rattle.ml_answer.specs.Slot.{slot_text}
 use Rattle.ml_answer.specs.MapView.{AreRowsOf, IsViewText, json_body, svg_body}
 use Rattle.ml_http.specs.declared.kind.Kind.{Kind}
 use Rattle.ml_http.specs.declared.kind.Kind.TheVariants.{Json, Svg, GeoJson}
-use Rattle.ml_http.specs.declared.request.Event.{Event}
-use Rattle.ml_http.specs.declared.request.Event.TheVariants.{Whole, Refused}
+use Rattle.ml_request.specs.declared.request.Event.{Event}
+use Rattle.ml_request.specs.declared.request.Event.TheVariants.{Whole, Refused}
 use Rattle.ml_http.specs.declared.route.Route.{Route}
 use Rattle.ml_http.specs.declared.route.Route.TheVariants as routes
 use Rattle.ml_http.specs.declared.route.ReadRoute.{ReadRoute}
@@ -37,7 +37,7 @@ use Rattle.ml_http.specs.declared.route.ReadRoute.TheVariants as reads
 use Rattle.ml_http.specs.declared.route.EditRoute.{EditRoute}
 use Rattle.ml_http.specs.declared.route.EditRoute.TheVariants as edits
 use Rattle.ml_http.specs.declared.route.NoRoute.{NoRoute}
-use Rattle.ml_http.specs.Request.{RequestParts}
+use Rattle.ml_request.specs.Request.{RequestParts}
 use Rattle.ml_http.specs.Reply.{reply_text}
 use Rattle.ml_http.specs.Replies.{json_reply, refusal_reply, no_route_reply, query_reply, fault_code, fault_reply}
 use Rattle.ml_http.specs.StateReply.{IsStateReply}

@@ -9,10 +9,10 @@ use crate::context::Context;
 use crate::query::pairs_of;
 use crate::read::read;
 use crate::replies::{no_route_reply, refusal_reply};
-use crate::request::{Event, Request};
 use crate::route::Route;
 use crate::target::{query_asked, route_asked};
 use crate::tile::tile_reply;
+use ml_request::{Event, Request};
 use ml_watch::Watcher;
 use ml_watch::laws::hear_nothing;
 use std::alloc::AllocError;
@@ -50,17 +50,23 @@ impl<W: Watcher, L: Ledger> Context<'_, '_, W, L> {
         match route_asked(request) {
             Ok(Route::Read(route)) => {
                 let pairs = pairs_of(self.alloc, query_asked(request))?;
-                read(self.alloc, self.editor, route, request.closes, &pairs)
+                read(self.alloc, self.editor, route, request.closes(), &pairs)
             }
             Ok(Route::Tile) => {
                 let pairs = pairs_of(self.alloc, query_asked(request))?;
-                tile_reply(self.alloc, self.editor, self.tiles, request.closes, &pairs)
+                tile_reply(
+                    self.alloc,
+                    self.editor,
+                    self.tiles,
+                    request.closes(),
+                    &pairs,
+                )
             }
             Ok(Route::Edit(route)) => {
                 let pairs = pairs_of(self.alloc, query_asked(request))?;
                 self.edit(route, request, &pairs)
             }
-            Err(none) => no_route_reply(self.alloc, request.closes, none),
+            Err(none) => no_route_reply(self.alloc, request.closes(), none),
         }
     }
 }

@@ -13,14 +13,14 @@ ghost use Rattle.ml_http.specs.declared.route.EditRoute.TheVariants as edits;
 
 use crate::context::Context;
 use crate::forget::forget_changes;
-use crate::query::{id_asked, revision_asked};
+use crate::query::{Pair, id_asked, revision_asked};
 use crate::replies::{fault_reply, json_reply, query_reply};
-use crate::request::Request;
 use crate::route::EditRoute;
 use http::StatusCode;
 use ml_answer::edit_json;
 use ml_editor::Ready;
 use ml_ratio::Text;
+use ml_request::Request;
 use ml_watch::Watcher;
 use ml_watch::laws::hear_nothing;
 use std::alloc::{AllocError, Global};
@@ -35,7 +35,7 @@ impl<W: Watcher, L: Ledger> Context<'_, '_, W, L> {
         &mut self,
         route: EditRoute,
         request: &Request,
-        pairs: &[(String, String)],
+        pairs: &[Pair<'_>],
     ) -> Result<Vec<u8>, AllocError>
         ensures loan { IsSameLoan self.old self.new }
         ensures ok { IfOk result (λ bytes. IsAnswered W.hearing
@@ -52,7 +52,7 @@ impl<W: Watcher, L: Ledger> Context<'_, '_, W, L> {
     }
 
     // Adds the feature that the body is.
-    fn add(&mut self, request: &Request, pairs: &[(String, String)]) -> Result<Vec<u8>, AllocError>
+    fn add(&mut self, request: &Request, pairs: &[Pair<'_>]) -> Result<Vec<u8>, AllocError>
         ensures loan { IsSameLoan self.old self.new }
         ensures ok { IfOk result (λ bytes. IsAnswered W.hearing
             (λ s answer t. IsEditReply edits.Add s request.now.closes (map pair_bytes pairs.now) request.now.body answer t)
@@ -61,23 +61,19 @@ impl<W: Watcher, L: Ledger> Context<'_, '_, W, L> {
     {
         hear_nothing::<W>();
         let Some(rev) = revision_asked(pairs) else {
-            return query_reply(self.alloc, request.closes, "rev");
+            return query_reply(self.alloc, request.closes(), "rev");
         };
         match self
             .editor
-            .prepare_add(self.alloc, rev, &request.body, self.steps)
+            .prepare_add(self.alloc, rev, request.body(), self.steps)
         {
-            Ok(ready) => self.accept(ready, request.closes),
-            Err(fault) => fault_reply(self.alloc, request.closes, &fault),
+            Ok(ready) => self.accept(ready, request.closes()),
+            Err(fault) => fault_reply(self.alloc, request.closes(), &fault),
         }
     }
 
     // Puts the feature that the body is in the place of that with its id.
-    fn replace(
-        &mut self,
-        request: &Request,
-        pairs: &[(String, String)],
-    ) -> Result<Vec<u8>, AllocError>
+    fn replace(&mut self, request: &Request, pairs: &[Pair<'_>]) -> Result<Vec<u8>, AllocError>
         ensures loan { IsSameLoan self.old self.new }
         ensures ok { IfOk result (λ bytes. IsAnswered W.hearing
             (λ s answer t. IsEditReply edits.Replace s request.now.closes (map pair_bytes pairs.now) request.now.body answer t)
@@ -86,23 +82,19 @@ impl<W: Watcher, L: Ledger> Context<'_, '_, W, L> {
     {
         hear_nothing::<W>();
         let Some(rev) = revision_asked(pairs) else {
-            return query_reply(self.alloc, request.closes, "rev");
+            return query_reply(self.alloc, request.closes(), "rev");
         };
         match self
             .editor
-            .prepare_replace(self.alloc, rev, &request.body, self.steps)
+            .prepare_replace(self.alloc, rev, request.body(), self.steps)
         {
-            Ok(ready) => self.accept(ready, request.closes),
-            Err(fault) => fault_reply(self.alloc, request.closes, &fault),
+            Ok(ready) => self.accept(ready, request.closes()),
+            Err(fault) => fault_reply(self.alloc, request.closes(), &fault),
         }
     }
 
     // Puts the style that the body is in the place of the present one.
-    fn restyle(
-        &mut self,
-        request: &Request,
-        pairs: &[(String, String)],
-    ) -> Result<Vec<u8>, AllocError>
+    fn restyle(&mut self, request: &Request, pairs: &[Pair<'_>]) -> Result<Vec<u8>, AllocError>
         ensures loan { IsSameLoan self.old self.new }
         ensures ok { IfOk result (λ bytes. IsAnswered W.hearing
             (λ s answer t. IsEditReply edits.Restyle s request.now.closes (map pair_bytes pairs.now) request.now.body answer t)
@@ -111,20 +103,16 @@ impl<W: Watcher, L: Ledger> Context<'_, '_, W, L> {
     {
         hear_nothing::<W>();
         let Some(rev) = revision_asked(pairs) else {
-            return query_reply(self.alloc, request.closes, "rev");
+            return query_reply(self.alloc, request.closes(), "rev");
         };
-        match self.editor.prepare_style(self.alloc, rev, &request.body) {
-            Ok(ready) => self.accept(ready, request.closes),
-            Err(fault) => fault_reply(self.alloc, request.closes, &fault),
+        match self.editor.prepare_style(self.alloc, rev, request.body()) {
+            Ok(ready) => self.accept(ready, request.closes()),
+            Err(fault) => fault_reply(self.alloc, request.closes(), &fault),
         }
     }
 
     // Removes the feature with the id that the query gives.
-    fn remove(
-        &mut self,
-        request: &Request,
-        pairs: &[(String, String)],
-    ) -> Result<Vec<u8>, AllocError>
+    fn remove(&mut self, request: &Request, pairs: &[Pair<'_>]) -> Result<Vec<u8>, AllocError>
         ensures loan { IsSameLoan self.old self.new }
         ensures ok { IfOk result (λ bytes. IsAnswered W.hearing
             (λ s answer t. IsEditReply edits.Remove s request.now.closes (map pair_bytes pairs.now) request.now.body answer t)
@@ -133,13 +121,13 @@ impl<W: Watcher, L: Ledger> Context<'_, '_, W, L> {
     {
         hear_nothing::<W>();
         let Some(id) = id_asked(pairs) else {
-            return query_reply(self.alloc, request.closes, "id");
+            return query_reply(self.alloc, request.closes(), "id");
         };
         let Some(rev) = revision_asked(pairs) else {
-            return query_reply(self.alloc, request.closes, "rev");
+            return query_reply(self.alloc, request.closes(), "rev");
         };
         let id = Text::of(self.alloc, id)?;
-        self.remove_id(request.closes, rev, &id)
+        self.remove_id(request.closes(), rev, &id)
     }
 
     // Removes the feature with this id.

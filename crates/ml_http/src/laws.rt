@@ -30,10 +30,10 @@ ghost use Rattle.ml_http.specs.Alike.{LookAlike};
 ghost use Rattle.ml_http.specs.Step.{LinkAnswer, Query, IsRead, IsTileText, IsTileAnswer, MapStep};
 ghost use Rattle.ml_http.specs.declared.route.ReadRoute.{ReadRoute};
 ghost use Rattle.ml_http.specs.declared.route.ReadRoute.TheVariants as reads;
-ghost use Rattle.ml_http.specs.Stream.{AreEvents};
+ghost use Rattle.ml_request.specs.Stream.{AreEvents};
 ghost use Rattle.ml_view.specs.Words.{SomeCoordinate, SomeSide, SomeScale};
 ghost use Rattle.ml_tile.specs.Words.{IsDepthWord, SomeColumn};
-ghost use Rattle.ml_http.specs.declared.request.Event.{Event};
+ghost use Rattle.ml_request.specs.declared.request.Event.{Event};
 
 use ml_conflict::laws::{l0 as one_longest, one_choice};
 use ml_editor::laws::{accepted_is_reached, one_edit, one_refusal};
@@ -57,7 +57,7 @@ pub fn l4()
 /// The events of a prefix of the bytes are a prefix of the events, up to the first whose reply closes
 /// and at most `left` of them. So they depend on the bytes alone, and not on the pieces in which these
 /// come.
-#[tactic(auto, using(crate::proofs::StreamLemmas::events_of_prefix))]
+#[tactic(auto, using(ml_request::proofs::lemmas::Streams::events_of_prefix))]
 pub fn l5()
     ensures { (left : ℕ) (front more : List ℕ) (few all : List Event)
         → AreEvents left front few → AreEvents left (front ++ more) all

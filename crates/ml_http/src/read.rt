@@ -4,6 +4,7 @@ ghost use Rattle.ml_http.specs.Routes.{pair_bytes};
 ghost use Rattle.ml_http.specs.Step.{IsRead, IsRevReply};
 
 use crate::kind::Kind;
+use crate::query::Pair;
 use crate::replies::json_reply;
 use crate::reply::reply;
 use crate::route::ReadRoute;
@@ -21,7 +22,7 @@ pub(crate) fn read(
     editor: &Editor,
     route: ReadRoute,
     closes: bool,
-    pairs: &[(String, String)],
+    pairs: &[Pair<'_>],
 ) -> Result<Vec<u8>, AllocError>
     ensures { IfOk result (λ bytes. IsRead route editor.now.state closes (map pair_bytes pairs.now) bytes.items) }
 {

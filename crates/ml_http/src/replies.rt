@@ -6,11 +6,11 @@ ghost use Rattle.std.specs.Option.{option_map};
 
 use crate::kind::Kind;
 use crate::reply::reply;
-use crate::request::Refusal;
 use crate::route::NoRoute;
 use http::StatusCode;
 use ml_answer::fault_json;
 use ml_editor::EditFault;
+use ml_request::Refusal;
 use std::alloc::{AllocError, Global};
 
 /// A reply of JSON.

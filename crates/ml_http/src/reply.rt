@@ -6,6 +6,9 @@ use crate::kind::{Allow, Kind};
 use http::StatusCode;
 use std::alloc::{AllocError, Global};
 
+// As many bytes as a head takes at most, so that room for a whole reply is taken at once.
+const HEAD_ROOM: usize = 192;
+
 // The phrase for a status.
 #[tactic(auto, unfolding(crate::specs::Reply::phrase_of))]
 fn phrase(code: u16) -> &'static str
@@ -97,7 +100,8 @@ pub fn reply(
 {
     let first = first_lines(alloc, status, kind)?;
     let last = last_lines(alloc, body.len(), allow, closes)?;
-    let mut bytes = Vec::from_slice(alloc, first.as_bytes())?;
+    let mut bytes = Vec::with_capacity(alloc, HEAD_ROOM + body.len())?;
+    bytes.extend_from_slice(first.as_bytes())?;
     bytes.extend_from_slice(last.as_bytes())?;
     bytes.extend_from_slice(body)?;
     Ok(bytes)

@@ -3,22 +3,22 @@ ghost use Rattle.std.specs.Prelude.{◌≡◌, ◌<◌, ◌==◌, IfSome, positi
 ghost use Rattle.ml_http.specs.Routes.{path_of, query_of, route_of, by_get, by_edit, by_style};
 
 use crate::kind::Allow;
-use crate::request::Request;
 use crate::route::{EditRoute, NoRoute, ReadRoute, Route};
+use ml_request::Request;
 
 /// What a request asks for.
 pub(crate) fn route_asked(request: &Request) -> Result<Route, NoRoute>
     ensures { result ≡ route_of request.now.method (path_of request.now.target) }
 {
-    let (path, _) = parts(&request.target);
-    route(&request.method, path)
+    let (path, _) = parts(request.target());
+    route(request.method(), path)
 }
 
 /// The query of a request.
 pub(crate) fn query_asked(request: &Request) -> &[u8]
     ensures { result.now ≡ query_of request.now.target }
 {
-    let (_, query) = parts(&request.target);
+    let (_, query) = parts(request.target());
     query
 }
 

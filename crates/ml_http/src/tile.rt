@@ -9,7 +9,7 @@ ghost use Rattle.ml_http.specs.TileWork.{IsKept};
 ghost use Rattle.ml_tile.specs.Cache.{IsHeld};
 ghost use Rattle.ml_tile.specs.declared.key.TileKey.{TileKey};
 
-use crate::query::tile_asked;
+use crate::query::{Pair, tile_asked};
 use crate::replies::{json_reply, query_reply};
 use http::StatusCode;
 use ml_answer::view_json;
@@ -38,7 +38,7 @@ pub(crate) fn tile_reply(
     editor: &Editor,
     tiles: &mut Tiles,
     closes: bool,
-    pairs: &[(String, String)],
+    pairs: &[Pair<'_>],
 ) -> Result<Vec<u8>, AllocError>
     requires texts { AreTexts editor.now.state tiles.old.tiles }
     ensures ok { IfOk result (λ bytes. (asked : Result TileKey ℕ) × IsTileAsked (map pair_bytes pairs.now) asked

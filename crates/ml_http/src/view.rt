@@ -6,7 +6,7 @@ ghost use Rattle.ml_http.specs.Step.{IsViewReply, view_name};
 ghost use Rattle.ml_http.specs.declared.kind.Kind.TheVariants as kinds;
 
 use crate::kind::Kind;
-use crate::query::view_asked;
+use crate::query::{Pair, view_asked};
 use crate::replies::query_reply;
 use crate::reply::reply;
 use http::StatusCode;
@@ -32,7 +32,7 @@ pub(crate) fn json_view_reply(
     alloc: Global,
     editor: &Editor,
     closes: bool,
-    pairs: &[(String, String)],
+    pairs: &[Pair<'_>],
 ) -> Result<Vec<u8>, AllocError>
     ensures { IfOk result (λ bytes. IsViewReply json_body kinds.Json editor.now.state closes (map pair_bytes pairs.now) bytes.items) }
 {
@@ -57,7 +57,7 @@ pub(crate) fn svg_view_reply(
     alloc: Global,
     editor: &Editor,
     closes: bool,
-    pairs: &[(String, String)],
+    pairs: &[Pair<'_>],
 ) -> Result<Vec<u8>, AllocError>
     ensures { IfOk result (λ bytes. IsViewReply svg_body kinds.Svg editor.now.state closes (map pair_bytes pairs.now) bytes.items) }
 {

@@ -9,7 +9,7 @@ ghost use Rattle.ml_http.specs.Step.{IsIdOf, IsSlotText, IsStandingReply, IsWhyR
 ghost use Rattle.ml_editor.specs.declared.standing.Standing.{Standing};
 ghost use Rattle.ml_store.specs.Rows.{IsLive, IsNumberOf};
 
-use crate::query::id_asked;
+use crate::query::{Pair, id_asked};
 use crate::replies::{json_reply, query_reply};
 use http::StatusCode;
 use ml_answer::{fault_json, reason_json, slot_json};
@@ -22,7 +22,7 @@ pub(crate) fn why_reply(
     alloc: Global,
     editor: &Editor,
     closes: bool,
-    pairs: &[(String, String)],
+    pairs: &[Pair<'_>],
 ) -> Result<Vec<u8>, AllocError>
     ensures { IfOk result (λ bytes. IsWhyReply editor.now.state closes (map pair_bytes pairs.now) bytes.items) }
 {

@@ -20,3 +20,8 @@ pub fn each_holds<S: Subject>(rt: &impl Abort, alloc: Global, table: &str) {
         assert!(rt; case_holds::<S>(rt, alloc, line), "{line}");
     }
 }
+
+/// The text with each `~` as CR LF.
+pub fn wire(rt: &impl Abort, alloc: Global, text: &str) -> String {
+    text.replace(alloc, "~", "\r\n").expect(rt, "memory")
+}

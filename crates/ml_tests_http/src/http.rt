@@ -2,7 +2,7 @@
 //! CR LF.
 ghost use Rattle.std.specs.Prelude.{◌≡◌, ◌<◌, []};
 
-use crate::cases::{Subject, each_holds};
+use crate::cases::{Subject, each_holds, wire};
 use ml_editor::Editor;
 use ml_geojson::read_collection;
 use ml_http::{ConnEnd, MEMORY_REPLY, serve_link};
@@ -94,11 +94,6 @@ struct Exchange {
     heard: Option<u64>,
     hits: u64,
     skips: u64,
-}
-
-/// The text with each `~` as CR LF.
-fn wire(rt: &impl Abort, alloc: Global, text: &str) -> String {
-    text.replace(alloc, "~", "\r\n").expect(rt, "memory")
 }
 
 /// Whether the bytes are the text with each `~` as CR LF.

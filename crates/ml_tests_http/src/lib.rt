@@ -5,7 +5,8 @@
 //! is a line of a text, `input => answer`, as the formats write it.
 //!
 //! - `cases`: tables of cases;
-//! - `io`: sources and doors; `http`: connections, request by request.
+//! - `io`: sources and doors; `request`: requests, read from a stream; `http`: connections, request by
+//!   request.
 #![tactic(auto)]
 
 #[cfg(test)]
@@ -14,3 +15,5 @@ mod cases;
 mod http;
 #[cfg(test)]
 mod io;
+#[cfg(test)]
+mod request;

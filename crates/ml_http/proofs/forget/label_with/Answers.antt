@@ -1,4 +1,4 @@
-use Rattle.std.proofs.Common.{List, Contains, sym, ap, ◌∙◌, subst}
+use Rattle.std.proofs.Common.{Contains, sym, ap, ◌∙◌, subst}
 use Rattle.ml_cone.specs.declared.label.Label.{Label}
 use Rattle.ml_store.specs.Rows.{labels_in}
 use Rattle.ml_ratio.proofs.lemmas.Lists.{contains_map}

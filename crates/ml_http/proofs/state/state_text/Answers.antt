@@ -1,4 +1,4 @@
-use Rattle.std.proofs.Common.{All, length, sym, subst, ◌∙◌, arith}
+use Rattle.std.proofs.Common.{All, sym, subst, ◌∙◌, arith}
 use Rattle.std.proofs.lemmas.List.Elements.{All-get_or}
 use Rattle.std.proofs.lemmas.Result.{IfOk-weaker}
 use Rattle.ml_store.specs.Rows.{IsLive}

@@ -1,4 +1,4 @@
-use Rattle.std.proofs.Common.{ap, ◌∙◌, map, refl}
+use Rattle.std.proofs.Common.{map, refl}
 use Rattle.std.proofs.lemmas.Result.{IfOk-weaker}
 use Rattle.ml_editor.specs.Faults.{IsReplaceFault, IsReplacement, IsReplacing}
 use Rattle.ml_http.specs.Routes.{pair_bytes}
@@ -11,22 +11,22 @@ returns-in_default-clause-ok g c =
     let query = map pair_bytes c.args.pairs.now in
     let request = c.args.request.now in
     IfOk-weaker c.query_reply.result _ _
-    (λ bytes text. no_revision _ c.hear_nothing.ensures request.closes c.request.inside.closes query (λ s r. IsEditAnswered (IsReplaceFault s r request.body) (IsReplacement s r request.body) (IsReplacing request.body) s request.closes) _ bytes.items
-    (ap (λ r. r.closes) c.request.view_is) c.in_default.ensures text)
+    (λ bytes text. no_revision _ c.hear_nothing.ensures request.closes c.closes.result query (λ s r. IsEditAnswered (IsReplaceFault s r request.body) (IsReplacement s r request.body) (IsReplacing request.body) s request.closes) _ bytes.items
+    c.closes.ensures c.in_default.ensures text)
     c.query_reply.ensures
 
 pub returns-in-Err-clause-ok : goal.returns-in-Err-clause-ok
 returns-in-Err-clause-ok g c =
     IfOk-weaker c.fault_reply.result _ _
-    (λ bytes told. body_refused _ c.hear_nothing.ensures IsReplaceFault IsReplacement IsReplacing c.args.request.now.closes c.request.inside.closes (map pair_bytes c.args.pairs.now) c.args.request.now.body c.deref.result.now c.in-Some.rev c.in-Err.fault told.0 _ _ bytes.items
-    (ap (λ r. r.closes) c.request.view_is) (c.deref.ensures.value ∙ ap (λ r. r.body) c.request.view_is) c.in-Some.ensures
+    (λ bytes told. body_refused _ c.hear_nothing.ensures IsReplaceFault IsReplacement IsReplacing c.args.request.now.closes c.closes-in-Err.result (map pair_bytes c.args.pairs.now) c.args.request.now.body c.body.result.now c.in-Some.rev c.in-Err.fault told.0 _ _ bytes.items
+    c.closes-in-Err.ensures c.body.ensures c.in-Some.ensures
     (record { map_state = c.in-Err.ensures.same.state; crowd = refl; tiles = refl }) c.in-Err.ensures.free c.in-Err.ensures.fault told.1 told.2)
     c.fault_reply.ensures
 
 pub returns-in-Ok-clause-ok : goal.returns-in-Ok-clause-ok
 returns-in-Ok-clause-ok g c =
     IfOk-weaker c.accept.result _ _
-    (λ bytes done. body_accepted _ IsReplaceFault IsReplacement IsReplacing c.args.request.now.closes c.request.inside.closes (map pair_bytes c.args.pairs.now) c.args.request.now.body c.deref.result.now c.in-Some.rev c.in-Ok.ready.edit c.in-Ok.ready.evaluated _ _ _ bytes.items
-    (ap (λ r. r.closes) c.request.view_is) (c.deref.ensures.value ∙ ap (λ r. r.body) c.request.view_is) c.in-Some.ensures c.in-Ok.ensures.ok.0 c.in-Ok.ensures.ok.1
+    (λ bytes done. body_accepted _ IsReplaceFault IsReplacement IsReplacing c.args.request.now.closes c.closes-in-Ok.result (map pair_bytes c.args.pairs.now) c.args.request.now.body c.body.result.now c.in-Some.rev c.in-Ok.ready.edit c.in-Ok.ready.evaluated _ _ _ bytes.items
+    c.closes-in-Ok.ensures c.body.ensures c.in-Some.ensures c.in-Ok.ensures.ok.0 c.in-Ok.ensures.ok.1
     (record { map_state = c.in-Ok.ensures.same.state; crowd = refl; tiles = refl }) c.in-Ok.ensures.spent done)
     c.accept.ensures.ok

@@ -1,5 +1,5 @@
 use Rattle.std.proofs.Common.{rules, arith, [], ◌∙◌}
-use Rattle.ml_http.proofs.TakesLemmas.{takes_nothing}
+use Rattle.ml_request.proofs.lemmas.Takes.{takes_nothing}
 use Rattle.ml_http.proofs.ConnectionLemmas.{served_after, served_starved}
 use Rattle.ml_http.proofs.LinkLemmas.{idles, link_served, texts_stay, texts_served}
 use Rattle.ml_http.proofs.context.Context.serve.Goals as goal

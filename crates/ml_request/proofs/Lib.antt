@@ -1,0 +1,7 @@
+mod Digits
+mod HeldLemmas
+mod JudgeLemmas
+mod LengthLemmas
+mod Marks
+mod ReaderLemmas
+pub mod lemmas

@@ -1,0 +1,5 @@
+pub mod Heads
+pub mod Held
+pub mod Reading
+pub mod Request
+pub mod Stream
