@@ -64,7 +64,7 @@ one_new e f es rest fs false true h found others = absurd (true≢false h)
 one_new e f es rest fs false false h found others = ap (λ vs. e.1 ∷ vs) others
 
 -- keys that differ from the first one differ from an equal one
-others_too : (id key : List ℕ) (keys : List (List ℕ)) → bytes_eq id key ≡ true → AllByRecursion (λ other. bytes_eq key other ≡ false) keys → AllByRecursion (λ other. bytes_eq id other ≡ false) keys
+pub others_too : (id key : List ℕ) (keys : List (List ℕ)) → bytes_eq id key ≡ true → AllByRecursion (λ other. bytes_eq key other ≡ false) keys → AllByRecursion (λ other. bytes_eq id other ≡ false) keys
 others_too id key keys same others =
     let P : List ℕ → Type 0 = λ k. AllByRecursion (λ other. bytes_eq k other ≡ false) keys in
     subst P (sym ((bytes_eq-Decides id key).0 same)) others
@@ -162,7 +162,7 @@ taken : {X Y : Type 0} (b : Bool) (x : X) (o : Option X) (p q r : Y) → (IsSome
 taken true x o p q r f h = refl
 taken false x o p q r f h = f h
 
-pub insert_there : (es : List Entry) (key : List ℕ) (f : Feature) → IsSome (lookup (bytes_eq key) es) → insert_entry bytes_eq es key f ≡ set_value (bytes_eq key) es f
-insert_there [] key f h = absurd (false≢true h)
-insert_there (e ∷ es) key f h =
-    taken (bytes_eq key e.0) e.1 (lookup (bytes_eq key) es) ((e.0, f) ∷ es) (e ∷ insert_entry bytes_eq es key f) (e ∷ set_value (bytes_eq key) es f) (λ there. ap (λ xs. e ∷ xs) (insert_there es key f there)) h
+pub insert_there : {X : Type 0} (es : List (List ℕ × X)) (key : List ℕ) (x : X) → IsSome (lookup (bytes_eq key) es) → insert_entry bytes_eq es key x ≡ set_value (bytes_eq key) es x
+insert_there [] key x h = absurd (false≢true h)
+insert_there (e ∷ es) key x h =
+    taken (bytes_eq key e.0) e.1 (lookup (bytes_eq key) es) ((e.0, x) ∷ es) (e ∷ insert_entry bytes_eq es key x) (e ∷ set_value (bytes_eq key) es x) (λ there. ap (λ xs. e ∷ xs) (insert_there es key x there)) h

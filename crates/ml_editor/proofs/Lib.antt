@@ -1,4 +1,5 @@
 mod Entries
+mod Places
 mod Same
 mod After
 mod States

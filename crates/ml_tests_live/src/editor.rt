@@ -48,6 +48,12 @@ del - A => 2 {"changes":[{"after":null,"before":["0/1","1000/1"],"id":"A"},{"aft
 why - C => {"blocker":"B","id":"C","max":"1000/1","min":"0/1","until":"20/1"}
 why - A => none
 order - - => B C
+del - B => 1 {"changes":[{"after":null,"before":["0/1","1000/1"],"id":"B"},{"after":["0/1","1000/1"],"before":["0/1","20/1"],"id":"C"}],"rev":5}
+map - - => C
+del - C => 0 {"changes":[{"after":null,"before":["0/1","1000/1"],"id":"C"}],"rev":6}
+add - B 400 2 ab => 1 {"changes":[{"after":["0/1","1000/1"],"before":null,"id":"B"}],"rev":7}
+add - A 0 1 ab => 1 {"changes":[{"after":["0/1","20/1"],"before":null,"id":"A"}],"rev":8}
+map - - => B A
 new - - => {"features":0,"labels":0,"rev":0}
 add - A -400 3 ab => 1 {"changes":[{"after":["0/1","1000/1"],"before":null,"id":"A"}],"rev":1}
 add - B 400 2 ab => 1 {"changes":[{"after":["0/1","40/1"],"before":null,"id":"B"}],"rev":2}
@@ -504,5 +510,5 @@ fn heard(rt: &impl Abort, alloc: Global) -> Option<u64> {
 
 #[test]
 fn a_map_is_edited(rt: HostRuntime) {
-    assert!(rt; heard(&rt, rt.alloc()) == Some(33));
+    assert!(rt; heard(&rt, rt.alloc()) == Some(38));
 }
