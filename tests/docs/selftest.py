@@ -27,7 +27,7 @@ SPOILS = (
     ("definitions", "docs/DEFINITIONS.md", "`IsRouted`", "`IsRead`", "IsRouted (ml_http: Step) lies on the way"),
     ("layers", "docs/ARCHITECTURE.md", "  ml_editor  ", "  ml_elsewhere  ", "ml_editor is not in the picture"),
     ("layers", "docs/ARCHITECTURE.md", "  ml_answer  ", "  ml_river  ", "ml_river stands twice"),
-    ("proofs", "docs/PROOFS.md", "`Marks`, ", "", "the file Marks of ml_http is not told"),
+    ("proofs", "docs/PROOFS.md", "`Marks`, ", "", "the file Marks of ml_request is not told"),
     ("commands", "docs/FORMATS.md", "| `gaps TABLE` |", "| `gasp TABLE` |", "the command gaps is not in the table"),
     ("commands", "docs/FORMATS.md", "| 11 |", "| 12 |", "do not agree on 11"),
     ("figures", "docs/DECISIONS.md", END, "\nMeasured: it took 5 seconds.\n", "a measured figure"),
