@@ -1,44 +1,39 @@
 """Proves and builds a crate and all below it, side by side, and keeps what is done."""
 
+import contextlib
 import os
 import signal
 import subprocess
 import time
 from typing import NamedTuple
 
+import compiler
 import crates
 import machine
 import records
 import schedule
 import shown
-from faults import Fault, Interrupted, end_by
-from lane import Lanes
+from faults import Fault, Interrupted
+from sources import Sources
 
 PROGRAM = "maplabel"
-# `rt` ends with this status where its check was killed, for want of memory most likely.
-KILLED = (247, -signal.SIGKILL)
 # A check that takes less processor time, in seconds, had little to do, so its time tells nothing of the others.
 TELLS = 4
 PAUSE = 0.2
 # The line on a terminal is made anew so often.
 LINE = 1.0
-# How long `rt` has to end once it is asked to.
+# How long a check has to end once it is asked to.
 PATIENCE = 10
 
 
 class Run(NamedTuple):
-    """A check at work."""
+    """A check at work: the command that runs, and those that come behind it."""
 
     process: subprocess.Popen
+    rest: list
     jobs: int
+    niceness: int
     begun: float
-
-
-def command_of(crate, jobs):
-    """The words that prove and build a crate; a program is run on a small table as well."""
-    if crate.is_program:
-        return ["rt", "run", "--jobs", str(jobs), "--", "slots", "data/two.table"]
-    return ["rt", "lib", "--jobs", str(jobs)]
 
 
 def plan_of(needed):
@@ -53,10 +48,10 @@ def plan_of(needed):
 class Build:
     """One build."""
 
-    def __init__(self, needed, sums, lanes, view):
+    def __init__(self, needed, sums, sources, view):
         self.crates = {it.name: it for it in needed}
-        self.sums, self.lanes, self.view = sums, lanes, view
-        self.running, self.busy, self.alone = {}, set(), set()
+        self.sums, self.sources, self.view = sums, sources, view
+        self.running, self.alone = {}, set()
         self.done = {it.name for it in needed if records.is_done(it, sums[it.name])}
         # (of the crates that ended in this build, their work in lines and the processor time that it took)
         self.begun, self.lines, self.spent = shown.now(), 0, 0.0
@@ -78,10 +73,9 @@ class Build:
 
     def start_all(self):
         """Begins what can begin now."""
-        self.busy.clear()
         # (a crate that was killed before begins alone)
         while not (self.alone and self.running):
-            chosen = self.plan.next(self.done, self.checks(), machine.free_memory(), self.busy)
+            chosen = self.plan.next(self.done, self.checks(), machine.free_memory())
             if not chosen:
                 return
             self.start(*chosen)
@@ -92,17 +86,21 @@ class Build:
         return self.plan.checks(running, self.lines / self.spent if self.spent else 0.0)
 
     def start(self, name, jobs):
-        crate = self.crates[name]
-        if not self.lanes.open(crate, crates.below(self.crates, name)):
-            self.busy.add(name)
-            self.view.waits(name)
-            return
-        jobs, niceness = 1 if name in self.alone else jobs, self.plan.niceness(name, self.done, self.checks())
-        with open(self.lanes.log(name), "wb") as log:
+        """Begins a crate. Its check is a process group of its own, so that all that it starts ends with it."""
+        crate, jobs = self.crates[name], 1 if name in self.alone else jobs
+        commands = compiler.commands(crate, crates.below(self.crates, name), jobs)
+        niceness = self.plan.niceness(name, self.done, self.checks())
+        open(self.sources.log(name), "wb").close()
+        self.go_on(name, Run(None, commands, jobs, niceness, shown.now()))
+
+    def go_on(self, name, run):
+        """Begins the next command of a crate."""
+        command, *rest = run.rest
+        with open(self.sources.log(name), "ab") as log:
             process = subprocess.Popen(
-                command_of(crate, jobs), cwd=self.lanes.folder(name), stdin=subprocess.DEVNULL, stdout=log,
-                stderr=subprocess.STDOUT, pass_fds=[self.lanes.lock], preexec_fn=lambda: os.nice(niceness))
-        self.running[name] = Run(process, jobs, shown.now())
+                command, cwd=self.sources.folder(name), stdin=subprocess.DEVNULL, stdout=log, stderr=subprocess.STDOUT,
+                pass_fds=[self.sources.lock], preexec_fn=lambda: (os.setpgrp(), os.nice(run.niceness)))
+        self.running[name] = run._replace(process=process, rest=rest)
 
     def look(self):
         """Takes note of the checks that have ended."""
@@ -111,13 +109,14 @@ class Build:
             status = run.process.poll()
             if status is None:
                 continue
-            if status == -signal.SIGINT:
-                end_by(signal.SIGINT)
-            if status in KILLED and name not in self.alone:
-                self.leave(name)
+            # (where it was killed, it was for want of memory most likely)
+            if status == -signal.SIGKILL and name not in self.alone:
+                del self.running[name]
                 self.alone.add(name)
-            elif status or not records.note(self.crates[name], self.sums[name], f"{self.lanes.folder(name)}/out"):
+            elif status:
                 raise Fault(self.failure(name, run, status))
+            elif run.rest:
+                self.go_on(name, run)
             else:
                 self.finish(name, shown.now() - run.begun, machine.spent_by_ended() - before)
 
@@ -125,27 +124,24 @@ class Build:
         if spent > TELLS:
             self.lines += self.plan.steps[name].work
             self.spent += spent
-        self.leave(name)
+        self.sources.give(self.crates[name])
+        records.note(self.crates[name], self.sums[name])
+        del self.running[name]
         self.alone.discard(name)
         self.done.add(name)
         self.view.ended(name, seconds, len(self.done), len(self.crates))
 
-    def leave(self, name):
-        """Ends the lane of a crate whose check has ended."""
-        del self.running[name]
-        self.lanes.close(name)
-
     def failure(self, name, run, status):
-        """What is said where a check failed, with what the check said."""
+        """What is said where a check failed, with what it said."""
         kept = f"crates/{name}/out/build.log"
-        with open(self.lanes.log(name), encoding="utf-8", errors="replace") as log:
+        with open(self.sources.log(name), encoding="utf-8", errors="replace") as log:
             said = log.read()
-        os.makedirs(f"{self.lanes.folder(name)}/out", exist_ok=True)
-        with open(f"{self.lanes.folder(name)}/out/build.log", "w", encoding="utf-8") as file:
+        os.makedirs(f"{self.crates[name].folder}/out", exist_ok=True)
+        with open(f"{self.crates[name].folder}/out/build.log", "w", encoding="utf-8") as file:
             file.write(said)
         told = [it for it in said.rstrip("\n").split("\n") if not is_progress(it)]
-        words = " ".join(run.process.args)
-        return "\n".join([f"`{words}` failed in crates/{name} with status {status} (its log: {kept}):", *told])
+        command = " ".join([os.path.basename(run.process.args[0]), *run.process.args[1:4]])
+        return "\n".join([f"`{command} ..` failed in crates/{name} with status {status} (its log: {kept}):", *told])
 
     def line(self):
         """The line that tells where the build is."""
@@ -155,15 +151,20 @@ class Build:
         return shown.line_of(len(self.done), len(self.crates), list(self.running), seconds, left)
 
     def end_all(self):
-        """Ends what is at work; `rt` ends its provers, and what they have done so far stays in their lanes."""
+        """Ends what is at work, with all that it has started."""
         for run in self.running.values():
-            run.process.terminate()
+            signal_to(run.process, signal.SIGTERM)
         for run in self.running.values():
-            try:
+            with contextlib.suppress(subprocess.TimeoutExpired):
                 run.process.wait(PATIENCE)
-            except subprocess.TimeoutExpired:
-                run.process.kill()
-                run.process.wait()
+            signal_to(run.process, signal.SIGKILL)
+            run.process.wait()
+
+
+def signal_to(process, number):
+    """Sends a signal to a process and to all that it has started."""
+    with contextlib.suppress(ProcessLookupError):
+        os.killpg(process.pid, number)
 
 
 def is_progress(line):
@@ -176,11 +177,10 @@ def is_built(needed, kit):
     return records.is_done(needed[-1], crates.digests(needed, kit)[needed[-1].name])
 
 
-def make(needed, kit, lanes, view):
+def make(needed, kit, sources, view):
     """Builds what is not done of these crates, from one copy of their texts."""
-    lanes.copy_text(needed)
-    sums = crates.digests([it._replace(folder=f"{lanes.text}/{it.name}") for it in needed], kit)
-    made, clock = Build(needed, sums, lanes, view), shown.now()
+    sums = crates.digests(sources.copy(needed), kit)
+    made, clock = Build(needed, sums, sources, view), shown.now()
     left = len(needed) - len(made.done)
     view.tell(f"maplabel: proves and builds {left} crates first; README.md, \"Quick start\", tells how long that takes")
     try:
@@ -197,12 +197,12 @@ def build(top, view, target=PROGRAM):
     needed = crates.needed(crates.read(top), target)
     has_work = not is_built(needed, kit)
     if has_work:
-        with Lanes(top) as lanes:
+        with Sources(top) as sources:
             # (another launcher may have built it while this one waited)
             begun = time.time_ns()
             has_work = not is_built(needed, kit)
             if has_work:
-                make(needed, kit, lanes, view)
+                make(needed, kit, sources, view)
     program = f"{top}/crates/{target}/out/{target}"
     if os.path.isfile(program):
         # it counts as built when its sources were read, so that a later edit is seen

@@ -3,17 +3,19 @@
 import hashlib
 import os
 
+import compiler
+
 
 def file_of(crate):
     return f"{crate.folder}/out/proved"
 
 
-def built(crate, folder):
-    """What tells that nothing replaced what was built of a crate in its folder out/, or none where there is nothing."""
+def built(crate):
+    """What tells that nothing replaced what was built of a crate, or none where there is nothing."""
     try:
         if not crate.is_program:
-            return str(os.stat(f"{folder}/rlib/{crate.name}.rlib").st_mtime_ns)
-        with open(f"{folder}/{crate.name}", "rb") as file:
+            return str(os.stat(compiler.library_of(crate)).st_mtime_ns)
+        with open(f"{crate.folder}/out/{crate.name}", "rb") as file:
             return hashlib.sha256(file.read()).hexdigest()
     except OSError:
         return None
@@ -21,7 +23,7 @@ def built(crate, folder):
 
 def is_done(crate, digest):
     """Whether what stands in the crate's out/ was built from this text."""
-    made = built(crate, f"{crate.folder}/out")
+    made = built(crate)
     try:
         with open(file_of(crate), encoding="utf-8") as file:
             return made is not None and file.read() == f"{digest} {made}\n"
@@ -29,11 +31,7 @@ def is_done(crate, digest):
         return False
 
 
-def note(crate, digest, folder):
-    """Notes that what stands in the folder out/ was built from this text, and returns whether something does."""
-    made = built(crate, folder)
-    if made is None:
-        return False
-    with open(f"{folder}/proved", "w", encoding="utf-8") as file:
-        file.write(f"{digest} {made}\n")
-    return True
+def note(crate, digest):
+    """Notes that what stands in the crate's out/ was built from this text."""
+    with open(file_of(crate), "w", encoding="utf-8") as file:
+        file.write(f"{digest} {built(crate)}\n")

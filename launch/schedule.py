@@ -7,12 +7,14 @@ come further.
 
 What begins the longest chain, or one that is hardly shorter, has several provers where processors are free for them.
 Taken are those that the near crates at work keep busy, and one for each other near crate that can begin; near are
-those behind which the chain is not much shorter. Each other crate has one prover, since each further one does a part
-of the work again. A crate that is not near waits while those at work keep all processors busy: it would take the
+those behind which the chain is not much shorter. What has less left to do than that crate counts for a part. Each
+other crate has one prover, since each further one does a part of the work again. A crate that is not near waits while those at work keep all processors busy: it would take the
 place of one of a longer chain that can begin soon.
 
-Each crate gives way the further, the shorter the chain behind it is. So the longest chain has what it can use of the
-processors, and the others have what it leaves: also a check by several provers begins and ends on one processor.
+A near crate gives way to none: by lines of code the times of chains are told within a fifth at best, and where one
+that is hardly shorter gave way, it became the longest. Each other crate gives way the further, the shorter its chain
+is. So the longest chains have what they can use of the processors, and the others have what they leave: also a check
+by several provers begins and ends on one processor.
 """
 
 from typing import NamedTuple
@@ -20,7 +22,7 @@ from typing import NamedTuple
 # More provers of one crate than this gain nothing, since each does a part of the work again.
 MOST_JOBS = 3
 # How many processors so many provers of a crate keep busy.
-BUSY = {1: 1.0, 2: 1.6, 3: 2.0}
+BUSY = {1: 1.0, 2: 1.7, 3: 2.4}
 # At least so long, as a part of the longest, is a chain whose first crate may have several provers, and one whose first
 # crate is near. A simulation from the times of this repository's crates chose these parts.
 FRONT, NEAR = 0.95, 0.75
@@ -30,8 +32,8 @@ LEAST = 0.1
 MOST_NICE = 19
 # A check takes as long for its start as for so many lines of code.
 START = 100
-# Each line of the libraries below is loaded, which takes this part of the time for a line that is proved.
-LOADED = 20
+# The statement of each line of the libraries below is loaded, which takes this part of the time for a line that is proved.
+LOADED = 50
 GIGABYTE = 1_000_000_000
 KILOBYTE = 1_000
 
@@ -54,8 +56,8 @@ class Check(NamedTuple):
 def step_of(uses, lines, below):
     """The check of so many lines of code over so many lines of libraries below.
 
-    The memory rests on the peaks of all crates in one build of this repository, by one, two or four provers: none was
-    above 95 of 100 parts of what is reckoned here."""
+    The memory rests on the peaks of all crates in a build of this repository over whole libraries, by one, two or four
+    provers: none was above 95 of 100 parts of what is reckoned here. Over the statements of libraries it is less."""
     return Step(uses, START + lines + below // LOADED, GIGABYTE + 75 * KILOBYTE * (8 * lines + below))
 
 
@@ -86,20 +88,21 @@ class Plan:
         return found
 
     def niceness(self, name, done, running):
-        """How far a crate that begins now gives way to the others: not at all where the longest chain of all that is
-        left begins with it, and fully where the chain behind it is half as long. This holds until its check ends, also
-        where its chain becomes the longest: who gave way needs a privilege to go before others again."""
-        longest = max(self.chains(done, running).values())
-        return min(MOST_NICE, int(2 * MOST_NICE * (longest - self.behind[name]) / longest))
+        """How far a crate that begins now gives way to the others: not at all where it is near, and fully where the
+        chain behind it is half as long as the longest of all that is left. This holds until its check ends, also where
+        its chain becomes the longest: who gave way needs a privilege to go before others again."""
+        part = self.behind[name] / max(self.chains(done, running).values())
+        return max(0, min(MOST_NICE, int(MOST_NICE * (NEAR - part) / (NEAR - 0.5))))
 
-    def idle(self, names, running):
-        """How many processors these crates leave; each that is not yet at work will have one prover."""
-        return self.processors - sum(BUSY[running[it].jobs if it in running else 1] for it in names)
+    def idle(self, names, running, work=0):
+        """How many processors these crates leave for so much work; each that is not yet at work will have one prover."""
+        checks = [running.get(it) or Check(1, self.steps[it].work) for it in names]
+        return self.processors - sum(BUSY[it.jobs] * (min(1.0, it.left / work) if work else 1.0) for it in checks)
 
-    def next(self, done, running, free, busy=()):
+    def next(self, done, running, free):
         """The crate to begin now and its number of provers, or none. `running` has the check of each crate at work, and
-        `free` tells how much memory is free; crates that are `busy` for another reason are left out."""
-        ready = [it for it in self.ready(done, running) if it not in busy]
+        `free` tells how much memory is free."""
+        ready = self.ready(done, running)
         if len(running) >= self.processors or not ready:
             return None
         free = min(free, self.memory - sum(self.memory_of(it, check.jobs) for it, check in running.items()))
@@ -111,7 +114,7 @@ class Plan:
             if running and name not in near and self.idle(running, running) <= 0:
                 continue
             jobs = min(MOST_JOBS, self.processors) if chains[name] >= FRONT * longest else 1
-            idle = self.idle({*at_work, *near} - {name}, running)
+            idle = self.idle({*at_work, *near} - {name}, running, self.steps[name].work)
             # (each further prover has to find a part of a processor)
             while jobs > 1 and (BUSY[jobs - 1] > idle or self.memory_of(name, jobs) > free):
                 jobs -= 1

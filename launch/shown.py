@@ -37,7 +37,6 @@ class Shown:
         self.stream = stream or sys.stderr
         self.is_terminal = self.stream.isatty()
         self.is_open = False
-        self.waited_for = set()
 
     def show(self, line):
         """Puts the line in the place of the one before, where there is a terminal."""
@@ -58,12 +57,6 @@ class Shown:
         """Tells that a crate is done, where there is no line to tell it."""
         if not self.is_terminal:
             self.tell(f"maplabel: {name} is proved, {clock(seconds)} ({done} of {count} crates)")
-
-    def waits(self, name):
-        """Tells once that a crate cannot begin yet."""
-        if name not in self.waited_for:
-            self.waited_for.add(name)
-            self.tell(f"maplabel: {name} waits for another rt that works in crates/{name}")
 
 
 def now():

@@ -1,4 +1,4 @@
-"""A small repository with the launcher, whose crates the stand-in for `rt` proves."""
+"""A small repository with the launcher, whose crates a stand-in for the kit proves."""
 
 import contextlib
 import os
@@ -53,9 +53,9 @@ class Checkout:
         subprocess.run(["git", "clone", "-q", str(origin), str(self.folder)], check=True)
         self.log = self.folder.parent / "log"
         self.log.touch()
-        self.env = {**os.environ, "XDG_CACHE_HOME": str(self.folder.parent / "cache"), "STAND_IN_LOG": str(self.log)}
+        self.env = {**os.environ, "XDG_CACHE_HOME": str(self.folder.parent / "cache"), "STAND_IN_LOG": str(self.log), "STAND_IN_CRATES": str(self.folder / "crates.txt")}
         if not with_kit:
-            self.env["PATH"] = f"{HERE / 'stand_in'}:{os.environ['PATH']}"
+            self.env["PATH"] = f"{HERE / 'stand_in' / 'bin'}:{os.environ['PATH']}"
         self.program = self.folder / "crates" / "maplabel" / "out" / "maplabel"
 
     def close(self):
@@ -132,8 +132,8 @@ class Checkout:
                     found.append(int(process))
         return found
 
-    def lanes(self):
-        """What is left of the lanes."""
+    def left(self):
+        """What is left of the copy that a build works in."""
         place = self.folder / ".git" / "launch"
         return sorted(it.name for it in place.iterdir() if it.name != "lock") if place.is_dir() else []
 

@@ -57,13 +57,18 @@ class Order(unittest.TestCase):
         plan = schedule.Plan(steps(a=(100,), b=(99,), c=(90,)), 4, MUCH)
         # the second has what the first and the third leave
         self.assertEqual(plan.next(set(), {}, MUCH), ("a", 3))
-        self.assertEqual(plan.next(set(), begun(plan, a=3), MUCH), ("b", 2))
-        self.assertEqual(plan.next(set(), begun(plan, a=3, b=2), MUCH), ("c", 1))
+        self.assertEqual(plan.next(set(), begun(plan, a=3), MUCH), ("b", 1))
+        self.assertEqual(plan.next(set(), begun(plan, a=2), MUCH), ("b", 2))
+        self.assertEqual(plan.next(set(), begun(plan, a=3, b=1), MUCH), ("c", 1))
 
-    def test_crates_that_are_busy(self):
-        plan = schedule.Plan(steps(a=(10,), b=(20,)), 1, MUCH)
-        self.assertEqual(plan.next(set(), {}, MUCH, {"b"}), ("a", 1))
-        self.assertIsNone(plan.next(set(), {}, MUCH, {"a", "b"}))
+    def test_what_has_little_left_takes_little(self):
+        plan = schedule.Plan(steps(a=(100,), b=(100,), c=(100,), d=(100,)), 4, MUCH)
+        # (all three at work are near: so much is behind each that its chain is as long as the other)
+        for left, provers in ((100, 2), (50, 3)):
+            with self.subTest(left=left):
+                plan.behind.update(dict.fromkeys("bcd", 200 - left))
+                at_work = {it: schedule.Check(1, left) for it in "bcd"}
+                self.assertEqual(plan.next(set(), at_work, MUCH), ("a", provers))
 
 
 class Niceness(unittest.TestCase):
@@ -75,16 +80,16 @@ class Niceness(unittest.TestCase):
         self.assertEqual(self.PLAN.niceness("b", {"a"}, {}), 0)
 
     def test_shorter_chains_give_way(self):
-        # a tenth shorter, half as long, and less than that
-        self.assertEqual([self.PLAN.niceness(it, {"a"}, {}) for it in "cde"], [3, 19, 19])
+        # a tenth shorter, which is near, half as long, and less than that
+        self.assertEqual([self.PLAN.niceness(it, {"a"}, {}) for it in "cde"], [0, 19, 19])
 
     def test_what_is_longest_once_others_are_done(self):
-        self.assertEqual([self.PLAN.niceness(it, {"a", "b"}, {}) for it in "cde"], [0, 16, 19])
+        self.assertEqual([self.PLAN.niceness(it, {"a", "b"}, {}) for it in "cde"], [0, 14, 19])
         self.assertEqual(self.PLAN.niceness("e", {"a", "b", "c", "d"}, {}), 0)
 
     def test_what_is_left_of_those_at_work(self):
         # of b so much is left: c's chain is shorter by 50 of 950 and d's by 450, or c's is the longest
-        for left, more in ((1000, [3, 19]), (950, [2, 18]), (900, [0, 16]), (400, [0, 16])):
+        for left, more in ((1000, [0, 19]), (950, [0, 17]), (900, [0, 14]), (400, [0, 14])):
             with self.subTest(left=left):
                 running = {"b": schedule.Check(3, left)}
                 self.assertEqual([self.PLAN.niceness(it, {"a"}, running) for it in "cd"], more)
@@ -98,7 +103,7 @@ class AtWork(unittest.TestCase):
         told = steps(repair=(3000,), json=(1400,), editor=(2600, "repair", "json"), rest=(10000, "editor"))
         plan = schedule.Plan(told, 4, MUCH)
         running = begun(plan, repair=3)
-        self.assertEqual((plan.next(set(), running, MUCH), plan.niceness("json", set(), running)), (("json", 1), 3))
+        self.assertEqual((plan.next(set(), running, MUCH), plan.niceness("json", set(), running)), (("json", 1), 0))
         running["repair"] = schedule.Check(3, 150)
         self.assertEqual((plan.next(set(), running, MUCH), plan.niceness("json", set(), running)), (("json", 3), 0))
 
@@ -112,11 +117,11 @@ class AtWork(unittest.TestCase):
 
     def test_far_crates_take_no_place(self):
         plan = schedule.Plan(steps(a=(1000,), b=(800,), c=(760,), d=(750,), e=(740,)), 4, MUCH)
-        # the near ones begin also where all processors are busy, by 2 + 1 + 1
+        # the near ones begin also where all processors are busy, by 2.4 + 1 + 1
         self.assertEqual(plan.next(set(), begun(plan, a=3, b=1, c=1), MUCH), ("d", 1))
         self.assertIsNone(plan.next({"d"}, begun(plan, a=3, b=1, c=1), MUCH))
         self.assertEqual(plan.next({"d"}, begun(plan, a=2, b=1, c=1), MUCH), ("e", 1))
-        self.assertEqual(plan.next({"d"}, begun(plan, a=3, b=1), MUCH, {"c"}), ("e", 1))
+        self.assertEqual(plan.next({"c", "d"}, begun(plan, a=3, b=1), MUCH), ("e", 1))
 
 
 class Memory(unittest.TestCase):
@@ -149,9 +154,9 @@ class Memory(unittest.TestCase):
 
 class Reckoning(unittest.TestCase):
     def test_own_lines_and_those_below(self):
-        small, large, high = (schedule.step_of(("a",), lines, below) for lines, below in ((100, 0), (300, 0), (100, 4000)))
+        small, large, high = (schedule.step_of(("a",), lines, below) for lines, below in ((100, 0), (300, 0), (100, 10000)))
         self.assertEqual(small.uses, ("a",))
-        # the start, each line, and each twentieth line below
+        # the start, each line, and each fiftieth line below
         self.assertEqual([it.work for it in (small, large, high)], [200, 400, 400])
         self.assertLess(small.memory, large.memory)
         self.assertLess(small.memory, high.memory)
@@ -160,11 +165,11 @@ class Reckoning(unittest.TestCase):
 class Guess(unittest.TestCase):
     def test_what_is_left(self):
         plan = schedule.Plan(steps(a=(400,), b=(300,)), 2, MUCH)
-        # of the two processors, 1.6 for the longer chain and 0.4 for the other, each for 10 seconds at 10 lines
+        # of the two processors, 1.7 for the longer chain and 0.3 for the other, each for 10 seconds at 10 lines
         found = plan.checks({"b": (1, 10.0), "a": (2, 10.0)}, 10)
         self.assertEqual([found[it].jobs for it in "ab"], [2, 1])
-        self.assertAlmostEqual(found["a"].left, 240)
-        self.assertAlmostEqual(found["b"].left, 260)
+        self.assertAlmostEqual(found["a"].left, 230)
+        self.assertAlmostEqual(found["b"].left, 270)
         # a twentieth is left of what takes longer than was reckoned, and all where the rate is not known yet
         self.assertEqual(plan.checks({"a": (1, 1000.0)}, 10), {"a": schedule.Check(1, 20)})
         self.assertEqual(plan.checks({"a": (1, 1000.0)}, 0.0), {"a": schedule.Check(1, 400)})

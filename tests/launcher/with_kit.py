@@ -49,7 +49,7 @@ class WithKit(unittest.TestCase):
         seen, status = self.clone.on_terminal("--build", keys=b"\x03", when=is_amid, seconds=LONG)
         self.assertEqual(status, 130, seen)
         wait_until(lambda: not self.clone.processes(), 5)
-        self.assertEqual(self.clone.lanes(), [])
+        self.assertEqual(self.clone.left(), [])
         self.assertNotIn("maplabel", self.done())
 
     def test_3_spoilt(self):

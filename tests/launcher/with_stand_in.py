@@ -1,4 +1,4 @@
-"""The launcher over a small repository and a stand-in for `rt`."""
+"""The launcher over a small repository and a stand-in for the kit."""
 
 import fcntl
 import os
@@ -51,7 +51,7 @@ class Building(Case):
         self.assertEqual(sorted(self.clone.calls()), sorted(NEEDED))
         ended = [line for line in ran.stderr.splitlines() if " is proved, " in line]
         self.assertEqual(len(ended), len(NEEDED), ran.stderr)
-        self.assertEqual(self.clone.lanes(), [])
+        self.assertEqual(self.clone.left(), [])
 
     def test_second_start(self):
         self.build()
@@ -150,11 +150,19 @@ class Ending(Case):
                 self.assertEqual(build.wait(), 128 + number, build.communicate())
                 self.check_goes_on()
 
+    def test_all_that_a_check_started_ends(self):
+        self.clone.add_line("left", "FORKS")
+        build = self.clone.start("--build", STAND_IN_PAUSE="1")
+        wait_until(lambda: "left" in self.clone.calls())
+        time.sleep(0.3)
+        build.send_signal(signal.SIGINT)
+        self.assertEqual(build.wait(), 128 + signal.SIGINT, build.communicate())
+        wait_until(lambda: not self.clone.processes(), 3)
+
     def check_goes_on(self):
         """Nothing is at work, nothing half made counts as done, and the next start proves what was not."""
         wait_until(lambda: not self.clone.processes(), 3)
-        self.assertEqual(self.clone.lanes(), [])
-        self.assertTrue((self.clone.folder / "crates" / "left" / "out" / "incremental").is_dir())
+        self.assertEqual(self.clone.left(), [])
         done = set(self.clone.calls("ends"))
         self.clone.forget()
         ran = self.clone.run(*WORDS)
@@ -169,11 +177,10 @@ class Ending(Case):
         build.communicate()
         ran = self.clone.run(*WORDS)
         self.assertEqual((ran.returncode, ran.stdout), (0, answer(self.clone.folder, WORDS)))
-        self.assertEqual(self.clone.lanes(), [])
-        # what the killed one began came to its end first, and was gone on with
+        self.assertEqual(self.clone.left(), [])
+        # what the killed one began came to its end first
         of_left = [line.split()[1:] for line in self.clone.log.read_text(encoding="utf-8").splitlines() if " left " in line]
         self.assertEqual([row[0] for row in of_left], ["begins", "ends", "begins", "ends"])
-        self.assertEqual([of_left[0][-1], of_left[2][-1]], ["anew", "goes-on"])
 
     def test_spoilt_source(self):
         self.clone.add_line("left", "SPOILT")
@@ -230,16 +237,17 @@ class Together(Case):
         self.assertEqual((told.count("proves and builds"), told.count("another build")), (1, 1), told)
         self.assertEqual(sorted(self.clone.calls()), sorted(NEEDED))
 
-    def test_another_rt_in_a_crate(self):
-        folder = os.open(self.clone.folder / "crates" / "right", os.O_RDONLY)
+    def test_beside_an_rt_in_a_crate(self):
+        """What `rt` keeps of a crate that it works in is left alone."""
+        kept = self.clone.folder / "crates" / "right" / "out" / "rlib" / "kept"
+        kept.parent.mkdir(parents=True)
+        kept.write_text("kept", encoding="utf-8")
+        folder = os.open(kept.parents[2], os.O_RDONLY)
+        self.addCleanup(os.close, folder)
         fcntl.flock(folder, fcntl.LOCK_EX)
-        build = self.clone.start("--build")
-        wait_until(lambda: "upper" in self.clone.calls("ends"))
-        self.assertNotIn("right", self.clone.calls())
-        os.close(folder)
-        said = build.communicate()[1]
-        self.assertEqual(build.returncode, 0, said)
-        self.assertEqual(said.count("right waits for another rt"), 1, said)
+        ran = self.clone.run("--build")
+        self.assertEqual(ran.returncode, 0, ran.stderr)
+        self.assertEqual(kept.read_text(encoding="utf-8"), "kept")
 
 
 class Calling(Case):
