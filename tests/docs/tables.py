@@ -151,7 +151,7 @@ def layers_agree(pages, names):
 def commands_are_told(pages, names):
     """The table of commands has each command of the program, and no other."""
     page = page_named(pages, "docs/FORMATS.md")
-    text = names.specs.by_place["maplabel", "Commands", "name_of"].text
+    text = names.specs.by_place["ml_command", "Commands", "name_of"].text
     commands = set(re.findall(r'codes "(\w+)"', text))
     told = {names_in(cells[0])[0].split(" ")[0] for _, cells, _ in page.rows(*COMMAND_HEAD)}
     for name in sorted(commands ^ told):

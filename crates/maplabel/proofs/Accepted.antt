@@ -21,10 +21,10 @@ use Rattle.ml_style.specs.StyleTable.{IsStyle}
 use Rattle.ml_style.specs.declared.fault.StyleFault.{StyleFault}
 use Rattle.ml_style.specs.declared.fault.StyleFault.TheVariants as styles
 use Rattle.ml_style.specs.declared.style.Style.{Style}
-use Rattle.maplabel.specs.Following.{HasStates, AreNoStates}
-use Rattle.maplabel.specs.Inputs.{most_bytes, HasTable, IsNoTable, IsTableLine, HasSlots, AreNoSlots}
+use Rattle.ml_command.specs.Following.{HasStates, AreNoStates}
+use Rattle.ml_command.specs.Inputs.{most_bytes, HasTable, IsNoTable, IsTableLine, HasSlots, AreNoSlots}
 use Rattle.maplabel.specs.Making.{sample_style, IsSampleRefused}
-use Rattle.maplabel.specs.MapInputs.{HasStyle, IsNoStyle, IsStyleLine, HasMap, IsNoMap, IsMapLine}
+use Rattle.ml_command.specs.MapInputs.{HasStyle, IsNoStyle, IsStyleLine, HasMap, IsNoMap, IsMapLine}
 
 -- what the laws below say of files: what is accepted is refused for want of memory alone; a table has one reading, and a map file has the same features only
 pub record KnownFiles : Type 0 where

@@ -17,22 +17,23 @@ use Rattle.ml_style.specs.declared.style.Style.{Style}
 use Rattle.ml_serve.specs.Printed.{DoorSaid, IsEndOfServing, HasServeCause}
 use Rattle.ml_serve.specs.declared.serve_end.ServeEnd.{ServeEnd}
 use Rattle.ml_serve.specs.declared.serve_end.ServeEnd.TheVariants as serving
-use Rattle.maplabel.specs.Answers.{status_of}
-use Rattle.maplabel.specs.Following.{Following, HasStates, IsEndOfFollowing, IsStatesStop}
-use Rattle.maplabel.specs.Inputs.{HasTable, IsTableStop, IsSlotsStop}
+use Rattle.ml_command.specs.Following.{Following, HasStates, IsEndOfFollowing, IsStatesStop}
+use Rattle.ml_command.specs.Inputs.{HasTable, IsTableStop, IsSlotsStop, IsCheckStop}
 use Rattle.maplabel.specs.Making.{sample_style, IsMakingStop}
-use Rattle.maplabel.specs.MapInputs.{IsStyleStop, IsMapStop}
-use Rattle.maplabel.specs.Outcome.{IsCheckStop, IsMapAnswerStop, IsPrinted}
+use Rattle.ml_command.specs.MapInputs.{IsStyleStop, IsMapStop, IsMapAnswerStop}
+use Rattle.ml_command.specs.declared.following.FollowEnd.{FollowEnd}
+use Rattle.ml_command.specs.declared.following.FollowEnd.TheVariants as follow_end
+use Rattle.maplabel.specs.Outcome.{IsPrinted, status_of}
 use Rattle.maplabel.specs.Ready.{IsSomeTable, AreSomeSlots, IsSomeStyle, IsSomeMap, IsReady, AreReady, IsCalm, IsAnswered, EndsWell}
-use Rattle.maplabel.specs.Run.{Call, IsTold, IsStopped, IsTextEnd, IsDone, IsRun}
+use Rattle.maplabel.specs.Run.{Call, IsTold, IsStopped, IsTextEnd, IsDone, IsRun, status_of_following}
 use Rattle.maplabel.specs.Serving.{status_of_link, status_of_serving}
-use Rattle.maplabel.specs.declared.command.Command.{Command}
-use Rattle.maplabel.specs.declared.command.Command.TheVariants.{OnTable, Judge, OnMap, Live, Make, Follow}
-use Rattle.maplabel.specs.declared.command.LiveTask.TheVariants.{Pipe, Serve}
+use Rattle.ml_command.specs.declared.command.Command.{Command}
+use Rattle.ml_command.specs.declared.command.Command.TheVariants.{OnTable, Judge, OnMap, Live, Make, Follow}
+use Rattle.ml_command.specs.declared.command.LiveTask.TheVariants.{Pipe, Serve}
 use Rattle.maplabel.specs.declared.status.Status.{Status}
-use Rattle.maplabel.specs.declared.status.Status.TheVariants.{Done, NotBest, Usage, StyleRefused, InputRefused, FileFault, ReadFault, WriteFault, DoorFault, Memory, TooLong, NotAdopted}
-use Rattle.maplabel.specs.declared.stop.Stop.{Stop}
-use Rattle.maplabel.specs.declared.stop.Stop.TheVariants as stop
+use Rattle.maplabel.specs.declared.status.Status.TheVariants.{Done, NotBest, Memory, NotAdopted}
+use Rattle.ml_command.specs.declared.stop.Stop.{Stop}
+use Rattle.ml_command.specs.declared.stop.Stop.TheVariants as stop
 use Rattle.maplabel.proofs.Accepted.{KnownFiles, table_or_not, same_labels, slots_or_not, style_or_not, sample_or_not, map_or_not, states_or_not, not_too_long}
 
 -- one fault more, and the count rose
@@ -64,20 +65,12 @@ served door count number out out_after written written_after calm dry serving.Wr
 served door count number out out_after written written_after calm dry serving.DoorFault is cause = absurd (calm (rose door.faults door.faults_after is.1.1))
 
 -- how following ends where the output did not fail
-followed : {states : List follow.State} (f : Following states) (out : Put) → ¬ (Rose out.faults out.faults_after) → (status : Status) → IsEndOfFollowing f out status
-    → ((status ≡ Done) ⊎ (status ≡ NotAdopted)) ⊎ (status ≡ Memory)
-followed f out dry Done end = inl (inl refl)
-followed f out dry NotBest end = absurd end
-followed f out dry Usage end = absurd end
-followed f out dry StyleRefused end = absurd end
-followed f out dry InputRefused end = absurd end
-followed f out dry FileFault end = absurd end
-followed f out dry ReadFault end = absurd end
-followed f out dry WriteFault end = absurd (dry (rose out.faults out.faults_after end.failed))
-followed f out dry DoorFault end = absurd end
-followed f out dry Memory end = inr refl
-followed f out dry TooLong end = absurd end
-followed f out dry NotAdopted end = inl (inr refl)
+followed : {states : List follow.State} (f : Following states) (out : Put) → ¬ (Rose out.faults out.faults_after) → (end : FollowEnd) → IsEndOfFollowing f out end
+    → ((status_of_following end ≡ Done) ⊎ (status_of_following end ≡ NotAdopted)) ⊎ (status_of_following end ≡ Memory)
+followed f out dry follow_end.Adopted is = inl (inl refl)
+followed f out dry follow_end.NotAdopted is = inl (inr refl)
+followed f out dry follow_end.WriteFault is = absurd (dry (rose out.faults out.faults_after is.failed))
+followed f out dry follow_end.Memory is = inr refl
 
 module _ (known : KnownFiles) (files : FileSet) {S D I O W : Type 0} (r : Call S D I O W) (same : r.files.told ≡ Some files) (calm : IsCalm r) where
   -- a load that failed
@@ -169,7 +162,7 @@ module _ (known : KnownFiles) (files : FileSet) {S D I O W : Type 0} (r : Call S
       let p = is.3.0 in
       inl (p.status_is ∙ served _ count _ r.out.faults r.out.faults_after _ _ calm.door calm.out p.end p.printed p.cause)
   answered (Follow name) status ready (inl none) = inr (stopped _ (by_states name.now ready) status none.0)
-  answered (Follow name) status ready (inr is) = followed is.3.following r.out calm.out status is.3.ended
+  answered (Follow name) status ready (inr is) = (let p = is.3 in rw p.2 (followed p.1.following r.out calm.out p.0 p.1.ended))
 
   pub completes : (words : List (List ℕ)) (status : Status) → AreReady files words → IsRun r words status → EndsWell words status
   completes words status ready (inl (command, asks, is)) = (command, asks, answered command status (ready.ready command asks) is)

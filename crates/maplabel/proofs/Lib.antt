@@ -1,14 +1,4 @@
 mod Accepted
-mod Chosen
-mod CommandLemmas
 mod Completeness
-mod FollowEnds
-mod FollowLemmas
-mod GapLemmas
 mod Makings
-mod MapLines
-mod MapViewing
 mod RunLemmas
-mod ShownMore
-mod WordLemmas
-mod ZoomLemmas

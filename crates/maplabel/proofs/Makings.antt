@@ -2,10 +2,10 @@
 use Rattle.std.proofs.Common.{◌≡◌, List, ℕ, subst}
 use Rattle.ml_style.specs.Answer as style_answer
 use Rattle.ml_style.specs.declared.fault.StyleFault.{StyleFault}
-use Rattle.maplabel.specs.MapInputs.{IsStyleRefusal}
+use Rattle.ml_command.specs.MapInputs.{IsStyleRefusal}
 use Rattle.maplabel.specs.Making.{IsMakingStop, sample_style}
-use Rattle.maplabel.specs.declared.stop.Stop.{Stop}
-use Rattle.maplabel.specs.declared.stop.Stop.TheVariants as stop
+use Rattle.ml_command.specs.declared.stop.Stop.{Stop}
+use Rattle.ml_command.specs.declared.stop.Stop.TheVariants as stop
 
 pub sample_refused : (bytes : List ℕ) (fault : StyleFault) (s : Stop) → bytes ≡ sample_style → style_answer.IsRefusal bytes fault → IsStyleRefusal fault s → IsMakingStop s
 sample_refused bytes fault (stop.StyleRefused line) same refuses told = (fault, subst (λ b. style_answer.IsRefusal b fault) same refuses, told)

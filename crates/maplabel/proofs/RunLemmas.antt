@@ -3,14 +3,15 @@ use Rattle.std.proofs.Common.{◌≡◌, ℕ, List, Ok, Err, refl, inl, inr}
 use Rattle.std.specs.Prelude.{◌⊎◌, Result, IfOk, IfErr}
 use Rattle.ml_io.specs.Calls.{Put}
 use Rattle.ml_io.specs.Files.{Seen, KeptName}
-use Rattle.maplabel.specs.Inputs.{Keeps}
+use Rattle.ml_command.specs.Inputs.{Keeps}
 use Rattle.maplabel.specs.Making.{IsMakingStop}
-use Rattle.maplabel.specs.Outcome.{IsAnswerPrinted, IsVerdictPrinted}
+use Rattle.ml_cert.specs.declared.verdict.Verdict.{Verdict}
+use Rattle.maplabel.specs.Outcome.{IsAnswerPrinted, IsVerdictPrinted, status_of}
 use Rattle.maplabel.specs.Run.{IsTold, IsStopped}
 use Rattle.maplabel.specs.declared.status.Status.{Status}
 use Rattle.maplabel.specs.declared.status.Status.TheVariants.{Done}
-use Rattle.maplabel.specs.declared.stop.Stop.{Stop}
-use Rattle.maplabel.specs.declared.stop.Stop.TheVariants as stop
+use Rattle.ml_command.specs.declared.stop.Stop.{Stop}
+use Rattle.ml_command.specs.declared.stop.Stop.TheVariants as stop
 
 -- a text was due, or a stop came in its place, and the one or the other was printed
 pub text_end : (saw : Seen) (out : Put) (due : List ℕ → Type 0) (stops : Stop → Type 0) (answer : Result (List ℕ) Stop) (status : Status)
@@ -20,10 +21,10 @@ text_end saw out due stops (Ok text) status is why kept printed = inl (Done, tex
 text_end saw out due stops (Err s) status is why kept printed = inr (s, why, kept, printed)
 
 -- the same of a verdict
-pub verdict_end : (saw : Seen) (out : Put) (due : Status → List ℕ → Type 0) (stops : Stop → Type 0) (answer : Result (Status × List ℕ) Stop) (status : Status)
+pub verdict_end : (saw : Seen) (out : Put) (due : Verdict → List ℕ → Type 0) (stops : Stop → Type 0) (answer : Result (Verdict × List ℕ) Stop) (status : Status)
     → IfOk answer (λ verdict. due verdict.0 verdict.1) → IfErr answer stops → Keeps saw answer → IsVerdictPrinted answer out status
-    → IsTold saw out due status ⊎ IsStopped saw out stops status
-verdict_end saw out due stops (Ok verdict) status is why kept printed = inl (verdict.0, verdict.1, is, kept, printed)
+    → IsTold saw out (λ now text. (verdict : Verdict) × due verdict text × (now ≡ status_of verdict)) status ⊎ IsStopped saw out stops status
+verdict_end saw out due stops (Ok verdict) status is why kept printed = inl (status_of verdict.0, verdict.1, (verdict.0, is, refl), kept, printed)
 verdict_end saw out due stops (Err s) status is why kept printed = inr (s, why, kept, printed)
 
 -- making a map loads no file

@@ -6,9 +6,9 @@ use Rattle.ml_style.specs.Answer as style_answer
 use Rattle.ml_style.specs.StyleTable.{IsStyle}
 use Rattle.ml_style.specs.declared.fault.StyleFault.{StyleFault}
 use Rattle.ml_style.specs.declared.style.Style.{Style}
-use Rattle.maplabel.specs.MapInputs.{IsStyleLine}
-use Rattle.maplabel.specs.declared.stop.Stop.{Stop}
-use Rattle.maplabel.specs.declared.stop.Stop.TheVariants as stop
+use Rattle.ml_command.specs.MapInputs.{IsStyleLine}
+use Rattle.ml_command.specs.declared.stop.Stop.{Stop}
+use Rattle.ml_command.specs.declared.stop.Stop.TheVariants as stop
 
 -- the style that generated maps are loaded under
 abbrev pub sample_style : List ℕ

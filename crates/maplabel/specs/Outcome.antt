@@ -3,35 +3,30 @@ use Rattle.std.specs.Prelude.{◌≡◌, ℕ, List, [], Option, Result, Ok, Err,
 use Rattle.ml_io.specs.Calls.{Put}
 use Rattle.ml_ratio.specs.Count.{one_more}
 use Rattle.ml_io.specs.Causes.{Appends, AppendsPart}
-use Rattle.ml_io.specs.Files.{FileSet, Seen}
-use Rattle.ml_cone.specs.declared.label.Label.{Label}
+use Rattle.ml_io.specs.Files.{FileSet}
 use Rattle.ml_cert.specs.declared.verdict.Verdict.{Verdict}
-use Rattle.ml_style.specs.declared.style.Style.{Style}
-use Rattle.maplabel.specs.Answers.{IsVerdictTold, status_of}
-use Rattle.maplabel.specs.Inputs.{HasTable, IsTableStop, IsSlotsStop}
-use Rattle.maplabel.specs.MapInputs.{HasStyle, IsStyleStop, IsMapStop}
+use Rattle.ml_cert.specs.declared.verdict.Verdict.TheVariants.{Best, BadEnd, Clash, Uncovered, BadBlocker}
+use Rattle.ml_command.specs.Answers.{IsVerdictTold}
 use Rattle.maplabel.specs.declared.status.Status.{Status}
-use Rattle.maplabel.specs.declared.status.Status.TheVariants.{Done, StyleRefused, InputRefused, FileFault, WriteFault, Memory, TooLong}
-use Rattle.maplabel.specs.declared.stop.Stop.{Stop}
-use Rattle.maplabel.specs.declared.stop.Stop.TheVariants as stop
+use Rattle.maplabel.specs.declared.status.Status.TheVariants.{Done, NotBest, StyleRefused, InputRefused, FileFault, WriteFault, Memory, TooLong}
+use Rattle.ml_command.specs.declared.stop.Stop.{Stop}
+use Rattle.ml_command.specs.declared.stop.Stop.TheVariants as stop
 
 -- the line for words that have none of the forms
 abbrev pub usage_line : List ℕ
 usage_line = codes "usage: maplabel show, slots, check, view, pipe, serve or gen\n"
 
+-- the status of a verdict
+abbrev pub status_of : Verdict → Status
+status_of Best = Done
+status_of (BadEnd i) = NotBest
+status_of (Clash i j limit) = NotBest
+status_of (Uncovered i) = NotBest
+status_of (BadBlocker i) = NotBest
+
 -- the status and the line of the verdict on the slots
 abbrev pub IsCheckAnswer : Option FileSet → List ℕ → List ℕ → Status → List ℕ → Type 0
 IsCheckAnswer told table slots status text = (verdict : Verdict) × IsVerdictTold told table slots verdict text × (status ≡ status_of verdict)
-
--- why slots were not judged: the table was not read, or it was and the slots were not
-abbrev pub IsCheckStop : Seen → List ℕ → List ℕ → Stop → Type 0
-IsCheckStop seen table slots s =
-    IsTableStop seen table s ⊎ ((labels : List Label) × HasTable seen.told table labels × IsSlotsStop seen labels slots s)
-
--- why a map gave no answer: the style was not read, or it was and the map was not
-abbrev pub IsMapAnswerStop : Seen → List ℕ → List ℕ → Stop → Type 0
-IsMapAnswerStop seen style map s =
-    IsStyleStop seen style s ⊎ ((classes : Style) × HasStyle seen.told style classes × IsMapStop seen map s)
 
 -- a text that was due under a status was printed whole, and the output did not fail; or it failed once, a proper prefix was printed, and the status is that of a write fault
 abbrev pub IsPrinted : List ℕ → Status → Put → Status → Type 0
@@ -57,6 +52,6 @@ IsAnswerPrinted (Ok text) out result = IsPrinted text Done out result
 IsAnswerPrinted (Err s) out result = IsStopPrinted s out result
 
 -- the line of a verdict was printed under its status, or the line of the stop that came in its place
-abbrev pub IsVerdictPrinted : Result (Status × List ℕ) Stop → Put → Status → Type 0
-IsVerdictPrinted (Ok verdict) out result = IsPrinted verdict.1 verdict.0 out result
+abbrev pub IsVerdictPrinted : Result (Verdict × List ℕ) Stop → Put → Status → Type 0
+IsVerdictPrinted (Ok verdict) out result = IsPrinted verdict.1 (status_of verdict.0) out result
 IsVerdictPrinted (Err s) out result = IsStopPrinted s out result

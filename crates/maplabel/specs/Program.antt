@@ -2,9 +2,9 @@
 use Rattle.std.specs.Prelude.{◌≡◌, ◌⊎◌, ℕ, Bool, false, List, [], ◌∷◌, if◌then◌else◌}
 use Rattle.ml_watch.specs.declared.line_watcher.LineWatcher.{LineWatcher}
 use Rattle.maplabel.specs.Codes.{code_of}
-use Rattle.maplabel.specs.Commands.{Ask, IsForm, tells_changes}
+use Rattle.ml_command.specs.Commands.{Ask, IsForm, tells_changes}
 use Rattle.maplabel.specs.Run.{Call, IsRun}
-use Rattle.maplabel.specs.declared.command.Command.{Command}
+use Rattle.ml_command.specs.declared.command.Command.{Command}
 use Rattle.maplabel.specs.declared.status.Status.{Status}
 
 -- the words were run, and the code is that of the status

@@ -8,14 +8,14 @@ use Rattle.ml_follow.specs.declared.state.State.{State}
 use Rattle.ml_ratio.specs.declared.feature.Feature.{Feature}
 use Rattle.ml_style.specs.StyleTable.{IsStyle}
 use Rattle.ml_style.specs.declared.style.Style.{Style}
-use Rattle.maplabel.specs.Commands.{Ask, IsForm}
-use Rattle.maplabel.specs.Following.{HasStates}
-use Rattle.maplabel.specs.Inputs.{HasTable, HasSlots}
+use Rattle.ml_command.specs.Commands.{Ask, IsForm}
+use Rattle.ml_command.specs.Following.{HasStates}
+use Rattle.ml_command.specs.Inputs.{HasTable, HasSlots}
 use Rattle.maplabel.specs.Making.{sample_style}
-use Rattle.maplabel.specs.MapInputs.{HasStyle, HasMap}
+use Rattle.ml_command.specs.MapInputs.{HasStyle, HasMap}
 use Rattle.maplabel.specs.Run.{Call}
-use Rattle.maplabel.specs.declared.command.Command.{Command}
-use Rattle.maplabel.specs.declared.command.Command.TheVariants.{OnTable, Judge, OnMap, Live, Make, Follow}
+use Rattle.ml_command.specs.declared.command.Command.{Command}
+use Rattle.ml_command.specs.declared.command.Command.TheVariants.{OnTable, Judge, OnMap, Live, Make, Follow}
 use Rattle.maplabel.specs.declared.status.Status.{Status}
 use Rattle.maplabel.specs.declared.status.Status.TheVariants.{Done, NotBest, NotAdopted, Memory}
 

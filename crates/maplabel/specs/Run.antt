@@ -5,20 +5,24 @@ use Rattle.ml_io.specs.Files.{Seen, KeptName}
 use Rattle.ml_watch.specs.Hearing.{Hearing}
 use Rattle.ml_editor.specs.State.{State}
 use Rattle.ml_follow.specs.declared.state.State as follow
-use Rattle.maplabel.specs.Answers.{IsTableAnswer, IsMapAnswer}
-use Rattle.maplabel.specs.Commands.{Ask, IsForm}
-use Rattle.maplabel.specs.Following.{HasStates, IsStatesStop, IsFollowed}
-use Rattle.maplabel.specs.Inputs.{IsTableStop, StopKeeps}
+use Rattle.ml_command.specs.Answers.{IsTableAnswer, IsMapAnswer}
+use Rattle.ml_command.specs.Commands.{Ask, IsForm}
+use Rattle.ml_command.specs.Following.{HasStates, IsStatesStop, IsFollowed}
+use Rattle.ml_command.specs.Loading.{IsFirstState}
+use Rattle.ml_command.specs.Inputs.{IsTableStop, IsCheckStop, StopKeeps}
 use Rattle.maplabel.specs.Making.{IsTotalsOf, IsMakingStop}
-use Rattle.maplabel.specs.Outcome.{IsCheckAnswer, IsCheckStop, IsMapAnswerStop, IsPrinted, IsStopPrinted, usage_line}
-use Rattle.maplabel.specs.Serving.{IsFirstState, IsPiped, IsAllServed}
-use Rattle.maplabel.specs.declared.command.Command.{Command}
-use Rattle.maplabel.specs.declared.command.Command.TheVariants.{OnTable, Judge, OnMap, Live, Make, Follow}
-use Rattle.maplabel.specs.declared.command.LiveTask.{LiveTask}
-use Rattle.maplabel.specs.declared.command.LiveTask.TheVariants.{Pipe, Serve}
+use Rattle.ml_command.specs.MapInputs.{IsMapAnswerStop}
+use Rattle.maplabel.specs.Outcome.{IsCheckAnswer, IsPrinted, IsStopPrinted, usage_line}
+use Rattle.maplabel.specs.Serving.{IsPiped, IsAllServed}
+use Rattle.ml_command.specs.declared.command.Command.{Command}
+use Rattle.ml_command.specs.declared.command.Command.TheVariants.{OnTable, Judge, OnMap, Live, Make, Follow}
+use Rattle.ml_command.specs.declared.command.LiveTask.{LiveTask}
+use Rattle.ml_command.specs.declared.command.LiveTask.TheVariants.{Pipe, Serve}
 use Rattle.maplabel.specs.declared.status.Status.{Status}
-use Rattle.maplabel.specs.declared.status.Status.TheVariants.{Done, Usage}
-use Rattle.maplabel.specs.declared.stop.Stop.{Stop}
+use Rattle.maplabel.specs.declared.status.Status.TheVariants.{Done, Usage, WriteFault, Memory, NotAdopted}
+use Rattle.ml_command.specs.declared.following.FollowEnd.{FollowEnd}
+use Rattle.ml_command.specs.declared.following.FollowEnd.TheVariants as follow_end
+use Rattle.ml_command.specs.declared.stop.Stop.{Stop}
 
 -- input, door and watchers
 pub record Lent (S D W : Type 0) : Type 0 where
@@ -58,11 +62,23 @@ IsSiteServed r Pipe first status = IsPiped r.hearing first r.old.crowd r.new.cro
 IsSiteServed r (Serve port count) first status =
     IsAllServed r.hearing r.ends first r.old.crowd r.new.crowd port count r.door r.out status × (r.new.input ≡ r.old.input)
 
+-- the status of a run by how following ended
+abbrev pub status_of_following : FollowEnd → Status
+status_of_following follow_end.Adopted = Done
+status_of_following follow_end.NotAdopted = NotAdopted
+status_of_following follow_end.WriteFault = WriteFault
+status_of_following follow_end.Memory = Memory
+
+-- states were followed, and the status says how that ended
+abbrev pub AreFollowed : {W : Type 0} → (W → Hearing) → List follow.State → List W → List W → Put → Status → Type 0
+AreFollowed hearing states crowd crowd_after out status =
+    (end : FollowEnd) × IsFollowed hearing states crowd crowd_after out end × (status ≡ status_of_following end)
+
 -- states were not loaded, as the line says, and the watchers stay as they were; or the states were followed
 abbrev pub IsFollowEnd : {W : Type 0} → (W → Hearing) → Seen → Put → List ℕ → List W → List W → Status → Type 0
 IsFollowEnd hearing files out name crowd crowd_after status =
     (IsStopped files out (IsStatesStop files name) status × (crowd_after ≡ crowd))
-    ⊎ ((states : List follow.State) × HasStates files.told name states × KeptName files × IsFollowed hearing states crowd crowd_after out status)
+    ⊎ ((states : List follow.State) × HasStates files.told name states × KeptName files × AreFollowed hearing states crowd crowd_after out status)
 
 -- a command ended so
 abbrev pub IsDone : {S D I O W : Type 0} → Call S D I O W → Command → Status → Type 0
@@ -76,7 +92,7 @@ IsDone r (Live style map task) status =
 IsDone r (Follow name) status =
     (IsStopped r.files r.out (IsStatesStop r.files name.now) status × (r.new ≡ r.old))
     ⊎ ((states : List follow.State) × HasStates r.files.told name.now states × KeptName r.files
-    × IsFollowed r.hearing states r.old.crowd r.new.crowd r.out status × (r.new.input ≡ r.old.input) × (r.new.door ≡ r.old.door))
+    × AreFollowed r.hearing states r.old.crowd r.new.crowd r.out status × (r.new.input ≡ r.old.input) × (r.new.door ≡ r.old.door))
 
 -- the words ask for a command, which ended so; or they have none of the forms, and the line that says so was printed
 abbrev pub IsRun : {S D I O W : Type 0} → Call S D I O W → List (List ℕ) → Status → Type 0

@@ -1,37 +1,21 @@
 -- How connections are served over a map that was loaded.
 use Rattle.std.specs.Prelude.{◌≡◌, ℕ, List, [], length, Option, Some}
-use Rattle.ml_ratio.specs.declared.feature.Feature.{Feature}
 use Rattle.ml_io.specs.Calls.{Put, Taken, Passed, LinkEnds}
-use Rattle.ml_io.specs.Files.{FileSet}
 use Rattle.ml_watch.specs.Hearing.{Hearing}
-use Rattle.ml_style.specs.declared.style.Style.{Style}
-use Rattle.ml_editor.specs.State.{State, first_state}
-use Rattle.ml_tile.specs.Cache.{Cache}
+use Rattle.ml_editor.specs.State.{State}
 use Rattle.ml_http.specs.Connection.{HasEndCause}
 use Rattle.ml_http.specs.Link.{LinkState, IsLinkServed}
 use Rattle.ml_http.specs.Step.{LinkAnswer}
 use Rattle.ml_http.specs.declared.connection_end.ConnEnd.{ConnEnd}
 use Rattle.ml_http.specs.declared.connection_end.ConnEnd.TheVariants as ends
+use Rattle.ml_command.specs.Loading.{no_tiles}
 use Rattle.ml_serve.specs.Headline.{Headline}
 use Rattle.ml_serve.specs.Printed.{IsEndOfServing, HasServeCause}
 use Rattle.ml_serve.specs.Session.{Visit}
 use Rattle.ml_serve.specs.declared.serve_end.ServeEnd.{ServeEnd}
 use Rattle.ml_serve.specs.declared.serve_end.ServeEnd.TheVariants as serving
-use Rattle.maplabel.specs.MapInputs.{HasStyle, HasMap}
 use Rattle.maplabel.specs.declared.status.Status.{Status}
 use Rattle.maplabel.specs.declared.status.Status.TheVariants.{Done, ReadFault, WriteFault, DoorFault, Memory}
-
--- the named files are a style and a map, and this is the first state of the map under the style
-pub record IsFirstState (told : Option FileSet) (style map : List ℕ) (state : State) : Type 0 where
-  pub classes : Style
-  pub features : List Feature
-  pub has_style : HasStyle told style classes
-  pub has_map : HasMap told map features
-  pub is : state ≡ first_state classes features
-
--- no tile is held, and none was asked for
-abbrev pub no_tiles : Cache
-no_tiles = record { tiles = []; hits = 0; skips = 0 }
 
 -- what a run is lent to before its first request: the map, the watchers, no tile held, and no step spent
 abbrev pub at_first : {W : Type 0} → State → List W → LinkState W

@@ -2,47 +2,20 @@
 //!
 //! - [`program`]: the program over the objects that it works on; [`run`]: the top call
 //!   ([`run`](run::run)); [`status`]: how it ends;
-//! - [`command`]: what the words ask for; [`words`]: words that write a view, a window or a number;
-//! - [`table`], [`map`], [`check`]: what is asked of a table and of a map, and the verdict on slots;
-//! - [`loading`]: the map that connections are served over; [`serving`]: one connection, or those of a
-//!   door;
-//! - [`making`]: maps that are generated, edited and counted;
-//! - [`following`]: states of a map that are followed; [`follow_lines`]: the lines that say what became
-//!   of them;
-//! - [`choice`]: the longest choice of any labels; [`gap_lines`]: their longest free gaps; [`zoom`]:
-//!   their zoom timeline;
-//! - [`map_line`]: the line of a view of a map;
-//! - [`inputs`], [`map_inputs`]: the files that a command needs; [`stop`]: what ends a command early;
-//! - [`printing`]: what is printed; [`view_line`]: the line of a view; [`verdict_text`]: the line of a
-//!   verdict; [`zoom_text`]: the lines of a zoom timeline;
+//! - [`serving`]: one connection, or those of a door; [`making`]: maps that are generated, edited and
+//!   counted; [`printing`]: what is printed;
 //! - [`laws`]: laws of what a run comes to.
+//!
+//! What the words ask for, and what is answered of files alone, is in `ml_command`.
 #![tactic(auto)]
 
-pub mod check;
-pub mod choice;
-pub mod command;
-pub mod follow_lines;
-pub mod following;
-pub mod gap_lines;
-pub mod inputs;
 pub mod laws;
-pub mod loading;
 pub mod making;
-pub mod map;
-pub mod map_inputs;
-mod map_line;
 pub mod printing;
 pub mod program;
 pub mod run;
 pub mod serving;
 pub mod status;
-pub mod stop;
-pub mod table;
-pub mod verdict_text;
-pub mod view_line;
-pub mod words;
-pub mod zoom;
-pub mod zoom_text;
 
 use crate::program::{program, watchers_of, words_of};
 use crate::status::Status;

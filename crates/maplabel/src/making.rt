@@ -3,8 +3,8 @@ ghost use Rattle.std.specs.Prelude.{◌≡◌, ◌≤◌, IfOk, IfErr};
 ghost use Rattle.ml_style.specs.StyleTable.{IsStyle};
 ghost use Rattle.maplabel.specs.Making.{IsMakingStop, IsTotalsOf, sample_style};
 
-use crate::map_inputs::style_refusal;
-use crate::stop::Stop;
+use ml_command::Stop;
+use ml_command::map_inputs::style_refusal;
 use ml_gen::{make_totals, totals_line};
 use ml_ratio::Seq;
 use ml_style::{SAMPLE, Style, read_style};

@@ -1,11 +1,12 @@
 //! What a run prints.
-ghost use Rattle.std.specs.Prelude.{◌≤◌};
+ghost use Rattle.std.specs.Prelude.{◌≡◌, ◌≤◌};
 ghost use Rattle.ml_io.specs.Calls.{put};
-ghost use Rattle.maplabel.specs.Outcome.{IsAnswerPrinted, IsPrinted, IsStopPrinted, IsVerdictPrinted, usage_line};
+ghost use Rattle.maplabel.specs.Outcome.{IsAnswerPrinted, IsPrinted, IsStopPrinted, IsVerdictPrinted, status_of, usage_line};
 ghost use Rattle.maplabel.specs.declared.status.Status.TheVariants.{Usage};
 
 use crate::status::Status;
-use crate::stop::Stop;
+use ml_cert::Verdict;
+use ml_command::Stop;
 use ml_io::{Failed, Sink, put_all};
 use ml_ratio::Seq;
 
@@ -49,15 +50,28 @@ pub fn print_answer<K: Sink>(out: &mut K, answer: Result<Seq<u8>, Stop>) -> Stat
     }
 }
 
-/// Prints the line of a verdict, or the one that says why there is none, and gives the status;
+/// Prints the line of a verdict, or the one that says why there is none, and gives its status;
 /// `WriteFault` where not all was printed.
-pub fn print_verdict<K: Sink>(out: &mut K, answer: Result<(Status, Seq<u8>), Stop>) -> Status
+pub fn print_verdict<K: Sink>(out: &mut K, answer: Result<(Verdict, Seq<u8>), Stop>) -> Status
     ensures printed { IsVerdictPrinted answer (put K.written K.faults out.old out.new) result }
     ensures later { K.faults out.old ≤ K.faults out.new }
 {
     match answer {
-        Ok((status, line)) => print(out, line.as_slice(), status),
+        Ok((verdict, line)) => print(out, line.as_slice(), status_of(verdict)),
         Err(stop) => print_stop(out, &stop),
+    }
+}
+
+// The status of a verdict.
+fn status_of(verdict: Verdict) -> Status
+    ensures { result ≡ status_of verdict }
+{
+    match verdict {
+        Verdict::Best => Status::Done,
+        Verdict::BadEnd(_) => Status::NotBest,
+        Verdict::Clash(_, _, _) => Status::NotBest,
+        Verdict::Uncovered(_) => Status::NotBest,
+        Verdict::BadBlocker(_) => Status::NotBest,
     }
 }
 

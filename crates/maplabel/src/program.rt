@@ -6,8 +6,8 @@ ghost use Rattle.ml_io.specs.Calls.{put, taken, passed, link_ends};
 ghost use Rattle.maplabel.specs.Program.{IsProgram, IsTelling, AreWatchers};
 ghost use Rattle.maplabel.specs.Run.{lending};
 
-use crate::command::read_command;
 use crate::run::run;
+use ml_command::read_command;
 use ml_io::{Door, Files, Sink, Source};
 use ml_watch::{Crowd, LineWatcher, Watcher};
 use std::alloc::{AllocError, Global};

@@ -2,19 +2,17 @@
 ghost use Rattle.std.specs.Prelude.{◌≡◌, ◌≤◌, None, false, map, string_bytes};
 ghost use Rattle.ml_io.specs.Files.{seen};
 ghost use Rattle.ml_io.specs.Calls.{put, taken, passed, link_ends};
-ghost use Rattle.maplabel.specs.Run.{IsDone, IsFollowEnd, IsRun, lending};
-ghost use Rattle.maplabel.specs.declared.command.Command.TheVariants.{Live};
+ghost use Rattle.maplabel.specs.Run.{IsDone, IsFollowEnd, IsRun, lending, status_of_following};
+ghost use Rattle.ml_command.specs.declared.command.Command.TheVariants.{Live};
 
-use crate::check::check;
-use crate::command::{Command, LiveTask, read_command};
-use crate::following::{follow, load_states};
-use crate::loading::load_editor;
 use crate::making::totals_of;
-use crate::map::on_map;
 use crate::printing::{print_answer, print_stop, print_usage, print_verdict};
 use crate::serving::{pipe, serve_at};
 use crate::status::Status;
-use crate::table::on_table;
+use ml_command::{
+    Command, FollowEnd, LiveTask, check, follow, load_editor, load_states, on_map, on_table,
+    read_command,
+};
 use ml_io::{Door, Files, Sink, Source};
 use ml_serve::Hours;
 use ml_watch::{Crowd, Watcher};
@@ -128,7 +126,19 @@ fn follow_file<F: Files, K: Sink, W: Watcher>(
     ensures later { (F.faults files.old ≤ F.faults files.new) × (K.faults out.old ≤ K.faults out.new) }
 {
     match load_states(alloc, files, name) {
-        Ok(states) => follow(alloc, states, out, crowd),
+        Ok(states) => status_of_following(follow(alloc, states, out, crowd)),
         Err(stop) => print_stop(out, &stop),
+    }
+}
+
+// The status of a run by how following ended.
+fn status_of_following(end: FollowEnd) -> Status
+    ensures { result ≡ status_of_following end }
+{
+    match end {
+        FollowEnd::Adopted => Status::Done,
+        FollowEnd::NotAdopted => Status::NotAdopted,
+        FollowEnd::WriteFault => Status::WriteFault,
+        FollowEnd::Memory => Status::Memory,
     }
 }

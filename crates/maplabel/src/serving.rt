@@ -1,10 +1,11 @@
 //! Connections that are served over a map.
 ghost use Rattle.std.specs.Prelude.{◌≡◌, ◌<◌, ◌≤◌, None, false};
 ghost use Rattle.ml_io.specs.Calls.{link_ends, passed, put, taken};
-ghost use Rattle.maplabel.specs.Serving.{IsPiped, IsAllServed, no_tiles, status_of_link, status_of_serving};
+ghost use Rattle.ml_command.specs.Loading.{no_tiles};
+ghost use Rattle.maplabel.specs.Serving.{IsPiped, IsAllServed, status_of_link, status_of_serving};
 
-use crate::loading::Site;
 use crate::status::Status;
+use ml_command::Site;
 use ml_editor::Editor;
 use ml_http::{ConnEnd, Context, serve_link};
 use ml_io::{Door, Sink, Source};

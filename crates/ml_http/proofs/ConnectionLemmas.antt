@@ -1,7 +1,7 @@
 -- One turn of a connection, and what follows it.
 use Rattle.std.proofs.Common.{◌≡◌, ℕ, ◌-◌, ◌<◌, Bool, true, false, ◌==◌, List, [], ◌∷◌, ◌++◌, take, map, flat_map, refl, ap, ◌∙◌, sym, subst, arith, inl, inr, append_assoc, append-nil, Option, Some, None, MatchBool}
 use Rattle.std.proofs.lemmas.Bool.Decides.{nat_tests}
-use Rattle.ml_io.specs.Causes.{Appends, AppendsPart}
+use Rattle.ml_io.specs.Causes.{Appends, AppendsPart, IsCut}
 use Rattle.ml_io.specs.Takes.{Draws, HasRunOut}
 use Rattle.ml_request.specs.declared.request.Event.{Event}
 use Rattle.ml_http.specs.declared.connection_end.ConnEnd.{ConnEnd}
@@ -9,7 +9,7 @@ use Rattle.ml_http.specs.declared.connection_end.ConnEnd.TheVariants.{Shut, Star
 use Rattle.ml_http.specs.declared.connection_end.Turn.{Turn}
 use Rattle.ml_http.specs.declared.connection_end.Turn.TheVariants.{Open, Over}
 use Rattle.ml_request.specs.Stream.{BeginsWith, HasNoEvent, closes, Reads, AreFirstEvents}
-use Rattle.ml_http.specs.Connection.{memory_reply, brought, IsCut, Exchange, IsConnEnd, IsServed, IsOpenTurn, IsTurn, IsReply, IsStarved}
+use Rattle.ml_http.specs.Connection.{memory_reply, brought, Exchange, IsConnEnd, IsServed, IsOpenTurn, IsTurn, IsReply, IsStarved}
 use Rattle.ml_request.proofs.lemmas.Streams.{event_grows}
 use Rattle.ml_request.proofs.lemmas.Takes.{takes_nothing, takes_twice, appends_nothing, appends_twice}
 

@@ -4,10 +4,9 @@ use Rattle.std.proofs.lemmas.List.{length-append, take-append-le}
 use Rattle.ml_io.specs.Calls.{Passed, LinkEnds}
 use Rattle.ml_io.specs.declared.link.Link.{Link}
 use Rattle.ml_ratio.specs.Count.{one_more}
-use Rattle.ml_io.specs.Causes.{Appends, AppendsPart}
+use Rattle.ml_io.specs.Causes.{Appends, AppendsPart, IsCut}
 use Rattle.ml_io.specs.Takes.{HasRunOut}
 use Rattle.ml_watch.specs.Hearing.{Hearing}
-use Rattle.ml_http.specs.Connection.{IsCut}
 use Rattle.ml_http.specs.Link.{LinkState}
 use Rattle.ml_http.specs.Step.{LinkAnswer}
 use Rattle.ml_serve.specs.Session.{Visit, HasServed}

@@ -2,9 +2,8 @@
 use Rattle.std.specs.Prelude.{◌≡◌, ℕ, ◌<◌, ◌≤◌, ◌⊎◌, Bool, true, false, List, [], ◌∷◌, ◌++◌, flat_map, codes, Option}
 use Rattle.std.specs.Fmt.{decimal}
 use Rattle.ml_ratio.specs.Count.{one_more}
-use Rattle.ml_io.specs.Causes.{Appends, AppendsPart}
+use Rattle.ml_io.specs.Causes.{Appends, AppendsPart, IsCut}
 use Rattle.ml_io.specs.Takes.{HasRunOut}
-use Rattle.ml_http.specs.Connection.{IsCut}
 use Rattle.ml_serve.specs.declared.serve_end.ServeEnd.{ServeEnd}
 use Rattle.ml_serve.specs.declared.serve_end.ServeEnd.TheVariants.{Done, WriteFault, DoorFault}
 

@@ -2,7 +2,7 @@ use Rattle.std.proofs.Common.{inl, inr, refl, ap}
 use Rattle.ml_io.specs.Files.{seen}
 use Rattle.maplabel.specs.Run.{lending}
 use Rattle.maplabel.proofs.RunLemmas.{text_end, verdict_end, making_keeps}
-use Rattle.maplabel.specs.declared.command.Command.TheVariants.{OnTable, Judge, OnMap, Live, Make, Follow}
+use Rattle.ml_command.specs.declared.command.Command.TheVariants.{OnTable, Judge, OnMap, Live, Make, Follow}
 use Rattle.maplabel.proofs.run.run.Goals as goal
 
 pub returns-in-Some-OnTable-clause-end : goal.returns-in-Some-OnTable-clause-end

@@ -1,0 +1,10 @@
+mod Chosen
+mod CommandLemmas
+mod FollowEnds
+mod FollowLemmas
+mod GapLemmas
+mod MapLines
+mod MapViewing
+mod ShownMore
+mod WordLemmas
+mod ZoomLemmas

@@ -1,0 +1,13 @@
+pub mod Answers
+pub mod Commands
+pub mod FollowLines
+pub mod Following
+pub mod GapLines
+pub mod Inputs
+pub mod Loading
+pub mod MapInputs
+pub mod Offering
+pub mod VerdictText
+pub mod ViewLine
+pub mod Words
+pub mod Zoom
