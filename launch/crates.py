@@ -82,9 +82,10 @@ def files_of(crate, parts=READ):
 
 
 def lines_of(crate):
-    """How many lines of code a crate has: the time of its proof goes with them."""
+    """How many lines of code and of definitions a crate has: the time of its proof goes with them, and hardly with the
+    lines of its lemmas."""
     count = 0
-    for path in files_of(crate, ("src",)):
+    for path in files_of(crate, ("src", "specs")):
         with open(path, "rb") as file:
             count += file.read().count(b"\n")
     return count

@@ -8,10 +8,12 @@ come further.
 What begins the longest chain, or one that is hardly shorter, has several provers where processors are free for them.
 Taken are those that the near crates at work keep busy, and one for each other near crate that can begin; near are
 those behind which the chain is not much shorter. What has less left to do than that crate counts for a part. Each
-other crate has one prover, since each further one does a part of the work again. A crate that is not near waits while those at work keep all processors busy: it would take the
-place of one of a longer chain that can begin soon.
+other crate has one prover, since each further one does a part of the work again.
 
-A near crate gives way to none: by lines of code the times of chains are told within a fifth at best, and where one
+A crate that is not near waits while those at work keep all processors busy. A near one waits for near ones alone:
+where far ones have the processors, it begins beside them, and they give way.
+
+A near crate gives way to none: by lines the times of chains are told within a fifth at best, and where one
 that is hardly shorter gave way, it became the longest. Each other crate gives way the further, the shorter its chain
 is. So the longest chains have what they can use of the processors, and the others have what they leave: also a check
 by several provers begins and ends on one processor.
@@ -24,22 +26,23 @@ MOST_JOBS = 3
 # How many processors so many provers of a crate keep busy.
 BUSY = {1: 1.0, 2: 1.7, 3: 2.4}
 # At least so long, as a part of the longest, is a chain whose first crate may have several provers, and one whose first
-# crate is near. A simulation from the times of this repository's crates chose these parts.
-FRONT, NEAR = 0.95, 0.75
+# crate is near.
+FRONT, NEAR = 0.8, 0.75
 # What gives way to all others still has a little of the processors.
 LEAST = 0.1
 # The niceness of what gives way to all others.
 MOST_NICE = 19
-# A check takes as long for its start as for so many lines of code.
-START = 100
+# A check takes as long for its start as for so many lines of code and definitions. By the processor times of a whole
+# build these two numbers tell the work of most crates within a third, and of all within a factor of two.
+START = 50
 # The statement of each line of the libraries below is loaded, which takes this part of the time for a line that is proved.
-LOADED = 50
+LOADED = 25
 GIGABYTE = 1_000_000_000
 KILOBYTE = 1_000
 
 
 class Step(NamedTuple):
-    """The check of a crate: the crates that it waits for, its work in lines of code, and the memory that one prover takes."""
+    """The check of a crate: the crates that it waits for, its work in lines, and the memory that one prover takes."""
 
     uses: tuple
     work: int
@@ -47,18 +50,18 @@ class Step(NamedTuple):
 
 
 class Check(NamedTuple):
-    """A check at work: its provers, and what is left of its work in lines of code."""
+    """A check at work: its provers, and what is left of its work in lines."""
 
     jobs: int
     left: float
 
 
 def step_of(uses, lines, below):
-    """The check of so many lines of code over so many lines of libraries below.
+    """The check of so many lines over so many lines of libraries below.
 
     The memory rests on the peaks of all crates in a build of this repository over whole libraries, by one, two or four
     provers: none was above 95 of 100 parts of what is reckoned here. Over the statements of libraries it is less."""
-    return Step(uses, START + lines + below // LOADED, GIGABYTE + 75 * KILOBYTE * (8 * lines + below))
+    return Step(uses, START + lines + below // LOADED, GIGABYTE + 65 * KILOBYTE * (8 * lines + below))
 
 
 class Plan:
@@ -103,7 +106,7 @@ class Plan:
         """The crate to begin now and its number of provers, or none. `running` has the check of each crate at work, and
         `free` tells how much memory is free."""
         ready = self.ready(done, running)
-        if len(running) >= self.processors or not ready:
+        if not ready:
             return None
         free = min(free, self.memory - sum(self.memory_of(it, check.jobs) for it, check in running.items()))
         chains = self.chains(done, running)
@@ -111,7 +114,8 @@ class Plan:
         near = [it for it in ready if chains[it] >= NEAR * longest]
         at_work = [it for it in running if chains[it] >= NEAR * longest]
         for name in ready:
-            if running and name not in near and self.idle(running, running) <= 0:
+            is_full = len(at_work if name in near else running) >= self.processors
+            if is_full or running and name not in near and self.idle(running, running) <= 0:
                 continue
             jobs = min(MOST_JOBS, self.processors) if chains[name] >= FRONT * longest else 1
             idle = self.idle({*at_work, *near} - {name}, running, self.steps[name].work)

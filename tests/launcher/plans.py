@@ -51,7 +51,7 @@ class Order(unittest.TestCase):
         plan = schedule.Plan(steps(a=(10,), b=(20,), c=(30,), d=(5,), e=(5,)), 4, MUCH)
         self.assertEqual(plan.next(set(), begun(plan, c=3), MUCH), ("b", 1))
         self.assertEqual(plan.next(set(), begun(plan, b=1, d=1, e=1), MUCH), ("c", 3))
-        self.assertIsNone(plan.next(set(), begun(plan, a=1, b=1, d=1, e=1), MUCH))
+        self.assertEqual(plan.next(set(), begun(plan, a=1, b=1, d=1, e=1), MUCH), ("c", 3))
 
     def test_two_chains_of_one_length(self):
         plan = schedule.Plan(steps(a=(100,), b=(99,), c=(90,)), 4, MUCH)
@@ -103,7 +103,7 @@ class AtWork(unittest.TestCase):
         told = steps(repair=(3000,), json=(1400,), editor=(2600, "repair", "json"), rest=(10000, "editor"))
         plan = schedule.Plan(told, 4, MUCH)
         running = begun(plan, repair=3)
-        self.assertEqual((plan.next(set(), running, MUCH), plan.niceness("json", set(), running)), (("json", 1), 0))
+        self.assertEqual((plan.next(set(), running, MUCH), plan.niceness("json", set(), running)), (("json", 2), 0))
         running["repair"] = schedule.Check(3, 150)
         self.assertEqual((plan.next(set(), running, MUCH), plan.niceness("json", set(), running)), (("json", 3), 0))
 
@@ -122,6 +122,14 @@ class AtWork(unittest.TestCase):
         self.assertIsNone(plan.next({"d"}, begun(plan, a=3, b=1, c=1), MUCH))
         self.assertEqual(plan.next({"d"}, begun(plan, a=2, b=1, c=1), MUCH), ("e", 1))
         self.assertEqual(plan.next({"c", "d"}, begun(plan, a=3, b=1), MUCH), ("e", 1))
+
+    def test_near_crates_wait_for_near_ones_alone(self):
+        plan = schedule.Plan(steps(a=(1000,), b=(900,), c=(100,), d=(100,), e=(100,), f=(100,)), 4, MUCH)
+        far = begun(plan, c=1, d=1, e=1, f=1)
+        self.assertEqual(plan.next({"a"}, far, MUCH), ("b", 3))
+        self.assertEqual(plan.next(set(), {**far, **begun(plan, a=3)}, MUCH), ("b", 2))
+        plan = schedule.Plan(steps(a=(100,), b=(100,), c=(100,)), 2, MUCH)
+        self.assertIsNone(plan.next(set(), begun(plan, a=1, b=1), MUCH))
 
 
 class Memory(unittest.TestCase):
@@ -156,8 +164,8 @@ class Reckoning(unittest.TestCase):
     def test_own_lines_and_those_below(self):
         small, large, high = (schedule.step_of(("a",), lines, below) for lines, below in ((100, 0), (300, 0), (100, 10000)))
         self.assertEqual(small.uses, ("a",))
-        # the start, each line, and each fiftieth line below
-        self.assertEqual([it.work for it in (small, large, high)], [200, 400, 400])
+        # the start, each line, and each line below by its part
+        self.assertEqual([it.work for it in (small, large, high)], [150, 350, 550])
         self.assertLess(small.memory, large.memory)
         self.assertLess(small.memory, high.memory)
 
