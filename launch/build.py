@@ -17,6 +17,8 @@ from faults import Fault, Interrupted
 from sources import Sources
 
 PROGRAM = "maplabel"
+# What each check took in a measured build, which `bench/start times` writes anew.
+TIMES = os.path.join(os.path.dirname(os.path.abspath(__file__)), "times.txt")
 # A check that takes less processor time, in seconds, had little to do, so its time tells nothing of the others.
 TELLS = 4
 PAUSE = 0.2
@@ -27,21 +29,23 @@ PATIENCE = 10
 
 
 class Run(NamedTuple):
-    """A check at work: the command that runs, and those that come behind it."""
+    """A check at work: the command that runs, those that come behind it, and the processor time of those before it."""
 
     process: subprocess.Popen
     rest: list
     jobs: int
     niceness: int
     begun: float
+    spent: float = 0.0
 
 
 def plan_of(needed):
     """The plan of a build of these crates, each behind those that it uses, on this machine."""
     by_name, steps, lines = {it.name: it for it in needed}, {}, {it.name: crates.lines_of(it) for it in needed}
+    seconds = crates.seconds_of(TIMES)
     for it in needed:
         below = sum(lines[used.name] for used in crates.below(by_name, it.name))
-        steps[it.name] = schedule.step_of(it.uses, lines[it.name], below)
+        steps[it.name] = schedule.step_of(it.uses, lines[it.name], below, seconds.get(it.name))
     return schedule.Plan(steps, machine.processors(), machine.free_memory())
 
 
@@ -109,6 +113,7 @@ class Build:
             status = run.process.poll()
             if status is None:
                 continue
+            run = run._replace(spent=run.spent + machine.spent_by_ended() - before)
             # (where it was killed, it was for want of memory most likely)
             if status == -signal.SIGKILL and name not in self.alone:
                 del self.running[name]
@@ -118,7 +123,7 @@ class Build:
             elif run.rest:
                 self.go_on(name, run)
             else:
-                self.finish(name, shown.now() - run.begun, machine.spent_by_ended() - before)
+                self.finish(name, shown.now() - run.begun, run.spent)
 
     def finish(self, name, seconds, spent):
         if spent > TELLS:
@@ -126,6 +131,7 @@ class Build:
             self.spent += spent
         self.sources.give(self.crates[name])
         records.note(self.crates[name], self.sums[name])
+        records.note_seconds(self.crates[name], spent)
         del self.running[name]
         self.alone.discard(name)
         self.done.add(name)

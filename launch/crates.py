@@ -91,6 +91,17 @@ def lines_of(crate):
     return count
 
 
+def seconds_of(path):
+    """By name, the seconds that one processor took for the check of each crate in a measured build, as the file tells
+    them: a crate and its seconds a line."""
+    try:
+        with open(path, encoding="utf-8") as file:
+            rows = [line.split() for line in file.read().split("\n") if line and not line.startswith("#")]
+        return {name: float(seconds) for name, seconds in rows}
+    except (OSError, ValueError) as error:
+        raise Fault(f"{path} cannot be read: {error}") from error
+
+
 def kit_version():
     """The line that names the kit; another kit proves all anew."""
     try:

@@ -5,6 +5,9 @@ import os
 
 import compiler
 
+# What the crate's check took, in its folder.
+SECONDS = "out/seconds"
+
 
 def file_of(crate):
     return f"{crate.folder}/out/proved"
@@ -35,3 +38,15 @@ def note(crate, digest):
     """Notes that what stands in the crate's out/ was built from this text."""
     with open(file_of(crate), "w", encoding="utf-8") as file:
         file.write(f"{digest} {built(crate)}\n")
+
+
+def note_seconds(crate, seconds):
+    """Notes how many seconds of one processor the crate's check took."""
+    with open(f"{crate.folder}/{SECONDS}", "w", encoding="utf-8") as file:
+        file.write(f"{seconds:.1f}\n")
+
+
+def seconds(crate):
+    """How many seconds of one processor the crate's check took."""
+    with open(f"{crate.folder}/{SECONDS}", encoding="utf-8") as file:
+        return float(file.read())

@@ -13,8 +13,10 @@ other crate has one prover, since each further one does a part of the work again
 A crate that is not near waits while those at work keep all processors busy. A near one waits for near ones alone:
 where far ones have the processors, it begins beside them, and they give way.
 
-A near crate gives way to none: by lines the times of chains are told within a fifth at best, and where one
-that is hardly shorter gave way, it became the longest. Each other crate gives way the further, the shorter its chain
+The work of a crate is what it was in a measured build; of one that is new since, what its lines tell.
+
+A near crate gives way to none: the times of chains are told within a fifth at best, and where one that is hardly
+shorter gave way, it became the longest. Each other crate gives way the further, the shorter its chain
 is. So the longest chains have what they can use of the processors, and the others have what they leave: also a check
 by several provers begins and ends on one processor.
 """
@@ -26,8 +28,8 @@ MOST_JOBS = 3
 # How many processors so many provers of a crate keep busy.
 BUSY = {1: 1.0, 2: 1.7, 3: 2.4}
 # At least so long, as a part of the longest, is a chain whose first crate may have several provers, and one whose first
-# crate is near.
-FRONT, NEAR = 0.8, 0.75
+# crate is near. A simulation with the measured times of this repository's crates chose these parts.
+FRONT, NEAR = 0.95, 0.75
 # What gives way to all others still has a little of the processors.
 LEAST = 0.1
 # The niceness of what gives way to all others.
@@ -37,6 +39,8 @@ MOST_NICE = 19
 START = 50
 # The statement of each line of the libraries below is loaded, which takes this part of the time for a line that is proved.
 LOADED = 25
+# So many lines take a second of one processor.
+LINES_A_SECOND = 12
 GIGABYTE = 1_000_000_000
 KILOBYTE = 1_000
 
@@ -56,12 +60,14 @@ class Check(NamedTuple):
     left: float
 
 
-def step_of(uses, lines, below):
-    """The check of so many lines over so many lines of libraries below.
+def step_of(uses, lines, below, seconds=None):
+    """The check of so many lines over so many lines of libraries below, which took so many seconds of one processor in
+    a measured build, if it was one of it.
 
     The memory rests on the peaks of all crates in a build of this repository over whole libraries, by one, two or four
     provers: none was above 95 of 100 parts of what is reckoned here. Over the statements of libraries it is less."""
-    return Step(uses, START + lines + below // LOADED, GIGABYTE + 65 * KILOBYTE * (8 * lines + below))
+    work = START + lines + below // LOADED if seconds is None else max(1, round(seconds * LINES_A_SECOND))
+    return Step(uses, work, GIGABYTE + 65 * KILOBYTE * (8 * lines + below))
 
 
 class Plan:

@@ -35,6 +35,7 @@ def make_origin(folder):
     write(folder / "crates" / "maplabel" / "data" / "two.table", "A 0 0 0 1000 -10,-5,10,5\n")
     shutil.copy(TOP / "maplabel", folder / "maplabel")
     shutil.copytree(TOP / "launch", folder / "launch", ignore=shutil.ignore_patterns("__pycache__"))
+    write(folder / "launch" / "times.txt", "# none was measured\n")
     (folder / "bench").mkdir()
     shutil.copy(TOP / "bench" / "start", folder / "bench" / "start")
     write(folder / "README.md", "# A page\n\n## Quick start\n\n```\n./maplabel --quick view 'a b'\n```\n")

@@ -103,7 +103,7 @@ class AtWork(unittest.TestCase):
         told = steps(repair=(3000,), json=(1400,), editor=(2600, "repair", "json"), rest=(10000, "editor"))
         plan = schedule.Plan(told, 4, MUCH)
         running = begun(plan, repair=3)
-        self.assertEqual((plan.next(set(), running, MUCH), plan.niceness("json", set(), running)), (("json", 2), 0))
+        self.assertEqual((plan.next(set(), running, MUCH), plan.niceness("json", set(), running)), (("json", 1), 0))
         running["repair"] = schedule.Check(3, 150)
         self.assertEqual((plan.next(set(), running, MUCH), plan.niceness("json", set(), running)), (("json", 3), 0))
 
@@ -127,7 +127,7 @@ class AtWork(unittest.TestCase):
         plan = schedule.Plan(steps(a=(1000,), b=(900,), c=(100,), d=(100,), e=(100,), f=(100,)), 4, MUCH)
         far = begun(plan, c=1, d=1, e=1, f=1)
         self.assertEqual(plan.next({"a"}, far, MUCH), ("b", 3))
-        self.assertEqual(plan.next(set(), {**far, **begun(plan, a=3)}, MUCH), ("b", 2))
+        self.assertEqual(plan.next(set(), {**far, **begun(plan, a=3)}, MUCH), ("b", 1))
         plan = schedule.Plan(steps(a=(100,), b=(100,), c=(100,)), 2, MUCH)
         self.assertIsNone(plan.next(set(), begun(plan, a=1, b=1), MUCH))
 
@@ -168,6 +168,11 @@ class Reckoning(unittest.TestCase):
         self.assertEqual([it.work for it in (small, large, high)], [150, 350, 550])
         self.assertLess(small.memory, large.memory)
         self.assertLess(small.memory, high.memory)
+
+    def test_measured_seconds(self):
+        # whatever the lines; memory is reckoned by these
+        new, old = schedule.step_of(("a",), 100, 0), schedule.step_of(("a",), 100, 0, 20.0)
+        self.assertEqual((old.work, old.memory), (20 * schedule.LINES_A_SECOND, new.memory))
 
 
 class Guess(unittest.TestCase):

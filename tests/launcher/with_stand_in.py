@@ -350,6 +350,20 @@ class Measure(Case):
         chain = ran.stdout.partition("chain: ")[2].splitlines()[1:5]
         self.assertEqual([row.split()[-1] for row in chain], ["low", "left", "upper", "maplabel"])
 
+    def test_times_are_written(self):
+        ran = self.clone.run("times", launcher=self.clone.folder / "bench" / "start")
+        self.assertEqual(ran.returncode, 0, ran.stderr)
+        head, *rows = (self.clone.folder / "launch" / "times.txt").read_text(encoding="utf-8").splitlines()
+        self.assertTrue(head.startswith("# "))
+        self.assertEqual(sorted(row.split()[0] for row in rows), sorted(NEEDED))
+        # what was written is read
+        self.build()
+        (self.clone.folder / "launch" / "times.txt").write_text("low many\n", encoding="utf-8")
+        self.clone.add_line("low", "// changed")
+        ran = self.clone.run("--build")
+        self.assertEqual(ran.returncode, FAILED)
+        self.assertIn("times.txt cannot be read", ran.stderr)
+
     def test_failures(self):
         self.assertEqual(self.clone.run("all", launcher=self.clone.folder / "bench" / "start").returncode, USAGE)
         (self.clone.folder / "README.md").write_text("nothing", encoding="utf-8")
