@@ -14,10 +14,12 @@
 //! - [`mem_source`], [`mem_sink`], [`mem_files`], [`mem_door`]: objects in memory that tell all, and
 //!   fail at listed calls, over [`failing`]; `link_list` and `named` are their connections and files;
 //! - [`calm_source`], [`calm_sink`], [`calm_files`], [`calm_door`]: objects that never fail;
-//! - [`real`], [`real_input`], [`tcp_door`]: adapters over the system, which are trusted;
+//! - [`real`], [`real_input`], [`tcp_door`]: adapters over the system, which are trusted; `accepting` and
+//!   `lingering` are how a connection over TCP begins and ends;
 //! - [`laws`]: what is taken, or put, piece by piece.
 #![tactic(auto)]
 
+mod accepting;
 pub mod calm_door;
 pub mod calm_files;
 pub mod calm_sink;
@@ -27,6 +29,7 @@ pub mod failed;
 pub mod failing;
 pub mod files;
 pub mod laws;
+mod lingering;
 pub mod link;
 mod link_list;
 pub mod mem_door;
@@ -41,6 +44,7 @@ pub mod sink;
 pub mod source;
 pub mod tcp_door;
 
+pub use accepting::TcpLink;
 pub use calm_door::{CalmDoor, CalmLink};
 pub use calm_files::CalmFiles;
 pub use calm_sink::CalmSink;
@@ -59,4 +63,4 @@ pub use real::{RealErrors, RealFiles, RealOutput};
 pub use real_input::RealInput;
 pub use sink::{Sink, put_all};
 pub use source::Source;
-pub use tcp_door::{TcpDoor, TcpLink};
+pub use tcp_door::TcpDoor;

@@ -4,31 +4,19 @@ ghost use Rattle.ml_io.specs.Causes.{HasCause};
 ghost use Rattle.ml_io.specs.RealInput.{faults_after_call};
 ghost use Rattle.ml_io.specs.TcpDoor.{fresh_tcp_door};
 
+use crate::accepting::{TcpLink, accept};
 use crate::door::Door;
 use crate::failed::Failed;
-use crate::link::Link;
+use crate::lingering::linger;
 use crate::real::RealOutput;
 use crate::real_input::RealInput;
-use crate::source::Source;
 use std::marker::Model;
-use std::net::{Ipv4Addr, Net, Shutdown, TcpListener, TcpStream};
-use std::time::Duration;
-
-/// How many times at most what a client still sends is read behind its last reply, and how many bytes
-/// each time: 16 MiB together.
-const LINGERING_READS: u32 = 2048;
-
-const LINGERING_PIECE: usize = 8192;
-
-/// How long each of these reads waits, in seconds.
-const LINGERING_SECONDS: u64 = 1;
-
-/// A connection over TCP. Its two parts share one stream.
-pub type TcpLink = Link<RealInput<TcpStream>, RealOutput<TcpStream>>;
+use std::net::{Ipv4Addr, Net, TcpListener, TcpStream};
+use std::time::Clock;
 
 /// Listens on 127.0.0.1. It tells nothing of its connections.
 #[derive(Drop)]
-pub struct TcpDoor<R: Net<Listener = TcpListener, Stream = TcpStream>> {
+pub struct TcpDoor<R: Net<Listener = TcpListener, Stream = TcpStream> + Clock> {
     system: R,
     listener: Option<TcpListener>,
     port: Option<u16>,
@@ -36,7 +24,7 @@ pub struct TcpDoor<R: Net<Listener = TcpListener, Stream = TcpStream>> {
     faults: u64,
 }
 
-impl<R: Net<Listener = TcpListener, Stream = TcpStream>> Model for TcpDoor<R> {
+impl<R: Net<Listener = TcpListener, Stream = TcpStream> + Clock> Model for TcpDoor<R> {
     ghost use Rattle.std.specs.Prelude.{is_some};
     ghost use Rattle.ml_io.specs.TcpDoor.{TcpDoorState};
 
@@ -50,7 +38,7 @@ impl<R: Net<Listener = TcpListener, Stream = TcpStream>> Model for TcpDoor<R> {
     } };
 }
 
-impl<R: Net<Listener = TcpListener, Stream = TcpStream>> TcpDoor<R> {
+impl<R: Net<Listener = TcpListener, Stream = TcpStream> + Clock> TcpDoor<R> {
     /// A door that does not listen yet. A reference to a runtime serves as well.
     pub fn new(system: R) -> TcpDoor<R>
         ensures { result ≡ fresh_tcp_door }
@@ -65,63 +53,7 @@ impl<R: Net<Listener = TcpListener, Stream = TcpStream>> TcpDoor<R> {
     }
 }
 
-/// The next connection, and the same once more for its replies; none where the system gives none.
-///
-/// Each reply is sent at once, where the system lets this be set. Otherwise it would hold back the second
-/// of several small replies until the client has told that it has the first, for which clients take their
-/// time.
-fn accepted(listener: &TcpListener) -> Option<TcpLink> {
-    let Ok((stream, _)) = listener.accept() else {
-        return None;
-    };
-    let _set = stream.set_nodelay(true);
-    let Ok(twin) = stream.try_clone() else {
-        return None;
-    };
-    Some(Link {
-        source: RealInput::new(stream),
-        sink: RealOutput::new(twin),
-    })
-}
-
-/// Whether the client has sent bytes that nobody has read yet. It does not wait for any.
-fn has_unread(stream: &TcpStream) -> bool {
-    if stream.set_nonblocking(true).is_err() {
-        return false;
-    }
-    let mut first = [0; 1];
-    let seen = match stream.peek(&mut first) {
-        Ok(count) => count > 0,
-        Err(_) => false,
-    };
-    stream.set_nonblocking(false).is_ok() && seen
-}
-
-/// Where the client has sent bytes that nobody has read, reads and drops these and what it still sends, up
-/// to a bound. A socket that is closed over such bytes takes back replies that the client has not read yet.
-/// So the writing half ends first, which tells the client that nothing more comes, and the rest is read
-/// until it closes its half, sends nothing for a while, or has sent too much. A client all of whose bytes
-/// were read is not waited for.
-fn linger(link: TcpLink) {
-    let mut link = link;
-    let stream = link.sink.writer();
-    if !has_unread(stream) {
-        return;
-    }
-    let wait = Duration::from_secs(LINGERING_SECONDS);
-    if stream.shutdown(Shutdown::Write).is_err() || stream.set_read_timeout(Some(wait)).is_err() {
-        return;
-    }
-    let mut piece = [0; LINGERING_PIECE];
-    for _read in 0..LINGERING_READS {
-        match link.source.take(&mut piece) {
-            Ok(0) | Err(_) => return,
-            Ok(_) => {}
-        }
-    }
-}
-
-impl<R: Net<Listener = TcpListener, Stream = TcpStream>> Door for TcpDoor<R> {
+impl<R: Net<Listener = TcpListener, Stream = TcpStream> + Clock> Door for TcpDoor<R> {
     type In = RealInput<TcpStream>;
 
     type Out = RealOutput<TcpStream>;
@@ -170,7 +102,7 @@ impl<R: Net<Listener = TcpListener, Stream = TcpStream>> Door for TcpDoor<R> {
         ensures counted { self.new.faults ≡ faults_after_call result self.old.faults }
     {
         let link = match &self.listener {
-            Some(listener) => accepted(listener),
+            Some(listener) => accept(&self.system, listener),
             None => None,
         };
         match link {
@@ -185,7 +117,8 @@ impl<R: Net<Listener = TcpListener, Stream = TcpStream>> Door for TcpDoor<R> {
         }
     }
 
-    /// Closes the connection. Bytes of the client that nobody has read are read and dropped before.
+    /// Closes the connection. Bytes of the client that nobody has read are read and dropped before, for two
+    /// seconds at most.
     fn done(&mut self, link: TcpLink)
         requires { self.old.out ≡ true }
         ensures out { self.new.out ≡ false }
@@ -193,6 +126,6 @@ impl<R: Net<Listener = TcpListener, Stream = TcpStream>> Door for TcpDoor<R> {
         ensures faults { self.new.faults ≡ self.old.faults }
     {
         self.out = false;
-        linger(link);
+        linger(&self.system, link);
     }
 }
