@@ -1,10 +1,10 @@
 -- Whole tokens of plain bytes at the front of bytes, and the machine's way over many bytes. No public clause speaks of it.
-use Rattle.std.specs.Prelude.{◌≡◌, ℕ, ◌≤◌, List, [], ◌∷◌, ◌==◌, Option, Some, None, if◌then◌else◌}
+use Rattle.std.specs.Prelude.{◌≡◌, ℕ, ◌≤◌, List, [], ◌∷◌, ◌==◌, ◌⊎◌, Option, Some, None, if◌then◌else◌}
 use Rattle.std.specs.Borrow.{Bor}
 use Rattle.ml_json.specs.Grammar.{is_space}
 use Rattle.ml_json.specs.Strings.{is_plain}
 use Rattle.ml_ratio.specs.JsonNumber.{is_between}
-use Rattle.ml_json.specs.Machine.{State, Part, minus, nought, whole, go_on, may_end, step, open_of}
+use Rattle.ml_json.specs.Machine.{Frame, in_list, at_key, State, Part, minus, nought, whole, go_on, may_end, step, open_of}
 
 -- the bytes without the white space at their front
 abbrev pub skip_space : List ℕ → List ℕ
@@ -97,6 +97,16 @@ plain_number (b ∷ bs) = number_from b bs (first_part b)
 abbrev pub cut_view : Option (Bor (List ℕ) × Bor (List ℕ)) → Cut
 cut_view None = None
 cut_view (Some p) = Some (p.0.now, p.1.now)
+
+-- a list or map goes on by the byte behind a value, or ends by it
+abbrev pub IsTaken : Frame → ℕ → Type 0
+IsTaken (in_list ws) b = (b ≡ 44) ⊎ (b ≡ 93)
+IsTaken (at_key ps k) b = (b ≡ 44) ⊎ (b ≡ 125)
+
+-- the innermost list or map does, if one is open
+abbrev pub TakesByte : List Frame → ℕ → Type 0
+TakesByte [] b = ⊥
+TakesByte (frame ∷ frames) b = IsTaken frame b
 
 -- the machine goes over bytes from one state to another, where the rest of them is left, and at no place are more than 64 lists and maps open
 pub data Passes : State → List ℕ → State → List ℕ → Type 0 where

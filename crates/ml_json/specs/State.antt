@@ -91,9 +91,13 @@ Stops stops.Memory o = Unit {0}
 Stops stops.NotJson o = o ≡ None
 Stops stops.Deep o = (x : State) × (o ≡ Some x) × (open_of x.0 x.1 ≡ 65)
 
+-- the machine's step leads to this mode and these frames, and at most 64 lists and maps are open then
+abbrev pub GoesTo : Mode → List Frame → Option State → Type 0
+GoesTo n after o = (o ≡ Some (mode_of n, frames_of after)) × (open_of (mode_of n) (frames_of after) ≤ 64)
+
 -- what a step of the reader says of it
 abbrev pub Steps : Result Mode Stop → List Frame → Option State → Type 0
-Steps (Ok n) after o = (o ≡ Some (mode_of n, frames_of after)) × (open_of (mode_of n) (frames_of after) ≤ 64)
+Steps (Ok n) after o = GoesTo n after o
 Steps (Err e) after o = Stops e o
 
 -- what a step of the reader in place says of it, of the mode behind it

@@ -1,12 +1,13 @@
 //! Whole tokens in one step: white space, plain scalars with the byte that ends them, plain keys with
 //! their colon. Most of a text is made of these. What is no such token is left to the single steps of
 //! [`crate::machine`], and what stands here reads the same as they do.
-ghost use Rattle.std.specs.Prelude.{◌≡◌, ◌≤◌, ◌∷◌, IfOk, IfSome, option_map};
+ghost use Rattle.std.specs.Prelude.{◌≡◌, ◌≤◌, ◌∷◌, ◌↔◌, IfOk, IfSome, IsTrue, length, option_map};
 ghost use Rattle.std.specs.Str.{IsAscii};
 ghost use Rattle.ml_json.specs.Strings.{is_plain as spec_is_plain};
-ghost use Rattle.ml_json.specs.Machine.{value, first, open_of};
-ghost use Rattle.ml_json.specs.State.{part_of, mode_of, frames_of};
-ghost use Rattle.ml_json.specs.Leaps.{skip_space as spec_skip_space, plain_front, behind_plain, plain_string as spec_plain_string, plain_key as spec_plain_key, first_part as spec_first_part, last_part, behind_number as spec_behind_number, plain_number as spec_plain_number, cut_view, Passes};
+ghost use Rattle.ml_json.specs.Machine.{value, first, open_of, after_step};
+ghost use Rattle.ml_json.specs.State.{part_of, mode_of, frame_of, frames_of, GoesTo};
+ghost use Rattle.ml_json.specs.View.{tree_of};
+ghost use Rattle.ml_json.specs.Leaps.{skip_space as spec_skip_space, plain_front, behind_plain, plain_string as spec_plain_string, plain_key as spec_plain_key, first_part as spec_first_part, last_part, behind_number as spec_behind_number, plain_number as spec_plain_number, cut_view, IsTaken, TakesByte, Passes};
 
 use crate::brackets::{after_next, is_space};
 use crate::state::{Frame, Mode, Part, Stop};
@@ -138,26 +139,53 @@ fn text_of(alloc: Global, bytes: &[u8]) -> Result<Text, AllocError>
     }
 }
 
-// Whether the byte behind a value goes on with this list or map, or ends it.
-fn closes(frame: Option<&Frame>, byte: u8) -> bool {
-    match frame {
-        Some(Frame::List(_)) => byte == b',' || byte == b']',
-        Some(Frame::Map(_, _)) => byte == b',' || byte == b'}',
+// Whether the list or map goes on by the byte behind a value, or ends by it.
+fn takes(frame: &Frame, byte: u8) -> bool
+    ensures { IsTrue result ↔ IsTaken (frame_of frame.now) byte }
+{
+    let end = match frame {
+        Frame::List(_) => b']',
+        Frame::Map(_, _) => b'}',
+    };
+    byte == b',' || byte == end
+}
+
+// Whether the innermost list or map takes the byte.
+fn closes(frames: &Vec<Frame>, byte: u8) -> bool
+    ensures { IsTrue result ↔ TakesByte (frames_of frames.now.items) byte }
+{
+    match frames.last() {
+        Some(frame) => takes(frame, byte),
         None => false,
     }
 }
 
 // The byte behind a value, where the innermost list or map takes it, and what follows the byte.
 fn closing<'a>(frames: &Vec<Frame>, end: &'a [u8]) -> Option<(u8, &'a [u8])>
-    ensures { IfSome result (λ cut. end.now ≡ cut.0 ∷ cut.1.now) }
+    ensures cut { IfSome result (λ cut. end.now ≡ cut.0 ∷ cut.1.now) }
+    ensures takes { IfSome result (λ cut. TakesByte (frames_of frames.now.items) cut.0) }
 {
     let [byte, rest @ ..] = end else {
         return None;
     };
-    if closes(frames.last(), *byte) {
+    if closes(frames, *byte) {
         return Some((*byte, rest));
     }
     None
+}
+
+// The mode behind a value and a byte that the innermost list or map takes.
+fn close(alloc: Global, frames: &mut Vec<Frame>, value: Json, byte: u8) -> Result<Mode, AllocError>
+    requires shallow { length frames.old.items ≤ 64 }
+    requires takes { TakesByte (frames_of frames.old.items) byte }
+    ensures { IfOk result (λ mode. GoesTo mode frames.new.items (after_step (tree_of value) (frames_of frames.old.items) byte)) }
+{
+    match after_next(alloc, frames, value, byte) {
+        Ok(mode) => Ok(mode),
+        Err(Stop::Memory) => Err(AllocError),
+        Err(Stop::NotJson) => unreachable!(),
+        Err(Stop::Deep) => unreachable!(),
+    }
 }
 
 // Where a value is awaited: takes a plain string and the byte behind it.
@@ -166,7 +194,7 @@ fn leap_text<'a>(
     frames: &mut Vec<Frame>,
     mode: &mut Mode,
     bytes: &'a [u8],
-) -> Result<&'a [u8], Stop>
+) -> Result<&'a [u8], AllocError>
     requires value { mode_of mode.old ≡ value }
     requires shallow { open_of (mode_of mode.old) (frames_of frames.old.items) ≤ 64 }
     ensures { IfOk result (λ rest. Passes (mode_of mode.old, frames_of frames.old.items) bytes.now (mode_of mode.new, frames_of frames.new.items) rest.now) }
@@ -184,7 +212,7 @@ fn leap_text<'a>(
         return Ok(bytes);
     };
     let value = Json::Str(text_of(alloc, text)?);
-    *mode = after_next(alloc, frames, value, byte)?;
+    *mode = close(alloc, frames, value, byte)?;
     Ok(rest)
 }
 
@@ -194,7 +222,7 @@ fn leap_number<'a>(
     frames: &mut Vec<Frame>,
     mode: &mut Mode,
     bytes: &'a [u8],
-) -> Result<&'a [u8], Stop>
+) -> Result<&'a [u8], AllocError>
     requires value { mode_of mode.old ≡ value }
     requires shallow { open_of (mode_of mode.old) (frames_of frames.old.items) ≤ 64 }
     ensures { IfOk result (λ rest. Passes (mode_of mode.old, frames_of frames.old.items) bytes.now (mode_of mode.new, frames_of frames.new.items) rest.now) }
@@ -206,7 +234,7 @@ fn leap_number<'a>(
         return Ok(bytes);
     };
     let value = Json::Num(text_of(alloc, text)?);
-    *mode = after_next(alloc, frames, value, byte)?;
+    *mode = close(alloc, frames, value, byte)?;
     Ok(rest)
 }
 
@@ -235,7 +263,7 @@ fn leap_value<'a>(
     frames: &mut Vec<Frame>,
     mode: &mut Mode,
     bytes: &'a [u8],
-) -> Result<&'a [u8], Stop>
+) -> Result<&'a [u8], AllocError>
     requires value { mode_of mode.old ≡ value }
     requires shallow { open_of (mode_of mode.old) (frames_of frames.old.items) ≤ 64 }
     ensures { IfOk result (λ rest. Passes (mode_of mode.old, frames_of frames.old.items) bytes.now (mode_of mode.new, frames_of frames.new.items) rest.now) }
@@ -254,7 +282,7 @@ fn leap_key<'a>(
     frames: &mut Vec<Frame>,
     mode: &mut Mode,
     bytes: &'a [u8],
-) -> Result<&'a [u8], Stop>
+) -> Result<&'a [u8], AllocError>
     requires { open_of (mode_of mode.old) (frames_of frames.old.items) ≤ 64 }
     ensures { IfOk result (λ rest. Passes (mode_of mode.old, frames_of frames.old.items) bytes.now (mode_of mode.new, frames_of frames.new.items) rest.now) }
 {
@@ -280,7 +308,7 @@ fn leap_first<'a>(
     frames: &mut Vec<Frame>,
     mode: &mut Mode,
     bytes: &'a [u8],
-) -> Result<&'a [u8], Stop>
+) -> Result<&'a [u8], AllocError>
     requires first { mode_of mode.old ≡ first }
     requires shallow { open_of (mode_of mode.old) (frames_of frames.old.items) ≤ 64 }
     ensures { IfOk result (λ rest. Passes (mode_of mode.old, frames_of frames.old.items) bytes.now (mode_of mode.new, frames_of frames.new.items) rest.now) }
@@ -302,12 +330,15 @@ fn leap_first<'a>(
 }
 
 /// Takes a whole token at the front, and gives what follows it; all bytes where there is none.
+///
+/// # Errors
+/// Out of memory, and nothing else: what is no plain token is left to the single steps.
 pub fn leap<'a>(
     alloc: Global,
     frames: &mut Vec<Frame>,
     mode: &mut Mode,
     bytes: &'a [u8],
-) -> Result<&'a [u8], Stop>
+) -> Result<&'a [u8], AllocError>
     requires { open_of (mode_of mode.old) (frames_of frames.old.items) ≤ 64 }
     ensures { IfOk result (λ rest. Passes (mode_of mode.old, frames_of frames.old.items) bytes.now (mode_of mode.new, frames_of frames.new.items) rest.now) }
 {

@@ -14,7 +14,7 @@ use crate::state::{Frame, Mode, Stop};
 use crate::tokens::may_end;
 use crate::value::{Json, JsonFault};
 use ml_ratio::Text;
-use std::alloc::Global;
+use std::alloc::{AllocError, Global};
 
 // The value, where the bytes may end here.
 fn finish(frames: Vec<Frame>, mode: Mode) -> Option<Json>
@@ -68,7 +68,7 @@ fn scan(alloc: Global, bytes: &[u8]) -> Result<Json, JsonFault>
                     continue;
                 }
             }
-            Err(_) => return Err(JsonFault::Memory),
+            Err(AllocError) => return Err(JsonFault::Memory),
         }
         match advance(alloc, &mut frames, &mut mode, *byte) {
             Ok(()) => rest = next,

@@ -13,6 +13,8 @@ const TEXTS: &str = r#"{"a":1,} => NotJson 7
   => NotJson 1
 1 2 => NotJson 2
 [1]] => NotJson 3
+ 1, => NotJson 2
+ "a", => NotJson 4
 [1,] => NotJson 3
 [,1] => NotJson 1
 [1 2] => NotJson 3

@@ -15,15 +15,18 @@ returns-in_default c = here
 pub returns-in_default-closing : goal.returns-in_default-closing
 returns-in_default-closing c = here
 
-pub after_next-requires : goal.after_next-requires
-after_next-requires c = omega (arith, frames_length c.args.frames.now.items, value_shallow (mode_of c.args.mode.now) (frames_of c.args.frames.now.items) c.requires.value c.requires.shallow)
+pub close-requires : goal.close-requires
+close-requires c = record {
+  shallow = omega (arith, frames_length c.args.frames.now.items, value_shallow (mode_of c.args.mode.now) (frames_of c.args.frames.now.items) c.requires.value c.requires.shallow);
+  takes = c.in-Some-closing.ensures.takes;
+}
 
 pub returns : goal.returns
 returns c =
     let st = frames_of c.args.frames.now.items in
-    let y : m.State = (mode_of c.in_ok-mode.field-0, frames_of c.after_next.new.frames.items) in
+    let y : m.State = (mode_of c.in_ok-mode.field-0, frames_of c.close.new.frames.items) in
     let le : length st ≤ 64 = value_shallow (mode_of c.args.mode.now) st c.requires.value c.requires.shallow in
-    let cut : plain_number c.args.bytes.now ≡ Some (c.in-Some.text.now, c.in-Some-closing.byte ∷ c.in-Some-closing.rest.now) = sym c.in-Some.ensures.cut ∙ ap (λ r. Some (c.in-Some.text.now, r)) c.in-Some-closing.ensures in
+    let cut : plain_number c.args.bytes.now ≡ Some (c.in-Some.text.now, c.in-Some-closing.byte ∷ c.in-Some-closing.rest.now) = sym c.in-Some.ensures.cut ∙ ap (λ r. Some (c.in-Some.text.now, r)) c.in-Some-closing.ensures.cut in
     let text : c.in_ok-text_of.field-0 ≡ c.in-Some.text.now = c.in_ok-text_of.ensures in
     let steps = c.in_ok-mode.ensures in
     let closes = subst (λ (v : Tree). m.after_step v st c.in-Some-closing.byte ≡ Some y) (tree_num c.in_ok-text_of.field-0 ∙ ap num text) steps.0 in
