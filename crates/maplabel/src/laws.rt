@@ -1,6 +1,8 @@
 //! Laws of what a run comes to. Each function takes nothing and does nothing but call the laws below
 //! that it stands on: its contract is the law, for all values.
-ghost use Rattle.std.specs.Prelude.{◌≡◌, List, Some, ℕ};
+ghost use Rattle.std.specs.Prelude.{◌≡◌, List, Option, Some, ℕ};
+ghost use Rattle.ml_command.specs.Loading.{IsFirstState};
+ghost use Rattle.ml_editor.specs.State.{State, IsState};
 ghost use Rattle.ml_io.specs.Files.{FileSet};
 ghost use Rattle.maplabel.specs.Ready.{AreReady, EndsWell, IsCalm};
 ghost use Rattle.maplabel.specs.Run.{Call, IsRun};
@@ -8,7 +10,7 @@ ghost use Rattle.maplabel.specs.declared.status.Status.{Status};
 
 use ml_cert::laws::one_list_of_slots;
 use ml_follow::laws::one_reading;
-use ml_geojson::laws::{map_or_fault, one_map};
+use ml_geojson::laws::{ids_differ, map_or_fault, one_map};
 use ml_pass::laws::one_table;
 use ml_style::laws::style_or_fault;
 
@@ -25,4 +27,12 @@ pub fn completes<S, D, I, O, W>()
     one_table();
     one_list_of_slots();
     one_reading();
+}
+
+/// The first state of a style and a map that were accepted can be reached. So what holds of each state that
+/// can be reached holds of all that a run serves.
+pub fn first_is_reached()
+    ensures { (told : Option FileSet) (style map : List ℕ) (first : State) → IsFirstState told style map first → IsState first }
+{
+    ids_differ();
 }

@@ -7,7 +7,7 @@ use Rattle.ml_ratio.specs.declared.feature.Feature.{Feature}
 use Rattle.ml_geojson.specs.Positions.{Reading}
 use Rattle.ml_geojson.specs.Collection.{Parts}
 use Rattle.ml_geojson.specs.Ids.{is_among, IsIdOf}
-use Rattle.ml_geojson.specs.Map.{ids, HaveDifferentIds, AreMadeOf, AreRead}
+use Rattle.ml_geojson.specs.Map.{ids, HaveDifferentIds, AreMadeOf, AreRead, IsMap}
 use Rattle.ml_geojson.specs.declared.fault.GeoFault.{GeoFault}
 
 module _ (taken : List ℕ → Bool) (k : ℕ) (id : List ℕ) where
@@ -49,3 +49,7 @@ no_parts = record { own = None; shape = None; props = [] }
 pub read_differs : (answer : Result (List Feature) GeoFault) (reading : Reading (List Parts)) → AreRead answer reading → IfOk answer HaveDifferentIds
 read_differs (Ok fs) reading h = made_differ h.0 fs no_parts h.2
 read_differs (Err fault) reading h = tt
+
+-- those of a map file too
+pub map_differs : (bytes : List ℕ) (features : List Feature) → IsMap bytes features → HaveDifferentIds features
+map_differs bytes features map = made_differ map.parts features no_parts map.made

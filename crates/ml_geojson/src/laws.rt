@@ -4,7 +4,7 @@ ghost use Rattle.std.specs.Prelude.{◌≡◌, ◌≢◌, ℕ, List, map as mapp
 ghost use Rattle.ml_json.specs.Canonical.{settled, IsPrintable};
 ghost use Rattle.ml_ratio.specs.declared.feature.Feature.{Feature};
 ghost use Rattle.ml_geojson.specs.Collection.{own_parts, feature, collection};
-ghost use Rattle.ml_geojson.specs.Map.{IsMap, IsMapFault, IsFeature, IsFeatureFault, IsSameFeature, AreSameFeatures};
+ghost use Rattle.ml_geojson.specs.Map.{HaveDifferentIds, IsMap, IsMapFault, IsFeature, IsFeatureFault, IsSameFeature, AreSameFeatures};
 ghost use Rattle.ml_geojson.specs.Text.{feature_tree, collection_tree};
 ghost use Rattle.ml_geojson.specs.declared.fault.GeoFault.{GeoFault};
 
@@ -45,6 +45,11 @@ pub fn one_map()
 {
     laws::one_tree();
 }
+
+/// The features of a map file have ids of their own.
+pub fn ids_differ()
+    ensures { (bytes : List ℕ) (features : List Feature) → IsMap bytes features → HaveDifferentIds features }
+{}
 
 /// Bytes are one feature only.
 pub fn one_feature()

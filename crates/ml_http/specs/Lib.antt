@@ -12,3 +12,4 @@ pub mod TileReply
 pub mod TileWork
 pub mod Level
 pub mod Once
+pub mod Owed

@@ -1,7 +1,8 @@
--- Answers that are one.
+-- Answers, connections and states that are one.
 use Rattle.std.specs.Prelude.{◌≡◌}
 use Rattle.ml_editor.specs.State.{State}
 use Rattle.ml_http.specs.Step.{LinkAnswer}
+use Rattle.ml_http.specs.Link.{LinkState}
 use Rattle.ml_http.specs.declared.connection_end.ConnEnd.{ConnEnd}
 use Rattle.ml_http.specs.declared.connection_end.ConnEnd.TheVariants.{Shut, Starved, Closed, ReadFault, WriteFault}
 
@@ -19,3 +20,8 @@ EndsWell Closed = Unit {0}
 EndsWell Starved = ⊥
 EndsWell ReadFault = ⊥
 EndsWell WriteFault = ⊥
+
+-- two states that connections leave are alike for all that comes: they have one map, and as many steps were spent
+pub record AreLikeStates {W : Type 0} (one other : LinkState W) : Type 0 where
+  pub map_state : one.map_state ≡ other.map_state
+  pub spent : one.spent ≡ other.spent

@@ -1,4 +1,5 @@
 mod Called
 mod CommandLemmas
+mod OneSession
 mod SessionLemmas
 mod VisitLemmas

@@ -1,4 +1,5 @@
 pub mod Headline
+pub mod Once
 pub mod Printed
 pub mod Session
 pub mod Visit

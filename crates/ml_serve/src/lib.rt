@@ -2,11 +2,13 @@
 //!
 //! - [`command`]: listens, serves, and says so ([`serve`]); [`hours`]: at which port, and how long
 //!   ([`Hours`]); [`serve_end`]: how that ends ([`ServeEnd`]);
-//! - [`links`]: connections one after another ([`serve_links`]); `line`: the last line that is printed.
+//! - [`links`]: connections one after another ([`serve_links`]); `line`: the last line that is printed;
+//! - [`laws`]: laws over the definitions alone.
 #![tactic(auto)]
 
 pub mod command;
 pub mod hours;
+pub mod laws;
 mod line;
 pub mod links;
 pub mod serve_end;

@@ -8,7 +8,7 @@ use Rattle.ml_request.specs.declared.request.Event.{Event}
 use Rattle.ml_request.specs.declared.request.Event.TheVariants.{Whole, Refused}
 use Rattle.ml_request.specs.Request.{RequestParts, HeadParts}
 use Rattle.ml_request.specs.Heads.{IsJudged, IsReading, judgement}
-use Rattle.ml_request.specs.Stream.{HasNoMark, BeginsWithHead, IsHeadTooLong, EndsInHead, EndsInBody, HasNoEvent, request_of, BeginsWithRequest, BeginsRefused, BeginsWith, closes, AreEvents}
+use Rattle.ml_request.specs.Stream.{HasNoMark, BeginsWithHead, IsHeadTooLong, EndsInHead, EndsInBody, HasNoEvent, request_of, BeginsWithRequest, BeginsRefused, BeginsWith, closes, AreEvents, AreFirstEvents}
 use Rattle.ml_request.proofs.Marks.{size_fits, size_grows, one_size, no_mark_short}
 
 -- bytes are at most one head
@@ -146,4 +146,24 @@ events_of_prefix left front more (e ∷ few) (f ∷ all) p q =
     (go_on (left - 1) (closes e) p.0 more q.0 few all
     (one_rest (left == 1) (front ++ more) e (p.0 ++ more) q.0 grown other)
     (events_of_prefix (left - 1) p.0 more few all)
+    p.2 behind)
+
+-- the events behind one event that is the first of a stream
+first_go_on : (left : ℕ) (b : Bool) (rest other : List ℕ) (few all : List Event) → (b ≡ false → rest ≡ other) → (AreFirstEvents left rest few → AreEvents left rest all → Continues few all)
+    → MatchBool b (few ≡ []) (AreFirstEvents left rest few) → MatchBool b (all ≡ []) (AreEvents left other all) → Continues few all
+first_go_on left true rest other few all same later p q = (all, ap (λ xs. xs ++ all) (sym p))
+first_go_on left false rest other few all same later p q = later p (subst (λ bytes. AreEvents left bytes all) (sym (same refl)) q)
+
+-- all events of a stream continue its first ones
+pub events_of_first : (left : ℕ) (bytes : List ℕ) (few all : List Event) → AreFirstEvents left bytes few → AreEvents left bytes all → (others : List Event) × (all ≡ few ++ others)
+events_of_first left bytes [] all p q = (all, refl)
+events_of_first left bytes (e ∷ few) [] p q = absurd (no_event_clash (left == 1) bytes e p.0 p.1 q)
+events_of_first left bytes (e ∷ few) (f ∷ all) p q =
+    let same : e ≡ f = one_event (left == 1) bytes e f p.0 q.0 p.1 q.1 in
+    let other : BeginsWith (left == 1) bytes e q.0 = subst (λ x. BeginsWith (left == 1) bytes x q.0) (sym same) q.1 in
+    let behind : MatchBool (closes e) (all ≡ []) (AreEvents (left - 1) q.0 all) = subst (λ x. MatchBool (closes x) (all ≡ []) (AreEvents (left - 1) q.0 all)) (sym same) q.2 in
+    cons_continues e f few all same
+    (first_go_on (left - 1) (closes e) p.0 q.0 few all
+    (one_rest (left == 1) bytes e p.0 q.0 p.1 other)
+    (events_of_first (left - 1) p.0 few all)
     p.2 behind)
