@@ -13,14 +13,7 @@ use Rattle.ml_cone.specs.declared.label.Label.{Label}
 use Rattle.ml_cone.specs.declared.slot.Slot.{Slot}
 use Rattle.ml_conflict.specs.Begin.{SetsNoneUpTo}
 use Rattle.ml_cert.specs.Judged.{IsDue, IsClash}
-
--- what is known of ends, limits and blockers
-pub record Known : Type 0 where
-  pub smaller : (low high : Label) (u v e f : Fraction) → IsAtMost v u → IsAtMost e f → Allows low high u f → Allows low high v e
-  pub same : (low high : Label) (u v f g : Fraction) → IsSame u v → IsSame f g → IsLimit low high u f → IsLimit low high v g
-  pub allowed : (low high : Label) (u bound : Fraction) → IsAtMost bound (value_of low.max) → SetsNoneUpTo low high u bound → Allows low high u bound
-  pub limits : (labels : List Label) (choice : Choice) (j i : ℕ) (d : Label) → IsEnd (get_or labels i d) (choice i) → Allows (get_or labels i d) (get_or labels j d) (choice j) (choice i) → Blocks labels choice j i → IsLimit (get_or labels i d) (get_or labels j d) (choice j) (choice i)
-  pub blocks : (labels : List Label) (choice : Choice) (j i : ℕ) → j < i → ((d : Label) → IsLess (choice i) (value_of (get_or labels i d).max)) → ((d : Label) → IsLimit (get_or labels i d) (get_or labels j d) (choice j) (choice i)) → Blocks labels choice j i
+use Rattle.ml_cert.specs.Known.{Known}
 
 pub is_none_of : (o : Option ℕ) → is_some o ≡ false → o ≡ None
 is_none_of None e = refl

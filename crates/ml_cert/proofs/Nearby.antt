@@ -10,9 +10,10 @@ use Rattle.ml_cone.specs.declared.label.Label.{Label}
 use Rattle.ml_cone.specs.declared.slot.Slot.{Slot}
 use Rattle.ml_conflict.specs.Begin.{SetsNoneUpTo}
 use Rattle.ml_cert.specs.Judged.{IsDue}
+use Rattle.ml_cert.specs.Known.{Known}
 use Rattle.ml_cert.specs.Near.{IsDueAmong, IsDueWith, IsSooner}
 use Rattle.ml_cert.specs.declared.near.Asked.{Asked}
-use Rattle.ml_cert.proofs.Dues.{Known, ArePair, aside_of, blocker_of}
+use Rattle.ml_cert.proofs.Dues.{ArePair, aside_of, blocker_of}
 
 -- ---- the label that is asked, and one before it
 

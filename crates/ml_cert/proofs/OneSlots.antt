@@ -8,25 +8,24 @@ use Rattle.ml_ratio.specs.Lines.{entries, entry}
 use Rattle.ml_ratio.specs.Ratio.{ReadsRatio}
 use Rattle.ml_ratio.proofs.lemmas.Lists.{pick}
 use Rattle.ml_ratio.proofs.lemmas.Numerals.{ratio_same}
-use Rattle.ml_cone.specs.Label.{IsLabelList}
 use Rattle.ml_cone.specs.Places.{IsPlaceOf, IsNoId}
 use Rattle.ml_cone.specs.Slots.{no_slot}
 use Rattle.ml_cone.specs.declared.label.Label.{Label}
 use Rattle.ml_cone.specs.declared.slot.Slot.{Slot}
 use Rattle.ml_cert.specs.SlotLine.{WritesBlocker, IsSlotLine}
-use Rattle.ml_cert.specs.SlotsText.{AreSlotLines, AreGoodBefore, IsFaultyLine, IsSlotsFault, GivesSlots}
+use Rattle.ml_cert.specs.SlotsText.{HaveOwnIds, AreSlotLines, AreGoodBefore, IsFaultyLine, IsSlotsFault, GivesSlots}
 use Rattle.ml_cert.specs.declared.fault.SlotsFault.{SlotsFault}
 use Rattle.ml_cert.specs.declared.fault.SlotsFault.TheVariants.{BadLine, Memory}
 use Rattle.ml_cert.proofs.OneVerdict.{equal_ratio}
 
-module _ (labels : List Label) (ordered : IsLabelList labels) (named : IsNoId labels (codes "-")) where
+module _ (labels : List Label) (differ : HaveOwnIds labels) (named : IsNoId labels (codes "-")) where
   one_place : (id : List ℕ) (i j : ℕ) → IsPlaceOf labels id i → IsPlaceOf labels id j → i ≡ j
   one_place id i j p q =
       let d = pick labels i p.0 in
       elim (cases_order i j) [
         | inl same ↦ same
-        | inr (inl less) ↦ absurd ((ordered i j d less q.0).1 (p.1 d ∙ sym (q.1 d)))
-        | inr (inr more) ↦ absurd ((ordered j i d more p.0).1 (q.1 d ∙ sym (p.1 d)))
+        | inr (inl less) ↦ absurd (differ i j d less q.0 (p.1 d ∙ sym (q.1 d)))
+        | inr (inr more) ↦ absurd (differ j i d more p.0 (q.1 d ∙ sym (p.1 d)))
       ]
 
   blocker_same : (word : List ℕ) (a b : Option ℕ) → WritesBlocker labels word a → WritesBlocker labels word b → a ≡ b
@@ -78,10 +77,10 @@ module _ (labels : List Label) (bytes : List ℕ) where
 
   -- ---- what an answer says is all that there is to say
 
-  pub reads_from : (r : Result (List Slot) SlotsFault) → IfOk r (λ slots. AreSlotLines labels bytes slots) → IfErr r (λ fault. IsSlotsFault labels bytes fault) → IsLabelList labels → IsNoId labels (codes "-") → (slots : List Slot) → AreSlotLines labels bytes slots → GivesSlots r slots
-  reads_from (Ok others) ok err ordered named slots are = inl (ap Ok (one_slots labels ordered named bytes others slots ok are))
-  reads_from (Err (BadLine k)) ok err ordered named slots are = absurd (faultless slots k are err)
-  reads_from (Err Memory) ok err ordered named slots are = inr refl
+  pub reads_from : (r : Result (List Slot) SlotsFault) → IfOk r (λ slots. AreSlotLines labels bytes slots) → IfErr r (λ fault. IsSlotsFault labels bytes fault) → HaveOwnIds labels → IsNoId labels (codes "-") → (slots : List Slot) → AreSlotLines labels bytes slots → GivesSlots r slots
+  reads_from (Ok others) ok err differ named slots are = inl (ap Ok (one_slots labels differ named bytes others slots ok are))
+  reads_from (Err (BadLine k)) ok err differ named slots are = absurd (faultless slots k are err)
+  reads_from (Err Memory) ok err differ named slots are = inr refl
 
   pub refused_from : (r : Result (List Slot) SlotsFault) → IfOk r (λ slots. AreSlotLines labels bytes slots) → IfErr r (λ fault. IsSlotsFault labels bytes fault) → (k : ℕ) → RefusesExactly r (BadLine k) Memory (IsSlotsFault labels bytes (BadLine k))
   refused_from (Ok slots) ok err k = (λ e. absurd (cc e), λ is. absurd (faultless slots k ok is))

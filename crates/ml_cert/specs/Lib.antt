@@ -2,3 +2,4 @@ pub mod Judged
 pub mod SlotLine
 pub mod SlotsText
 pub mod Near
+pub mod Known

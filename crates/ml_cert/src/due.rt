@@ -5,9 +5,9 @@ ghost use Rattle.ml_cone.specs.Sound.{HasGoodEnd};
 ghost use Rattle.ml_conflict.specs.Field.{IsFieldOf};
 ghost use Rattle.ml_cert.specs.Judged.{IsDue, IsClash};
 
+use crate::known::known_limits;
 use crate::near::{Asked, Field};
 use ml_cone::{Label, Site, Slot};
-use ml_conflict::laws::{allowed_up_to, blocking, same_limits, smaller_ends};
 use ml_conflict::limit_up_to;
 use ml_ratio::Ratio;
 
@@ -67,10 +67,7 @@ fn due_in_order(labels: &[Label], slots: &[Slot], i: usize) -> Result<Option<usi
         (λ due. IsDue labels.now (ends slots.now) i i due)
         (λ clash. IsClash labels.now (ends slots.now) i clash.0 clash.1) }
 {
-    allowed_up_to();
-    blocking();
-    smaller_ends();
-    same_limits();
+    known_limits();
     let low = &labels[i];
     let until = slots[i].until;
     let mut due = None;

@@ -1,6 +1,7 @@
 //! The judge: it looks at each label's own end and at the limits that the labels before it set.
-ghost use Rattle.std.specs.Prelude.{◌≡◌, ◌≢◌, ◌<◌, ◌↔◌, length, IfSome, MatchBool, MatchOption};
+ghost use Rattle.std.specs.Prelude.{◌≡◌, ◌≢◌, ◌<◌, ◌≤◌, ◌↔◌, length, IfSome, MatchBool, MatchOption};
 ghost use Rattle.ml_ratio.specs.Fraction.{value_of};
+ghost use Rattle.ml_ratio.specs.Limits.{most_labels};
 ghost use Rattle.ml_cone.specs.Choice.{IsEnd};
 ghost use Rattle.ml_cone.specs.Slots.{AreSlots};
 ghost use Rattle.ml_cone.specs.Sound.{IsSound};
@@ -15,6 +16,9 @@ use ml_conflict::laws::sound_slots;
 use ml_conflict::{arrange_spots, spot_of};
 use ml_ratio::{MOST_LABELS, Ratio};
 
+// Lists up to this length are judged pair by pair.
+const SHORT: usize = 16;
+
 /// The verdict on the slots of labels in priority order: what the first label with a wrong slot has
 /// wrong, the first of the four that applies. It takes no memory.
 pub fn check(labels: &[Label], slots: &[Slot]) -> Verdict
@@ -24,11 +28,24 @@ pub fn check(labels: &[Label], slots: &[Slot]) -> Verdict
     ensures best { (result ≡ Verdict.Best) ↔ AreSlots (λ j. j) labels.now slots.now }
 {
     let count = labels.len();
-    if count == 0 || count > MOST_LABELS {
+    if count <= SHORT || count > MOST_LABELS {
         return judge(labels, slots, None);
     }
+    judge_many(labels, slots)
+}
+
+// The same of more labels. Room for the spots of as many as there can be is taken here alone, since it costs more
+// than to judge a short list without them.
+fn judge_many(labels: &[Label], slots: &[Slot]) -> Verdict
+    requires lengths { length slots.now ≡ length labels.now }
+    requires some { 0 < length labels.now }
+    requires few { length labels.now ≤ most_labels }
+    ensures verdict { IsVerdict labels.now slots.now result }
+    ensures one { (verdict : Verdict) → IsVerdict labels.now slots.now verdict → result ≡ verdict }
+    ensures best { (result ≡ Verdict.Best) ↔ AreSlots (λ j. j) labels.now slots.now }
+{
     let mut room = [spot_of(labels, 0); MOST_LABELS];
-    let spots = &mut room[..count];
+    let spots = &mut room[..labels.len()];
     let reach = arrange_spots(labels, spots);
     judge(labels, slots, Some(Field { spots, reach }))
 }

@@ -9,11 +9,10 @@ ghost use Rattle.ml_cone.specs.Slots.{no_slot};
 ghost use Rattle.ml_cone.specs.SiteOf.{IsSiteOf};
 ghost use Rattle.ml_cone.specs.declared.label.Label.{Label as ALabel};
 
+use crate::known::known_limits;
 use crate::stance::{Stance, sooner};
 use ml_cone::{Label, Site, Slot};
-use ml_conflict::laws::{
-    allowed_up_to, blocking, clear_labels, ended_labels, same_limits, smaller_ends,
-};
+use ml_conflict::laws::{clear_labels, ended_labels};
 use ml_conflict::{Spot, is_beyond, limit_up_to};
 use ml_ratio::Ratio;
 
@@ -64,10 +63,7 @@ impl Asked<'_> {
         requires start { start ≤ length field.now.spots.now }
         ensures { IfSome result (λ due. IsDueAmong self.now.labels.now (ends self.now.slots.now) self.now.place (SeesSpot field.now.spots.now 0 start) due) }
     {
-        allowed_up_to();
-        blocking();
-        smaller_ends();
-        same_limits();
+        known_limits();
         let spots = field.spots;
         let pixels = 2 * field.reach as u64;
         let mut due = None;
@@ -91,10 +87,7 @@ impl Asked<'_> {
         requires before { IsDueAmong self.now.labels.now (ends self.now.slots.now) self.now.place (SeesSpot field.now.spots.now 0 start) before }
         ensures { IfSome result (λ due. IsDueAmong self.now.labels.now (ends self.now.slots.now) self.now.place (λ j. j < self.now.place) due) }
     {
-        allowed_up_to();
-        blocking();
-        smaller_ends();
-        same_limits();
+        known_limits();
         let spots = field.spots;
         let pixels = 2 * field.reach as u64;
         let mut due = before;
@@ -126,10 +119,7 @@ impl Asked<'_> {
         requires { IsSpotOf self.now.labels.now spot.now }
         ensures { IsStance self.now.labels.now (ends self.now.slots.now) self.now.place spot.now.place result }
     {
-        allowed_up_to();
-        blocking();
-        smaller_ends();
-        same_limits();
+        known_limits();
         clear_labels();
         ended_labels();
         let place = spot.place as usize;

@@ -1,5 +1,5 @@
 -- Labels whose anchors are further apart than they reach set each other no limit.
-use Rattle.std.proofs.Common.{◌≡◌, ℕ, ◌+◌, ◌*◌, ◌<◌, ◌≤◌, get_or, arith, ap, subst, ℤ, pos, neg_ℤ, ◌+ℤ◌, ◌-ℤ◌, ◌*ℤ◌, ◌≤ℤ◌, unsigned_abs}
+use Rattle.std.proofs.Common.{◌≡◌, ℕ, ◌+◌, ◌*◌, ◌<◌, ◌≤◌, get_or, arith, ap, subst, sym, ℤ, pos, neg_ℤ, ◌+ℤ◌, ◌-ℤ◌, ◌*ℤ◌, ◌≤ℤ◌, unsigned_abs}
 use Rattle.std.proofs.lemmas.Int.{ints, by_lt_z}
 use Rattle.std.proofs.lemmas.Nat.{mul-le}
 use Rattle.ml_ratio.specs.Fraction.{Fraction, value_of, IsLess}
@@ -33,50 +33,58 @@ no_room g w m e n d some less upto far =
     omega arith
 
 -- an edge at x lies below one at y, which is g further back, only where g is less than the two reach toward each other
-edge_near : (x u y v : ℤ) (r g : ℕ) (s : Fraction) → neg_ℤ (pos r) ≤ℤ u → v ≤ℤ pos r → x ≡ (y +ℤ pos g) → IsBelow x u y v s → g * s.den < (2 * r) * s.num
+edge_near : (x u y v : ℤ) (r q g : ℕ) (s : Fraction) → neg_ℤ (pos r) ≤ℤ u → v ≤ℤ pos q → x ≡ (y +ℤ pos g) → IsBelow x u y v s → g * s.den < (r + q) * s.num
 unfolding IsBelow
-edge_near x u y v r g s low high far below =
+edge_near x u y v r q g s low high far below =
     let sum = sum_scaled y (pos g) s.den in
     let at : (x *ℤ pos s.den) ≡ ((y +ℤ pos g) *ℤ pos s.den) = ap (λ (z : ℤ). z *ℤ pos s.den) far in
     let up : pos 0 ≤ℤ (u +ℤ pos r) = omega (arith, ints) in
     let least = scaled_le (pos 0) (u +ℤ pos r) s.num up in
     let parts = sum_scaled u (pos r) s.num in
-    let most = scaled_le v (pos r) s.num high in
+    let most = scaled_le v (pos q) s.num high in
     let meet = below in
     omega (arith, ints)
 
 -- sides that meet are less far apart than they reach toward each other
-sides_near : (x l p y k t : ℤ) (r : ℕ) (s : Fraction) → neg_ℤ (pos r) ≤ℤ l → p ≤ℤ pos r → neg_ℤ (pos r) ≤ℤ k → t ≤ℤ pos r → SidesMeet x l p y k t s → unsigned_abs (x -ℤ y) * s.den < (2 * r) * s.num
-sides_near x l p y k t r s a b c d meet =
+sides_near : (x l p y k t : ℤ) (r q : ℕ) (s : Fraction) → neg_ℤ (pos r) ≤ℤ l → p ≤ℤ pos r → neg_ℤ (pos q) ≤ℤ k → t ≤ℤ pos q → SidesMeet x l p y k t s → unsigned_abs (x -ℤ y) * s.den < (r + q) * s.num
+sides_near x l p y k t r q s a b c d meet =
     let g : ℕ = unsigned_abs (x -ℤ y) in
     by_lt_z x y
-    (λ less. edge_near y k x p r g s c b (omega (arith, ints)) meet.1)
-    (λ most. edge_near x l y t r g s a d (omega (arith, ints)) meet.0)
+    (λ less. let near = edge_near y k x p q r g s c b (omega (arith, ints)) meet.1 in omega arith)
+    (λ most. edge_near x l y t r q g s a d (omega (arith, ints)) meet.0)
 
 -- so are labels that overlap, on either axis
-labels_near : (axis : Axis) (a b : Label) (r : ℕ) → Reaches axis a r → Reaches axis b r → (s : Fraction) → Overlap a b s → unsigned_abs (anchor_on axis a -ℤ anchor_on axis b) * s.den < (2 * r) * s.num
+labels_near : (axis : Axis) (a b : Label) (r q : ℕ) → Reaches axis a r → Reaches axis b q → (s : Fraction) → Overlap a b s → unsigned_abs (anchor_on axis a -ℤ anchor_on axis b) * s.den < (r + q) * s.num
 unfolding Overlap BoxesOverlap
-labels_near Across a b r reach_a reach_b s (k, p, lt, e, (m, q, lt', e', boxes)) =
+labels_near Across a b r q reach_a reach_b s (k, p, lt, e, (m, o, lt', e', boxes)) =
     let one : IsWithin Across r (widened a p) = subst (λ (o : BoxPx). IsWithin Across r (widened a o)) e (reach_a k p lt) in
-    let other : IsWithin Across r (widened b q) = subst (λ (o : BoxPx). IsWithin Across r (widened b o)) e' (reach_b m q lt') in
-    sides_near a.x (widened a p).l (widened a p).r b.x (widened b q).l (widened b q).r r s one.0 one.1 other.0 other.1 boxes.0
-labels_near Along a b r reach_a reach_b s (k, p, lt, e, (m, q, lt', e', boxes)) =
+    let other : IsWithin Across q (widened b o) = subst (λ (o : BoxPx). IsWithin Across q (widened b o)) e' (reach_b m o lt') in
+    sides_near a.x (widened a p).l (widened a p).r b.x (widened b o).l (widened b o).r r q s one.0 one.1 other.0 other.1 boxes.0
+labels_near Along a b r q reach_a reach_b s (k, p, lt, e, (m, o, lt', e', boxes)) =
     let one : IsWithin Along r (widened a p) = subst (λ (o : BoxPx). IsWithin Along r (widened a o)) e (reach_a k p lt) in
-    let other : IsWithin Along r (widened b q) = subst (λ (o : BoxPx). IsWithin Along r (widened b o)) e' (reach_b m q lt') in
-    sides_near a.y (widened a p).b (widened a p).t b.y (widened b q).b (widened b q).t r s one.0 one.1 other.0 other.1 boxes.1
+    let other : IsWithin Along q (widened b o) = subst (λ (o : BoxPx). IsWithin Along q (widened b o)) e' (reach_b m o lt') in
+    sides_near a.y (widened a p).b (widened a p).t b.y (widened b o).b (widened b o).t r q s one.0 one.1 other.0 other.1 boxes.1
 
-far_clear : (a b : Label) (r : ℕ) → Reaches Across a r → Reaches Across b r → (bound : Ratio) → IsFar a.x b.x (2 * r) bound → AreClear a b bound.num bound.den
-far_clear a b r reach_a reach_b bound far = (
+far_clear : (axis : Axis) (a b : Label) (r q : ℕ) → Reaches axis a r → Reaches axis b q → (bound : Ratio) → IsFar (anchor_on axis a) (anchor_on axis b) (r + q) bound → AreClear a b bound.num bound.den
+far_clear axis a b r q reach_a reach_b bound far = (
   record { num = bound.num + 1; den = bound.den; positive = bound.positive },
   omega arith,
-  λ s upto over. no_room (unsigned_abs (a.x -ℤ b.x)) (2 * r) (bound.num + 1) bound.den s.num s.den bound.positive (labels_near Across a b r reach_a reach_b s over) upto far,
+  λ s upto over. no_room (unsigned_abs (anchor_on axis a -ℤ anchor_on axis b)) (r + q) (bound.num + 1) bound.den s.num s.den bound.positive (labels_near axis a b r q reach_a reach_b s over) upto far,
 )
 
+-- labels that are too far apart on an axis set each other no limit up to the bound
+pub far_on : (axis : Axis) (a b : Label) (r q : ℕ) → Reaches axis a r → Reaches axis b q → (u : Fraction) (bound : Ratio) → IsFar (anchor_on axis a) (anchor_on axis b) (r + q) bound → SetsNoneUpTo a b u (value_of bound)
+far_on axis a b r q reach_a reach_b u bound far = none_of_clear a b u (value_of bound) (far_clear axis a b r q reach_a reach_b bound far)
+
 pub far_labels : (a b : Label) (r : ℕ) → Reaches Across a r → Reaches Across b r → (u : Fraction) (bound : Ratio) → IsFar a.x b.x (2 * r) bound → SetsNoneUpTo a b u (value_of bound)
-far_labels a b r reach_a reach_b u bound far = none_of_clear a b u (value_of bound) (far_clear a b r reach_a reach_b bound far)
+far_labels a b r reach_a reach_b u bound far =
+    let twice : 2 * r ≡ r + r = omega arith in
+    far_on Across a b r r reach_a reach_b u bound (subst (λ (p : ℕ). IsFar a.x b.x p bound) twice far)
 
 pub distant_labels : (a b : Label) (r far : ℕ) (end : Fraction) → Reaches Along a r → Reaches Along b r → 2 * r * end.num ≤ far * end.den → far ≤ unsigned_abs (a.y -ℤ b.y) → (s : Fraction) → IsLess s end → ¬ (Overlap a b s)
 distant_labels a b r far end reach_a reach_b wide apart s less over =
     let g : ℕ = unsigned_abs (a.y -ℤ b.y) in
+    let twice : 2 * r ≡ r + r = omega arith in
     let more = mul-le far end.den g end.den apart (omega arith) in
-    no_room g (2 * r) end.num end.den s.num s.den end.positive (labels_near Along a b r reach_a reach_b s over) (omega arith) (omega arith)
+    let near = labels_near Along a b r r reach_a reach_b s over in
+    no_room g (2 * r) end.num end.den s.num s.den end.positive (subst (λ (p : ℕ). g * s.den < p * s.num) (sym twice) near) (omega arith) (omega arith)

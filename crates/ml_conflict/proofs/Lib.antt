@@ -14,4 +14,5 @@ mod OneChoice
 mod FewRivals
 mod Distances
 mod Spots
+mod Putting
 pub mod lemmas

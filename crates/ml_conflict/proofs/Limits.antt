@@ -186,6 +186,12 @@ unfolding Allows
 none_of_ended low high u bound clear =
     none_of_allowed low high u bound (λ s scale a b over. clear.2 s (let ends : IsLess s u = b.1 in let above : IsLess u clear.0 = clear.1 in let past : IsLess s clear.0 = less_trans s u clear.0 ends above in omega (arith, past)) over)
 
+-- a label that ends where it begins sets no limit
+pub none_of_idle : (low high : Label) (u bound : Fraction) → IsAtMost u (value_of high.min) → SetsNoneUpTo low high u bound
+unfolding Allows
+none_of_idle low high u bound idle =
+    none_of_allowed low high u bound (λ s scale a b over. let begun : IsAtMost (value_of high.min) s = b.0 in let ends : IsLess s u = b.1 in let past = less_at_most s u (value_of high.min) ends idle in absurd (omega arith))
+
 -- a bound up to which no limit is set is allowed
 pub allowed_up_to : (low high : Label) (u bound : Fraction) → IsAtMost bound (value_of low.max) → SetsNoneUpTo low high u bound → Allows low high u bound
 allowed_up_to low high u bound most none =

@@ -7,10 +7,11 @@ use Rattle.ml_conflict.specs.Reach.{Reaches, IsFar}
 use Rattle.ml_conflict.specs.declared.axis.Axis.TheVariants.{Across}
 use Rattle.ml_conflict.specs.declared.spot.Spot.{Spot}
 
--- the label at a place, with its anchor's x and its site
+-- the label at a place, with its anchor and its site
 pub record IsSpotOf (labels : List Label) (spot : Spot) : Type 0 where
   pub there : spot.place < length labels
   pub x : (d : Label) → spot.x ≡ (slice_index_or labels spot.place d).x
+  pub y : (d : Label) → spot.y ≡ (slice_index_or labels spot.place d).y
   pub site : (d : Label) → IsSiteOf spot.site (slice_index_or labels spot.place d)
 
 -- one of the spots is that of the label at j

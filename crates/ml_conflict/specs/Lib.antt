@@ -5,3 +5,5 @@ pub mod Carried
 pub mod Enough
 pub mod Reach
 pub mod Field
+pub mod Area
+pub mod Strip

@@ -2,6 +2,7 @@
 ghost use Rattle.std.specs.Prelude.{ℕ, ◌≤◌, All, IsTrue};
 ghost use Rattle.ml_ratio.specs.World.{IsInWorld};
 ghost use Rattle.ml_cone.specs.Plane.{IsWideBox};
+ghost use Rattle.ml_conflict.specs.Field.{IsBeyond};
 ghost use Rattle.ml_conflict.specs.Reach.{IsWithin, Reaches, IsFar};
 
 use crate::axis::Axis;
@@ -21,8 +22,8 @@ pub fn greatest_reach(axis: Axis, labels: &[Label]) -> u32
     reach
 }
 
-// How many pixels the label reaches from its anchor on the axis.
-fn reach_of(axis: Axis, label: &Label) -> u32
+/// How many pixels the label reaches from its anchor on the axis, up to 576.
+pub fn reach_of(axis: Axis, label: &Label) -> u32
     ensures reaches { Reaches axis label.now result }
     ensures low { result ≤ 576 }
 {
@@ -45,8 +46,8 @@ fn side_of(axis: Axis, p: &BoxPx) -> u32
     }
 }
 
-// The greater of the two.
-fn larger(a: u32, b: u32) -> u32
+/// The greater of the two.
+pub fn larger(a: u32, b: u32) -> u32
     ensures first { a ≤ result }
     ensures second { b ≤ result }
     ensures low { (m : ℕ) → a ≤ m → b ≤ m → result ≤ m }
@@ -63,4 +64,15 @@ pub fn is_far(a: i64, b: i64, pixels: u64, bound: &Ratio) -> bool
     ensures { IsTrue result → IsFar a b pixels bound.now }
 {
     pixels * (bound.num() + 1) <= (a - b).unsigned_abs() * bound.den()
+}
+
+/// Whether the coordinate `ahead` lies beyond the other, too far away for labels that reach so many pixels
+/// toward each other together to set a limit up to the bound.
+pub fn is_beyond(ahead: i64, behind: i64, pixels: u64, bound: &Ratio) -> bool
+    requires ahead_in_world { IsInWorld ahead }
+    requires behind_in_world { IsInWorld behind }
+    requires few { pixels ≤ 1152 }
+    ensures { IsTrue result → IsBeyond ahead behind pixels bound.now }
+{
+    behind <= ahead && is_far(ahead, behind, pixels, bound)
 }

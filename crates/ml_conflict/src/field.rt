@@ -1,14 +1,12 @@
 //! Labels in order from west to east, to find those that may bound one.
-ghost use Rattle.std.specs.Prelude.{◌≡◌, ◌≤◌, ◌<◌, length, IsTrue};
+ghost use Rattle.std.specs.Prelude.{◌≡◌, ◌≤◌, ◌<◌, length};
 ghost use Rattle.ml_ratio.specs.Limits.{most_labels};
-ghost use Rattle.ml_ratio.specs.World.{IsInWorld};
-ghost use Rattle.ml_conflict.specs.Field.{IsSpotOf, IsFieldOf, IsBeyond};
+ghost use Rattle.ml_conflict.specs.Field.{IsSpotOf, IsFieldOf};
 
 use crate::axis::Axis;
-use crate::far::{greatest_reach, is_far};
+use crate::far::greatest_reach;
 use crate::spot::Spot;
 use ml_cone::{Label, Site};
-use ml_ratio::Ratio;
 
 /// Writes the spots of all labels from west to east, one for each, into the room that the caller lends. How
 /// many pixels a label reaches to the west or to the east at most is the answer, up to 576.
@@ -33,19 +31,9 @@ pub fn spot_of(labels: &[Label], i: usize) -> Spot
 {
     let label = &labels[i];
     Spot {
-        x: label.x(),
         place: i as u32,
+        x: label.x(),
+        y: label.y(),
         site: Site::of(label),
     }
-}
-
-/// Whether the coordinate `ahead` lies beyond the other, too far away for labels that reach so many pixels
-/// toward each other together to set a limit up to the bound.
-pub fn is_beyond(ahead: i64, behind: i64, pixels: u64, bound: &Ratio) -> bool
-    requires ahead_in_world { IsInWorld ahead }
-    requires behind_in_world { IsInWorld behind }
-    requires few { pixels ≤ 1152 }
-    ensures { IsTrue result → IsBeyond ahead behind pixels bound.now }
-{
-    behind <= ahead && is_far(ahead, behind, pixels, bound)
 }

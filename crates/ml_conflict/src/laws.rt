@@ -99,6 +99,11 @@ pub fn ended_labels()
     ensures { (low high : Label) (u bound : Fraction) → AreClear low high u.num u.den → SetsNoneUpTo low high u bound }
 {}
 
+/// A label whose active range is empty sets another one no limit.
+pub fn idle_labels()
+    ensures { (low high : Label) (u bound : Fraction) → IsAtMost u (value_of high.min) → SetsNoneUpTo low high u bound }
+{}
+
 /// Labels overlap at no scale below an end where their anchors are further apart, from south to north, than they
 /// reach toward each other up to it.
 pub fn distant_labels()

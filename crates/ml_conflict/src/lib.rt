@@ -11,9 +11,11 @@
 //! - [`laws`]: what makes a choice of active ranges the longest.
 #![tactic(auto)]
 
+mod area;
 mod axis;
 mod begin;
 mod block;
+mod corner;
 mod far;
 mod field;
 pub mod laws;
@@ -21,11 +23,14 @@ mod quotient;
 pub mod rivals;
 mod scales;
 mod spot;
+mod strip;
 
+pub use area::Area;
 pub use axis::Axis;
 pub use block::{are_rivals, first_block, limit_up_to};
-pub use far::greatest_reach;
-pub use field::{arrange_spots, is_beyond, spot_of};
+pub use far::{greatest_reach, is_beyond};
+pub use field::{arrange_spots, spot_of};
 pub use rivals::{RivalList, evaluate};
 pub use scales::interval;
 pub use spot::Spot;
+pub use strip::{Field, Strip, south_of};

@@ -3,11 +3,13 @@ ghost use Rattle.ml_ratio.specs.World.{IsInWorld};
 
 use ml_cone::Site;
 
-/// The place of a label in the list, its anchor's x, and its site.
+/// The place of a label in the list, its anchor, and its site.
 #[derive(Clone, Copy)]
 pub struct Spot {
     pub place: u32,
     pub x: i64,
+    pub y: i64,
     pub site: Site,
-    ghost world: { IsInWorld x },
+    ghost world_x: { IsInWorld x },
+    ghost world_y: { IsInWorld y },
 }

@@ -1,12 +1,15 @@
 -- The steps of the pass: each label in turn gets its own slot among the labels before it.
-use Rattle.std.proofs.Common.{◌≡◌, ℕ, ◌+◌, ◌<◌, List, [], ◌∷◌, ◌++◌, length, get_or, arith, ap, ◌∙◌, sym, inl, inr, length-append}
+use Rattle.std.proofs.Common.{◌≡◌, ℕ, ◌+◌, ◌<◌, List, [], ◌∷◌, ◌++◌, length, get_or, arith, ap, ◌∙◌, sym, subst, inl, inr, ◌⊎◌, length-append}
 use Rattle.std.proofs.lemmas.Bool.{cases_lt}
 use Rattle.std.proofs.lemmas.List.{get_or_default, get_or_push}
 use Rattle.std.proofs.Math.ListN.{get_or-append}
+use Rattle.ml_ratio.specs.Fraction.{value_of, IsAtMost}
 use Rattle.ml_cone.specs.Slots.{Rival, IsOwnSlot, HaveOwnSlots, row, no_slot}
 use Rattle.ml_cone.specs.declared.label.Label.{Label}
 use Rattle.ml_cone.specs.declared.slot.Slot.{Slot}
-use Rattle.ml_pass.specs.Search.{rivals_in}
+use Rattle.ml_conflict.specs.Strip.{HasPlace}
+use Rattle.ml_conflict.specs.declared.strip.Strip.{Strip}
+use Rattle.ml_pass.specs.Search.{rivals_in, IsIdle, AreHeld}
 
 -- the first i labels have their own slots
 pub record Assigned (labels : List Label) (i : ℕ) (slots : List Slot) : Type 0 where
@@ -45,3 +48,26 @@ assigned_more like labels i slots s b in' at so_far own =
 pub assigned_all : (labels : List Label) (i : ℕ) (slots : List Slot) → i ≡ length labels → Assigned labels i slots → HaveOwnSlots (λ j. j) labels slots
 assigned_all labels i slots e done =
     (record { one_slot = done.one_each ∙ e; own = λ d k in'. done.own d k (omega arith) })
+
+-- ---- the strips that hold labels
+
+pub held_none : (labels : List Label) (slots : List Slot) (strips : List Strip) → slots ≡ [] → AreHeld labels slots strips
+held_none labels slots strips empty j lt = let none = ap length empty in absurd (omega arith)
+
+-- one label more has a slot, and stands in a strip unless it is empty
+pub held_more : (labels : List Label) (slots : List Slot) (strips more : List Strip) (s : Slot) (place : ℕ) → place ≡ length slots → AreHeld labels slots strips → ((j : ℕ) → HasPlace strips j → HasPlace more j) →
+    HasPlace more place ⊎ ((d : Label) → IsAtMost (value_of s.until) (value_of (get_or labels place d).min)) → AreHeld labels (slots ++ s ∷ []) more
+held_more labels slots strips more s place at held kept here j lt =
+    let long = length-append slots (s ∷ []) in
+    elim (cases_lt j (length slots)) [
+      | inl less ↦ elim (held j less) [
+        | inl there ↦ inl (kept j there)
+        | inr idle ↦ inr (rw (get_or-append slots (s ∷ []) no_slot j less) idle)
+      ]
+      | inr past ↦
+          let same : place ≡ j = omega arith in
+          subst (λ (k : ℕ). HasPlace more k ⊎ IsIdle labels (slots ++ s ∷ []) k) same (elim here [
+            | inl there ↦ inl there
+            | inr idle ↦ inr (λ d. subst (λ (t : Slot). IsAtMost (value_of t.until) (value_of (get_or labels place d).min)) (sym (get_or_push slots s no_slot place (sym at))) (idle d))
+          ])
+    ]

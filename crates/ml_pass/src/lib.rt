@@ -1,7 +1,7 @@
 //! The choice of a whole list of labels in one pass, and the text files of labels and slots.
 //!
-//! - `pass`: the longest choice with its blockers ([`assign`]), over `field`: the labels in order from west
-//!   to east, `search`: those before a label that may bound it, and `found`: these as rivals;
+//! - `pass`: the longest choice with its blockers ([`assign`]), over `search`: the labels before one that may
+//!   bound it, and `found`: these as rivals;
 //! - `table`: label tables ([`read_table`]), over `row`: one line of a table
 //!   ([`read_boxes`], [`pieces_of`]), and `fault`: why one is refused ([`TableFault`]);
 //! - [`laws`]: that a table has one reading or one fault, and texts write one list of boxes at most;
@@ -9,7 +9,6 @@
 #![tactic(auto)]
 
 mod fault;
-mod field;
 mod found;
 pub mod laws;
 mod pass;

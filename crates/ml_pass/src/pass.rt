@@ -1,19 +1,19 @@
 //! The choice in one pass over the labels.
-ghost use Rattle.std.specs.Prelude.{ℕ, ◌≡◌, ◌+◌, ◌≤◌, ◌<◌, [], length, IfOk, OnOk, All};
+ghost use Rattle.std.specs.Prelude.{ℕ, ◌≡◌, ◌+◌, ◌≤◌, ◌<◌, ◌⊎◌, [], length, slice_index_or, IfOk, OnOk, All};
 ghost use Rattle.ml_ratio.specs.Limits.{most_labels};
 ghost use Rattle.ml_cone.specs.Slots.{AreSlots, IsOwnSlot};
-ghost use Rattle.ml_conflict.specs.Field.{IsFieldOf};
-ghost use Rattle.ml_conflict.specs.Reach.{Reaches};
-ghost use Rattle.ml_conflict.specs.declared.axis.Axis.TheVariants.{Across};
-ghost use Rattle.ml_pass.specs.Search.{rivals_in};
+ghost use Rattle.ml_ratio.specs.Fraction.{value_of, IsAtMost};
+ghost use Rattle.ml_cone.specs.declared.label.Label.{Label as ALabel};
+ghost use Rattle.ml_conflict.specs.Field.{IsSpotOf};
+ghost use Rattle.ml_conflict.specs.Strip.{AreStrips, HasPlace};
+ghost use Rattle.ml_pass.specs.Search.{rivals_in, AreHeld};
 ghost use Rattle.ml_pass.specs.SlotsText.{IsBlockerPlace};
 
-use crate::field::Field;
 use crate::found::Found;
 use crate::search::Search;
-use ml_cone::{Label, Site, Slot};
-use ml_conflict::evaluate;
+use ml_cone::{Label, Slot};
 use ml_conflict::laws::{enough, own_slots, same_rivals};
+use ml_conflict::{Area, Field, Spot, evaluate, spot_of};
 use ml_ratio::{Seq, Steps};
 use std::alloc::{AllocError, Global};
 use std::marker::Brand;
@@ -64,20 +64,41 @@ fn choose<L: Ledger>(
 {
     same_rivals();
     own_slots();
-    let field = Field::of(alloc, labels)?;
+    let mut field = Field::of(alloc, labels)?;
     let mut slots = Vec::with_capacity(alloc, labels.len())?;
     let mut places = Vec::new(alloc);
-    for low in labels {
+    for i in 0..labels.len() {
+        let low = &labels[i];
+        let spot = spot_of(labels, i);
         let search = Search {
             low,
-            site: Site::of(low),
+            site: spot.site,
+            area: Area::of(low),
             labels,
             slots: &slots,
         };
         let slot = slot_of(&search, &field, &mut places, steps)?;
+        stand(&mut field, labels, spot, &slot)?;
         slots.push(slot)?;
     }
     Ok(Seq::of_vec(slots))
+}
+
+// Puts the label of the spot, with this slot, into the field, unless the slot is empty: then it sets nobody a limit.
+fn stand(field: &mut Field, labels: &[Label], spot: Spot, slot: &Slot) -> Result<(), AllocError>
+    requires some { 0 < length field.old.strips.items }
+    requires strips { AreStrips labels.now field.old.strips.items }
+    requires spot { IsSpotOf labels.now spot }
+    ensures many { length field.new.strips.items ≡ length field.old.strips.items }
+    ensures strips { OnOk result (AreStrips labels.now field.new.strips.items) }
+    ensures kept { OnOk result ((j : ℕ) → HasPlace field.old.strips.items j → HasPlace field.new.strips.items j) }
+    ensures here { OnOk result (HasPlace field.new.strips.items spot.place ⊎
+        ((d : ALabel) → IsAtMost (value_of slot.now.until) (value_of (slice_index_or labels.now spot.place d).min))) }
+{
+    if labels[spot.place as usize].min().is_less(&slot.until) {
+        return field.put(labels, spot);
+    }
+    Ok(())
 }
 
 // The label's slot among all that have one, with the memory of the places of another label.
@@ -87,8 +108,9 @@ fn slot_of<L: Ledger>(
     places: &mut Vec<u32>,
     steps: &mut Steps<L>,
 ) -> Result<Slot, AllocError>
-    requires field { IsFieldOf search.now.labels.now field.now.spots.items field.now.reach }
-    requires reaches { Reaches Across search.now.low.now field.now.reach }
+    requires some { 0 < length field.now.strips.items }
+    requires strips { AreStrips search.now.labels.now field.now.strips.items }
+    requires held { AreHeld search.now.labels.now search.now.slots.now field.now.strips.items }
     requires empty { places.old.items ≡ [] }
     ensures own { IfOk result (λ slot. IsOwnSlot (rivals_in search.now.labels.now search.now.slots.now search.now.low.now)
         (λ j. j < length search.now.slots.now) search.now.low.now slot) }

@@ -2,13 +2,12 @@ use Rattle.std.proofs.Common.{◌<◌, length, get_or, arith}
 use Rattle.ml_ratio.specs.Fraction.{value_of, IsSame}
 use Rattle.ml_cone.specs.Near.{AreClear}
 use Rattle.ml_cone.specs.Slots.{ends}
-use Rattle.ml_cert.proofs.Dues.{Known}
 use Rattle.ml_cert.proofs.Nearby.{aside_there, blocker_there, none_read, limit_read}
 use Rattle.ml_cert.proofs.near.Asked.stance.Goals as goal
 
 pub returns-then-is_clear : goal.returns-then-is_clear
 returns-then-is_clear c lt =
-    let known : Known = record { smaller = c.smaller_ends.ensures; same = c.same_limits.ensures; allowed = c.allowed_up_to.ensures; limits = c.blocking.ensures.limits; blocks = c.blocking.ensures.blocks } in
+    let known = c.known_limits.ensures in
     let self = c.args.self.now in
     let low = self.low.now in
     let high = get_or self.labels.now c.args.spot.now.place low in
@@ -17,7 +16,7 @@ returns-then-is_clear c lt =
 
 pub returns-then-is_clear-2 : goal.returns-then-is_clear-2
 returns-then-is_clear-2 c lt =
-    let known : Known = record { smaller = c.smaller_ends.ensures; same = c.same_limits.ensures; allowed = c.allowed_up_to.ensures; limits = c.blocking.ensures.limits; blocks = c.blocking.ensures.blocks } in
+    let known = c.known_limits.ensures in
     let self = c.args.self.now in
     let low = self.low.now in
     let place = c.args.spot.now.place in
@@ -30,7 +29,7 @@ returns-then-is_clear-2 c lt =
 
 pub returns-in-None : goal.returns-in-None
 returns-in-None c lt =
-    let known : Known = record { smaller = c.smaller_ends.ensures; same = c.same_limits.ensures; allowed = c.allowed_up_to.ensures; limits = c.blocking.ensures.limits; blocks = c.blocking.ensures.blocks } in
+    let known = c.known_limits.ensures in
     let self = c.args.self.now in
     let place = c.args.spot.now.place in
     let lengths = self.lengths in
@@ -39,7 +38,7 @@ returns-in-None c lt =
 
 pub returns-else-is_less : goal.returns-else-is_less
 returns-else-is_less c =
-    let known : Known = record { smaller = c.smaller_ends.ensures; same = c.same_limits.ensures; allowed = c.allowed_up_to.ensures; limits = c.blocking.ensures.limits; blocks = c.blocking.ensures.blocks } in
+    let known = c.known_limits.ensures in
     let self = c.args.self.now in
     let place = c.args.spot.now.place in
     let lt : place < self.place = omega (arith, c.if-place-self.false) in

@@ -7,7 +7,6 @@ use Rattle.ml_conflict.specs.Reach.{Reaches}
 use Rattle.ml_conflict.specs.declared.axis.Axis.TheVariants.{Across}
 use Rattle.ml_conflict.proofs.lemmas.Fields as fields
 use Rattle.ml_cert.specs.Near.{IsDueAmong}
-use Rattle.ml_cert.proofs.Dues.{Known}
 use Rattle.ml_cert.proofs.Nearby.{aside_there, due_of_none, due_wider, due_with}
 use Rattle.ml_cert.proofs.near.Asked.west.Goals as goal
 
@@ -37,7 +36,7 @@ loop-left-preserved c =
 
 pub returns-then-is_beyond : goal.returns-then-is_beyond
 returns-then-is_beyond c =
-    let known : Known = record { smaller = c.smaller_ends.ensures; same = c.same_limits.ensures; allowed = c.allowed_up_to.ensures; limits = c.blocking.ensures.limits; blocks = c.blocking.ensures.blocks } in
+    let known = c.known_limits.ensures in
     let self = c.args.self.now in
     let labels = self.labels.now in
     let low = self.low.now in
@@ -49,7 +48,7 @@ returns-then-is_beyond c =
     let s = c.requires.start in
     let at_in : left - 1 < length spots = (let r = c.loop-left.invariant.in_range in omega arith) in
     let wl = low.world_x in
-    let ws = spot.world in
+    let ws = spot.world_x in
     let fl : FitsSigned w64 low.x = omega (arith, ints) in
     let fs : FitsSigned w64 spot.x = omega (arith, ints) in
     let beyond = simp to_z-of_z at (rw c.x.ensures at (c.is_beyond.ensures c.if-is_beyond.true)) in

@@ -1,51 +1,19 @@
-use Rattle.std.proofs.Common.{◌≡◌, ℕ, length, get_or, arith, ap, subst, w64, FitsSigned}
-use Rattle.std.proofs.lemmas.Int.{ints, to_z-of_z}
+use Rattle.std.proofs.Common.{◌+◌, length, arith, sym, subst}
 use Rattle.ml_ratio.specs.Fraction.{value_of}
-use Rattle.ml_conflict.specs.Field.{SeesSpot}
-use Rattle.ml_pass.specs.Search.{rivals_in, IsSearched}
-use Rattle.ml_pass.proofs.Searching.{searched_none}
-use Rattle.ml_pass.proofs.Gathering.{east_more, east_far}
+use Rattle.ml_conflict.specs.Field.{HasSpot}
+use Rattle.ml_conflict.specs.Strip.{IsStripOf}
+use Rattle.ml_conflict.specs.declared.strip.Strip.{Strip}
+use Rattle.ml_pass.specs.Search.{rivals_in}
+use Rattle.ml_pass.proofs.Gathering.{LiesAt, saw_one}
 use Rattle.ml_pass.proofs.search.Search.east.Goals as goal
 
-pub loop-right-init : goal.loop-right-init
-loop-right-init c =
-    searched_none c.args.self.now.low.now (rivals_in c.args.self.now.labels.now c.args.self.now.slots.now c.args.self.now.low.now) (length c.args.self.now.slots.now) (SeesSpot c.args.field.now.spots.items c.args.seen.right c.args.seen.right) (value_of c.args.seen.bound) c.args.places.now.items
-    (λ j saw lt. absurd (omega (arith, saw.1, saw.2)))
-
-pub loop-right-preserved : goal.loop-right-preserved
-loop-right-preserved c =
-    let spots = c.args.field.now.spots.items in
-    let value = c.as_slice-spots.ensures.value in
-    let sized = ap length value in
-    let is : c.index-spots-right.result ≡ get_or spots c.loop-right.right c.index-spots-right.result = rw value at c.index-spots-right.is in
-    east_more c.args.self.now.labels.now c.args.self.now.slots.now c.args.self.now.low.now spots c.args.field.now.reach c.requires.field c.loop-right.right c.args.seen.right c.index-spots-right.result (omega arith) is
-    (value_of c.args.seen.bound) c.args.places.now.items c.loop-right.places.items (value_of c.loop-right.bound) (value_of c.in_ok-bound.bound) c.look.new.places.items c.loop-right.invariant c.in_ok-bound.ensures
-
-pub returns-then-is_beyond-clause-searched : goal.returns-then-is_beyond-clause-searched
-returns-then-is_beyond-clause-searched c =
-    let low = c.args.self.now.low.now in
-    let spots = c.args.field.now.spots.items in
-    let spot = c.index-spots-right.result in
-    let value = c.as_slice-spots.ensures.value in
-    let sized = ap length value in
-    let is : spot ≡ get_or spots c.loop-right.right spot = rw value at c.index-spots-right.is in
-    let wl = low.world_x in
-    let ws = spot.world in
-    let fl : FitsSigned w64 low.x = omega (arith, ints) in
-    let fs : FitsSigned w64 spot.x = omega (arith, ints) in
-    let beyond = simp to_z-of_z at (rw c.x.ensures at (c.is_beyond.ensures c.if-is_beyond.true)) in
-    rw value (east_far c.args.self.now.labels.now c.args.self.now.slots.now low spots c.args.field.now.reach c.requires.field c.loop-right.right c.args.seen.right spot (omega arith) is (value_of c.args.seen.bound) c.args.places.now.items c.loop-right.places.items
-    c.requires.reaches c.loop-right.bound beyond c.loop-right.invariant)
-
-pub look-requires : goal.look-requires
-look-requires c =
-    let value = c.as_slice-spots.ensures.value in
-    let sized = ap length value in
-    let is = rw value at c.index-spots-right.is in
-    rw is (c.requires.field.good c.loop-right.right c.index-spots-right.result (omega arith))
+pub visit-requires : goal.visit-requires
+visit-requires c = record {
+  strip = subst (λ (s : Strip). IsStripOf c.args.self.now.labels.now s.spots.items s.area) (sym c.index.ensures) (c.requires.strips c.args.seen.right c.index.result.now (let within = c.requires.within in omega arith));
+}
 
 pub returns-clause-searched : goal.returns-clause-searched
 returns-clause-searched c =
-    let all : c.loop-right.right ≡ c.min-until.result = (let sized = ap length c.as_slice-spots.ensures.value in let s = c.requires.within in omega arith) in
-    subst (λ (k : ℕ). IsSearched c.args.self.now.low.now (rivals_in c.args.self.now.labels.now c.args.self.now.slots.now c.args.self.now.low.now) (length c.args.self.now.slots.now)
-    (SeesSpot c.args.field.now.spots.items c.args.seen.right k) (value_of c.args.seen.bound) (value_of c.loop-right.bound) c.args.places.now.items c.loop-right.places.items) all c.loop-right.invariant
+    let strip : Strip = c.index.result.now in
+    saw_one c.args.self.now.low.now (rivals_in c.args.self.now.labels.now c.args.self.now.slots.now c.args.self.now.low.now) (length c.args.self.now.slots.now) (LiesAt c.args.field.now.strips.items) c.args.seen.right (c.args.seen.right + 1) (value_of c.args.seen.bound) (value_of c.in_ok-bound.bound) c.args.places.now.items c.visit.new.places.items (omega arith) (HasSpot strip.spots.items)
+    (λ j lies. subst (λ (s : Strip). HasSpot s.spots.items j) (sym c.index.ensures) (lies strip)) c.in_ok-bound.ensures

@@ -1,0 +1,17 @@
+use Rattle.std.proofs.Common.{◌+◌, ◌-◌, ◌≤◌, length}
+use Rattle.ml_ratio.specs.Fraction.{value_of}
+use Rattle.ml_conflict.specs.Field.{SeesSpot}
+use Rattle.ml_pass.specs.Search.{rivals_in, IsSearched}
+use Rattle.ml_pass.proofs.search.Search.cross.Given as goal
+
+abbrev pub invariant-loop-seen : goal.invariant-loop-seen
+invariant-loop-seen l = record {
+  left : l.seen.left ≤ l.start;
+  right : l.start ≤ l.seen.right;
+  within : l.seen.right ≤ length l.strip.spots.items;
+  searched : IsSearched l.self.low.now (rivals_in l.self.labels.now l.self.slots.now l.self.low.now) (length l.self.slots.now)
+      (SeesSpot l.strip.spots.items l.seen.left l.seen.right) (value_of l.fn.bound) (value_of l.seen.bound) l.initial.places.items l.places.items;
+}
+
+abbrev pub decreases-loop-seen : goal.decreases-loop-seen
+decreases-loop-seen l = l.seen.left + (length l.strip.spots.items - l.seen.right)
