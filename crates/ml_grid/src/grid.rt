@@ -7,7 +7,7 @@ ghost use Rattle.ml_spans.specs.Order.{entry_order, IsRising};
 ghost use Rattle.ml_grid.specs.Cell.{cell_cmp};
 ghost use Rattle.ml_grid.specs.Count.{AreUpToNine, entry_count};
 ghost use Rattle.ml_grid.specs.Entry.{IsEntryOf, Adds, LosesEntries, Replaces, IsFree, AreEntriesOf, AreApart};
-ghost use Rattle.ml_grid.specs.Found.{AppendsNumbers, AppendsFirst, IsInHull, IsNumberOf, HasEntry, IsSeen};
+ghost use Rattle.ml_grid.specs.Found.{Finds, AppendsNumbers, AppendsFirst, IsInHull, IsNumberOf, HasEntry, IsSeen};
 ghost use Rattle.ml_grid.specs.Column.{IsAmongFrom};
 ghost use Rattle.ml_grid.specs.Marks.{marked, end_by};
 
@@ -173,6 +173,18 @@ impl Grid {
         let mut found = out.emptied();
         find_cells(&self.tree, &hull(label, band), &mut found)?;
         append(&ascending(found), out)
+    }
+
+    /// Appends the numbers that have an entry in the band in a cell of the label's hull there, in whatever order
+    /// and however often. The band is at most 27. The label itself need not be in the grid.
+    ///
+    /// # Errors
+    /// Want of memory.
+    pub fn in_hull(&self, label: &Label, band: u8, out: &mut Seq<u32>) -> Result<(), AllocError>
+        requires { band ≤ 27 }
+        ensures { OnOk result (Finds (IsInHull label.now band) self.now.entries out.old out.new) }
+    {
+        find_cells(&self.tree, &hull(label, band), out)
     }
 
     /// The numbers that have an entry in one of the cells, of which there are nine columns at most, with an

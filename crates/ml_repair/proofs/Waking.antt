@@ -1,20 +1,24 @@
 -- Later rivals, and labels that wait.
-use Rattle.std.proofs.Common.{◌≡◌, ℕ, ◌+◌, ◌<◌, ◌≤◌, Bool, true, false, List, [], length, get_or, set, max, min, Contains, inl, inr, refl, sym, ap, ◌∙◌, subst, arith, get_or-set_same, get_or-set_other}
-use Rattle.std.specs.Prelude.{◌↔◌, All}
+use Rattle.std.proofs.Common.{◌≡◌, ◌≢◌, ℕ, ◌+◌, ◌<◌, ◌≤◌, ◌⊎◌, Bool, false, List, [], ◌∷◌, ◌++◌, length, get_or, take, max, min, Contains, inl, inr, sym, subst, arith}
+use Rattle.std.specs.Prelude.{◌↔◌, All, IsTrue}
 use Rattle.std.proofs.lemmas.Bool.{cases_lt, cases_eq}
-use Rattle.std.proofs.lemmas.List.{get_or_default}
-use Rattle.ml_ratio.specs.Fraction.{value_of}
+use Rattle.std.proofs.lemmas.List.{get_or_default, take_more}
+use Rattle.std.proofs.lemmas.List.Elements.{All-contains, Contains-append_left, Contains-append_right, Contains-append_cases, Contains-push, Contains-push_cases}
+use Rattle.ml_ratio.specs.Fraction.{Fraction, value_of}
+use Rattle.ml_ratio.specs.declared.ratio.Ratio.{Ratio}
 use Rattle.ml_ratio.specs.Band.{IsInBand}
 use Rattle.ml_cone.specs.Rivals.{AreRivals}
 use Rattle.ml_cone.specs.Cell.{IsLastBand}
-use Rattle.ml_cone.specs.Outline.{LastCell}
+use Rattle.ml_cone.specs.Outline.{LastCell, RivalBand}
+use Rattle.ml_cone.specs.Overlap.{Overlap, BoxesOverlap}
+use Rattle.ml_cone.specs.Slots.{ends}
 use Rattle.ml_cone.specs.declared.label.Label.{Label}
-use Rattle.ml_store.specs.Rows.{labels_in}
+use Rattle.ml_store.specs.Rows.{labels_in, slots_in}
 use Rattle.ml_store.specs.declared.row.Row.{Row}
-use Rattle.ml_repair.specs.Roster.{AreFound, IsFoundAt}
-use Rattle.ml_repair.specs.Repair.{AreSuspects, IsWokenBy}
+use Rattle.ml_repair.specs.Roster.{AreFound, IsFoundAt, AreOverlapped, OverlapsAt}
+use Rattle.ml_repair.specs.Repair.{AreSuspects, IsWokenBy, AreWoken}
 use Rattle.ml_repair.specs.Touched.{IsRivalBefore}
-use Rattle.ml_repair.proofs.Gathering.{band_from}
+use Rattle.ml_repair.proofs.Gathering.{band_from, from_nothing}
 use Rattle.ml_repair.proofs.NearRosters.{EndsFrom, last_after}
 use Rattle.ml_repair.proofs.Present.{length-labels}
 
@@ -67,52 +71,130 @@ suspects_all law rows a first band last ends begins places done starts is from l
       done.whole p k (p_in, λ d. rw (get_or_default (labels_in rows) p d a (omega arith)) (record { x = cell.x; y = cell.y; among = cell.second.among; kept = cell.first })) after (omega arith);
 }
 
--- ---- places one after another
+-- ---- bands about the label
 
-module _ (labels : List Label) (i : ℕ) (places : List ℕ) (t k : ℕ) (before after : List Bool) (k_in : k < length labels) (is_k : get_or places t 0 ≡ k) (so_far : IsWokenBy labels i places t before after) where
-  pub among_asleep : ¬ (IsRivalBefore labels i k) → IsWokenBy labels i places (t + 1) before after
-  among_asleep no_rival m m_in =
-      let s = so_far m m_in in (
-        λ h. elim (s.0 h) [ inl w ↦ inl w | inr r ↦ let lt : r.0.0 < t = r.0.1 in inr ((r.0.0, omega arith, r.0.2), r.1) ],
-        λ h.
-            elim h [
-              | inl w ↦ s.1 (inl w)
-              | inr r ↦
-                  let lt : r.0.0 < t + 1 = r.0.1 in
-                  elim (cases_lt r.0.0 t) [
-                    | inl less ↦ s.1 (inr ((r.0.0, less, r.0.2), r.1))
-                    | inr more ↦
-                        let e : r.0.0 ≡ t = omega arith in
-                        let f : m ≡ k = sym r.0.2 ∙ ap (λ (x : ℕ). get_or places x 0) e ∙ is_k in
-                        absurd (no_rival (rw f at r.1))
-                  ]
-            ],
-      )
+-- labels that overlap do so the other way round
+overlap_turned : (a b : Label) (s : Fraction) → Overlap a b s → Overlap b a s
+unfolding Overlap BoxesOverlap
+overlap_turned a b s h =
+    let meet = h.4.4 in
+    (h.4.0, h.4.1, h.4.2, h.4.3, (h.0, h.1, h.2, h.3, ((meet.0.1, meet.0.0), (meet.1.1, meet.1.0))))
 
-  pub among_woken : length after ≡ length labels → IsRivalBefore labels i k → IsWokenBy labels i places (t + 1) before (set after k true)
-  among_woken len here m m_in =
+rivals_turned : (a b : Label) → AreRivals a b → AreRivals b a
+unfolding AreRivals
+rivals_turned a b h = (h.0, h.1, h.3, h.2, overlap_turned a b h.0 h.4)
+
+pub record MeetingBelow (rows : List Row) (a : Label) (first band : ℕ) (places : List ℕ) : Type 0 where
+  pub within : (p : ℕ) → Contains places p → p < length rows
+  pub whole : (p k : ℕ) → OverlapsAt rows a k p → first ≤ k → k < band → Contains places p
+
+pub meeting_none : (rows : List Row) (a : Label) (first : ℕ) → MeetingBelow rows a first first []
+meeting_none rows a first = record {
+  within = λ p h. absurd (let lt : h.0 < 0 = h.1 in omega arith);
+  whole = λ p k f from to. absurd (omega arith);
+}
+
+pub meeting_more : (rows : List Row) (a : Label) (first band : ℕ) (scale : Ratio) (places found more : List ℕ) → scale.num ≡ 0 → MeetingBelow rows a first band places → AreOverlapped rows a band scale found → more ≡ places ++ found → MeetingBelow rows a first (band + 1) more
+meeting_more rows a first band scale places found more none so_far are is = record {
+  within = λ p h. elim (Contains-append_cases places found p (subst (λ (xs : List ℕ). Contains xs p) is h)) [
+    | inl old ↦ so_far.within p old
+    | inr new ↦ All-contains (λ q. q < length rows) found p are.within new
+  ];
+  whole = λ p k f from to. subst (λ (xs : List ℕ). Contains xs p) (sym is) (elim (cases_lt k band) [
+    | inl less ↦ Contains-append_left places found p (so_far.whole p k f from less)
+    | inr here ↦
+        let e : k ≡ band = omega arith in
+        Contains-append_right places found p (are.whole p (subst (λ (b : ℕ). OverlapsAt rows a b p) e f) (from_nothing scale (ends (slots_in rows) p) none))
+  ]);
+}
+
+abbrev pub OverlapLaw : Type 0
+OverlapLaw = (a b : Label) → AreRivals a b → RivalBand a b
+
+-- all bands of the label's range are enough
+pub meeting_all : OverlapLaw → (rows : List Row) (a : Label) (band last begins : ℕ) (places : List ℕ) → MeetingBelow rows a begins band places → IsInBand (value_of a.min) begins → IsLastBand a last → last < band → AreSuspects rows a places
+meeting_all law rows a band last begins places done starts is stop = record {
+  within = λ k d lt. done.within (get_or places k d) (k, lt, get_or_default places k (get_or places k d) d lt);
+  whole = λ p p_in rivals.
+      let many = length-labels rows in
+      let b : Label = get_or (labels_in rows) p a in
+      let both = law a b (rivals_turned b a (rivals a)) in
+      let k = both.band in
+      let begun = band_from (value_of a.min) (value_of a.max) k begins both.first starts in
+      let upto = last_after a k last both.over.low both.first.reaches is in
+      done.whole p k (p_in, λ d. rw (get_or_default (labels_in rows) p d a (omega arith)) both.over) begun (omega arith);
+}
+
+-- ---- labels one after another
+
+module _ (labels : List Label) (i : ℕ) (before : List Bool) where
+  -- none of them is a later rival
+  pub woken_none : (those : ℕ → Type 0) → ((k : ℕ) → those k → IsRivalBefore labels i k → ⊥) → IsWokenBy labels i those before before
+  woken_none those none k k_in = (λ w. inl w, λ h. elim h [ inl w ↦ w | inr r ↦ absurd (none k r.0 r.1) ])
+
+  -- one more
+  pub woken_more : (those next : ℕ → Type 0) (k : ℕ) (mid after : List Bool) → IsWokenBy labels i those before mid → (IsTrue (get_or after k false) ↔ (IsTrue (get_or mid k false) ⊎ IsRivalBefore labels i k)) →
+      ((m : ℕ) → m ≢ k → get_or after m false ≡ get_or mid m false) → ((m : ℕ) → next m → those m ⊎ (m ≡ k)) → ((m : ℕ) → those m → next m) → next k → IsWokenBy labels i next before after
+  woken_more those next k mid after so_far here others cases old_ones new_one m m_in =
       let s = so_far m m_in in
-      let l : k < length after = omega arith in
       elim (cases_eq m k) [
-        | inl e ↦ rw (e, get_or-set_same after k true false l) (λ h. inr ((t, omega arith, is_k), here), λ h. refl)
+        | inl e ↦
+            let h = subst (λ (x : ℕ). IsTrue (get_or after x false) ↔ (IsTrue (get_or mid x false) ⊎ IsRivalBefore labels i x)) (sym e) here in
+            let there : next m = subst next (sym e) new_one in (
+              λ w. elim (h.0 w) [
+                | inl old ↦ elim (s.0 old) [ inl was ↦ inl was | inr r ↦ inr (old_ones m r.0, r.1) ]
+                | inr r ↦ inr (there, r)
+              ],
+              λ w. elim w [ inl was ↦ h.1 (inl (s.1 (inl was))) | inr r ↦ h.1 (inr r.1) ],
+            )
         | inr ne ↦
-            rw (get_or-set_other after k m true false ne) (
-              λ h. elim (s.0 h) [ inl w ↦ inl w | inr r ↦ let lt : r.0.0 < t = r.0.1 in inr ((r.0.0, omega arith, r.0.2), r.1) ],
-              λ h.
-                  elim h [
-                    | inl w ↦ s.1 (inl w)
-                    | inr r ↦
-                        let lt : r.0.0 < t + 1 = r.0.1 in
-                        elim (cases_lt r.0.0 t) [
-                          | inl less ↦ s.1 (inr ((r.0.0, less, r.0.2), r.1))
-                          | inr more ↦
-                              let e : r.0.0 ≡ t = omega arith in
-                              let f : m ≡ k = sym r.0.2 ∙ ap (λ (x : ℕ). get_or places x 0) e ∙ is_k in
-                              absurd (ne f)
-                        ]
-                  ],
+            rw (others m ne) (
+              λ w. elim (s.0 w) [ inl was ↦ inl was | inr r ↦ inr (old_ones m r.0, r.1) ],
+              λ w. elim w [
+                | inl was ↦ s.1 (inl was)
+                | inr r ↦ elim (cases m r.0) [ inl old ↦ s.1 (inr (old, r.1)) | inr same ↦ absurd (ne same) ]
+              ],
             )
       ]
+
+-- one more place of a list
+pub among_more : (labels : List Label) (i : ℕ) (before mid after : List Bool) (places : List ℕ) (t : ℕ) → t < length places → IsWokenBy labels i (Contains (take t places)) before mid →
+    (IsTrue (get_or after (get_or places t 0) false) ↔ (IsTrue (get_or mid (get_or places t 0) false) ⊎ IsRivalBefore labels i (get_or places t 0))) →
+    ((m : ℕ) → m ≢ get_or places t 0 → get_or after m false ≡ get_or mid m false) → IsWokenBy labels i (Contains (take (t + 1) places)) before after
+among_more labels i before mid after places t lt so_far here others =
+    let k : ℕ = get_or places t 0 in
+    let e = take_more places t 0 lt in
+    woken_more labels i before (Contains (take t places)) (Contains (take (t + 1) places)) k mid after so_far here others
+    (λ m h. elim (Contains-push_cases (take t places) k m (rw e at h)) [ inl old ↦ inl old | inr same ↦ inr (sym same) ])
+    (λ m h. rw e (Contains-append_left (take t places) (k ∷ []) m h)) (rw e (Contains-push (take t places) k))
+
+-- one more label behind the first k
+pub idle_more : (labels : List Label) (i : ℕ) (before mid after : List Bool) (k : ℕ) → IsWokenBy labels i (λ m. m < k) before mid → (IsTrue (get_or after k false) ↔ (IsTrue (get_or mid k false) ⊎ IsRivalBefore labels i k)) →
+    ((m : ℕ) → m ≢ k → get_or after m false ≡ get_or mid m false) → IsWokenBy labels i (λ m. m < k + 1) before after
+idle_more labels i before mid after k so_far here others =
+    woken_more labels i before (λ m. m < k) (λ m. m < k + 1) k mid after so_far here others
+    (λ m h. elim (cases_lt m k) [ inl less ↦ inl less | inr more ↦ inr (omega arith) ]) (λ m h. omega arith) (omega arith)
+
+-- all labels, or all suspects, are enough
+pub woken_all : (rows : List Row) (i k : ℕ) (before after : List Bool) → length rows ≤ k → IsWokenBy (labels_in rows) i (λ m. m < k) before after → AreWoken rows i before after
+woken_all rows i k before after all woken m m_in =
+    let many = length-labels rows in
+    let w = woken m (omega arith) in (
+      λ h. elim (w.0 h) [ inl was ↦ inl was | inr r ↦ inr r.1 ],
+      λ h. w.1 (elim h [ inl was ↦ inl was | inr r ↦ inr (omega arith, r) ]),
+    )
+
+pub woken_suspects : (rows : List Row) (i : ℕ) (high : Label) (places : List ℕ) (before after : List Bool) → ((d : Label) → get_or (labels_in rows) i d ≡ high) → AreSuspects rows high places → IsWokenBy (labels_in rows) i (Contains places) before after → AreWoken rows i before after
+woken_suspects rows i high places before after is are woken m m_in =
+    let labels = labels_in rows in
+    let many = length-labels rows in
+    let w = woken m (omega arith) in (
+      λ h. elim (w.0 h) [ inl was ↦ inl was | inr r ↦ inr r.1 ],
+      λ h. w.1 (elim h [
+        | inl was ↦ inl was
+        | inr r ↦ inr (are.whole m m_in (λ d. subst (AreRivals (get_or labels m d)) (is high) (rw (get_or_default labels m d high (omega arith)) (r.1 high))), r)
+      ]),
+    )
 
 -- ---- the same places in another order
 

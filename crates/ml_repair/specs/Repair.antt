@@ -1,6 +1,6 @@
 -- Slots while an edit is planned. The edited label stands in the list, at the place `at`, whether it comes or goes.
-use Rattle.std.specs.Prelude.{ℕ, ◌≡◌, ◌≢◌, ◌*◌, ◌^◌, ◌<◌, ◌≤◌, ◌⊎◌, ◌↔◌, Bool, true, false, IsTrue, List, length, slice_index, slice_index_or, Contains, All}
-use Rattle.ml_ratio.specs.Fraction.{Fraction, value_of, IsAtMost}
+use Rattle.std.specs.Prelude.{ℕ, ◌≡◌, ◌≢◌, ◌*◌, ◌^◌, ◌<◌, ◌≤◌, ◌⊎◌, ◌↔◌, Bool, true, false, IsTrue, List, length, slice_index_or, Contains, All}
+use Rattle.ml_ratio.specs.Fraction.{Fraction, value_of, IsLess, IsAtMost}
 use Rattle.ml_ratio.specs.Band.{MeetsBand}
 use Rattle.ml_ratio.specs.declared.ratio.Ratio.{Ratio}
 use Rattle.ml_cone.specs.Choice.{IsLimit}
@@ -57,10 +57,15 @@ ReachesBand k until = 0 < k → 2 ^ k * until.den ≤ until.num
 abbrev pub IsUnmoved : List Row → List Moved → ℕ → Type 0
 IsUnmoved rows moved p = ¬ (Contains (numbers_of moved) (number_at rows p))
 
--- places of the list, among them each of a label without a new slot that the label overlaps in band k, and whose active range reaches into the band
+-- places of the list, among them each of a label without a new slot that the label overlaps in band k, and whose active range reaches into the band and ends above the label's minimum
 pub record AreReaching (rows : List Row) (moved : List Moved) (low : Label) (k : ℕ) (places : List ℕ) : Type 0 where
   pub within : All (λ p. p < length rows) places
-  pub whole : (p : ℕ) → OverlapsAt rows low k p → IsUnmoved rows moved p → ReachesBand k (ends (present_slots rows moved) p) → Contains places p
+  pub whole : (p : ℕ) → OverlapsAt rows low k p → IsUnmoved rows moved p → ReachesBand k (ends (present_slots rows moved) p) → IsLess (value_of low.min) (ends (present_slots rows moved) p) → Contains places p
+
+-- places of the list, among them each of a label that the label overlaps in band k
+pub record AreMeeting (rows : List Row) (low : Label) (k : ℕ) (places : List ℕ) : Type 0 where
+  pub within : All (λ p. p < length rows) places
+  pub whole : (p : ℕ) → OverlapsAt rows low k p → Contains places p
 
 -- of the labels without a new slot before place i that the label overlaps in any of the bands from k to m none has an active range that reaches into that band
 abbrev pub IsClear : List Row → List Moved → Label → ℕ → ℕ → ℕ → Type 0
@@ -79,24 +84,28 @@ pub record AreEnough (rows : List Row) (moved : List Moved) (low : Label) (at : 
   pub whole : (p k : ℕ) → Stands comes true at i p → OverlapsAt rows low k p → MeetsBand k (value_of low.min) (value_of bound) → ReachesBand k (ends (present_slots rows moved) p) →
       Counts rows moved low bound places p
 
--- some of the places that were found came in, and the bound went down to their limits: only such as stand before that of the label, and each of these counts from then on
-pub record AreSifted (rows : List Row) (moved : List Moved) (low : Label) (at : ℕ) (comes : Bool) (i : ℕ) (found : List ℕ) (bound next : Ratio) (before after : List ℕ) : Type 0 where
+-- of the places with the property some came in, and the bound went down to their limits: only such as stand before that of the label, and each of these counts from then on
+pub record AreSifted (rows : List Row) (moved : List Moved) (low : Label) (at : ℕ) (comes : Bool) (i : ℕ) (those : ℕ → Type 0) (bound next : Ratio) (before after : List ℕ) : Type 0 where
   pub kept : (p : ℕ) → Contains before p → Contains after p
   pub sound : (p : ℕ) → Contains after p → Contains before p ⊎ Stands comes true at i p
   pub bound_is : IsBoundBy rows moved low before bound → IsBoundBy rows moved low after next
   pub upto : IsAtMost (value_of next) (value_of bound)
-  pub whole : (p : ℕ) → Contains found p → Stands comes true at i p → Counts rows moved low next after p
+  pub whole : (p : ℕ) → those p → Stands comes true at i p → Counts rows moved low next after p
 
 -- places of the list, among them those of all rivals of the label
 pub record AreSuspects (rows : List Row) (a : Label) (places : List ℕ) : Type 0 where
   pub within : All (λ p. p < length rows) places
   pub whole : (p : ℕ) → p < length rows → ((d : Label) → AreRivals (slice_index_or (labels_in rows) p d) a) → Contains places p
 
--- those of the first t places whose labels are later rivals of that at i wait besides
-abbrev pub IsWokenBy : List Label → ℕ → List ℕ → ℕ → List Bool → List Bool → Type 0
-IsWokenBy labels i places t before after =
-    (k : ℕ) → k < length labels →
-    IsTrue (slice_index_or after k false) ↔ (IsTrue (slice_index_or before k false) ⊎ (((c : ℕ) × (c < t) × (slice_index places c ≡ k)) × IsRivalBefore labels i k))
+-- of the places with the property those whose labels are later rivals of that at i wait besides
+abbrev pub IsWokenBy : List Label → ℕ → (ℕ → Type 0) → List Bool → List Bool → Type 0
+IsWokenBy labels i those before after =
+    (k : ℕ) → k < length labels → IsTrue (slice_index_or after k false) ↔ (IsTrue (slice_index_or before k false) ⊎ (those k × IsRivalBefore labels i k))
+
+-- the later rivals of the label at i wait besides
+abbrev pub AreWoken : List Row → ℕ → List Bool → List Bool → Type 0
+AreWoken rows i before after =
+    (k : ℕ) → k < length rows → IsTrue (slice_index_or after k false) ↔ (IsTrue (slice_index_or before k false) ⊎ IsRivalBefore (labels_in rows) i k)
 
 -- the row at a place has another slot, and no other row has
 pub record IsMovedAt (rows : List Row) (i : ℕ) (slot : Slot) (before after : List Moved) : Type 0 where

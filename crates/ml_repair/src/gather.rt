@@ -1,14 +1,20 @@
 //! The rivals that may bound a label.
-ghost use Rattle.std.specs.Prelude.{ℕ, ◌≡◌, ◌+◌, ◌^◌, ◌<◌, ◌≤◌, ◌↔◌, true, IsTrue, List, [], ◌∷◌, length, All, Contains, IfOk, slice_index_or};
+ghost use Rattle.std.specs.Prelude.{ℕ, ◌≡◌, ◌+◌, ◌*◌, ◌^◌, ◌<◌, ◌≤◌, ◌↔◌, true, IsTrue, List, length, All, Contains, IfOk};
 ghost use Rattle.std.specs.List.Sorted.{IsStrictlyIncreasing};
 ghost use Rattle.ml_store.specs.Rows.{number_at};
 ghost use Rattle.ml_repair.specs.Moves.{numbers_of};
-ghost use Rattle.ml_repair.specs.Repair.{Stands, AreReaching, IsClear, AreEnough, AreSifted};
+ghost use Rattle.ml_repair.specs.Plan.{slot_for};
+ghost use Rattle.ml_repair.specs.Repair.{Stands, ReachesBand, AreReaching, AreMeeting, IsClear, AreEnough, AreSifted};
+ghost use Rattle.ml_store.specs.Table.{IsRowAt};
+ghost use Rattle.ml_ratio.specs.Fraction.{value_of, IsLess, IsAtMost};
+ghost use Rattle.ml_ratio.specs.declared.ratio.Ratio.{Ratio};
+ghost use Rattle.ml_cone.specs.declared.slot.Slot.{Slot};
 
 use crate::chosen::present_slot;
+use crate::edit::Moved;
 use crate::moves::Moves;
-use crate::roster::{Roster, push_places};
 use crate::sought::{Edited, Sought};
+use ml_cone::Label;
 use ml_conflict::limit_up_to;
 use ml_ratio::{Ratio, Seq};
 use std::alloc::{AllocError, Global};
@@ -45,13 +51,46 @@ fn start_of(band: u8) -> Ratio
     }
 }
 
-// Places, among them those of the labels without a new slot that the label overlaps in the band and that reach
-// into it: their own slots last at least until the scale at which the band starts.
+// A whole number and the 65536th part of one, which is the least part that a fraction can have.
+fn just_above(whole: u64) -> Ratio
+    requires { whole < 65536 }
+    ensures { result.num * 65536 ≡ (whole * 65536 + 1) * result.den }
+{
+    match Ratio::of(whole * 65536 + 1, 65536) {
+        Some(scale) => scale,
+        None => unreachable!(),
+    }
+}
+
+// The least scale above a whole number.
+fn next_scale(whole: u64) -> Ratio
+    requires { whole < 65536 }
+    ensures { (u : Ratio) → whole * u.den < u.num → IsAtMost (value_of result) (value_of u) }
+{
+    just_above(whole)
+}
+
+// A scale until which each label lasts that reaches into the band and ends above the label's minimum. Labels that
+// are never shown end where they begin, so they are passed over in the band of their minimum, if that is whole.
+fn least_end(low: &Label, band: u8) -> Ratio
+    requires { band ≤ 27 }
+    ensures { (u : Ratio) → IsLess (value_of low.now.min) (value_of u) → ReachesBand band (value_of u) → IsAtMost (value_of result) (value_of u) }
+{
+    let min = low.min();
+    if min.den() == 1 && min.num() < 65536 && min.band() == band {
+        next_scale(min.num())
+    } else {
+        start_of(band)
+    }
+}
+
+// Places, among them those of the labels without a new slot that the label overlaps in the band, that reach into it
+// and that end above the label's minimum: their own slots last until a scale that is known.
 fn search(alloc: Global, sought: &Sought<'_>, band: u8) -> Result<Seq<u32>, AllocError>
     requires { band ≤ 27 }
     ensures { IfOk result (AreReaching sought.now.roster.now sought.now.moves.now sought.now.low.now band) }
 {
-    let scale = start_of(band);
+    let scale = least_end(sought.low, band);
     sought.roster.overlapping(alloc, sought.low, band, &scale)
 }
 
@@ -67,29 +106,6 @@ fn is_clear(sought: &Sought<'_>, band: u8) -> bool
         .is_clear(sought.low, sought.place, band, (band + 3).min(27), &scale)
 }
 
-// The numbers of the labels with new slots.
-fn moved_numbers(alloc: Global, moves: &Moves) -> Result<Vec<u32>, AllocError>
-    ensures { IfOk result (λ numbers. numbers.items ≡ numbers_of moves.now) }
-{
-    let moved = moves.as_slice();
-    let mut numbers = Vec::new(alloc);
-    for m in moved {
-        numbers.push(m.number)?;
-    }
-    Ok(numbers)
-}
-
-// The places of the labels with new slots.
-fn moved_places(alloc: Global, roster: &Roster<'_>, moves: &Moves) -> Result<Seq<u32>, AllocError>
-    ensures within { IfOk result (λ places. All (λ p. p < length roster.now) places) }
-    ensures whole { IfOk result (λ places. (p : ℕ) → p < length roster.now → Contains (numbers_of moves.now) (number_at roster.now p) → Contains places p) }
-{
-    let numbers = moved_numbers(alloc, moves)?;
-    let mut places = Seq::new(alloc);
-    push_places(roster, &numbers, &mut places)?;
-    Ok(places)
-}
-
 // A place comes in where it stands before the label and its label sets a limit up to the bound; that limit
 // is the bound from then on.
 fn sift_one(
@@ -100,7 +116,7 @@ fn sift_one(
 ) -> Result<Ratio, AllocError>
     requires { place < length sought.now.roster.now }
     ensures { IfOk result (λ next.
-        AreSifted sought.now.roster.now sought.now.moves.now sought.now.low.now sought.now.edited.at sought.now.edited.comes sought.now.place (place ∷ []) bound next out.old out.new) }
+        AreSifted sought.now.roster.now sought.now.moves.now sought.now.low.now sought.now.edited.at sought.now.edited.comes sought.now.place (λ p. p ≡ place) bound next out.old out.new) }
 {
     if stands(sought.edited, sought.place, place as usize) {
         let row = sought.roster.row(place as usize);
@@ -126,7 +142,7 @@ fn sift(
 ) -> Result<Ratio, AllocError>
     requires { All (λ p. p < length sought.now.roster.now) found.now }
     ensures { IfOk result (λ next.
-        AreSifted sought.now.roster.now sought.now.moves.now sought.now.low.now sought.now.edited.at sought.now.edited.comes sought.now.place found.now bound next out.old out.new) }
+        AreSifted sought.now.roster.now sought.now.moves.now sought.now.low.now sought.now.edited.at sought.now.edited.comes sought.now.place (Contains found.now) bound next out.old out.new) }
 {
     let mut next = bound;
     for place in found {
@@ -135,8 +151,72 @@ fn sift(
     Ok(next)
 }
 
-/// Places before that of the label which are enough for its slot. The labels with new slots are looked at
-/// first, since a search knows nothing of these. Then bands are searched upwards from the label's minimum, up to
+// A label with a new slot comes in where it stands before the label and sets a limit up to the bound. One that ends
+// where the label begins, or before, sets it none.
+fn sift_moved_one(
+    sought: &Sought<'_>,
+    moved: &Moved,
+    bound: Ratio,
+    out: &mut Seq<u32>,
+) -> Result<Ratio, AllocError>
+    requires { (own : Slot) → slot_for moved.now.number own sought.now.moves.now ≡ moved.now.slot }
+    ensures { IfOk result (λ next.
+        AreSifted sought.now.roster.now sought.now.moves.now sought.now.low.now sought.now.edited.at sought.now.edited.comes sought.now.place (IsRowAt sought.now.roster.now moved.now.number) bound next out.old out.new) }
+{
+    if !sought.low.min().is_less(&moved.slot.until) {
+        return Ok(bound);
+    }
+    let _many = sought.roster.len();
+    match sought.roster.place_of(moved.number) {
+        Some(place) => sift_one(sought, place as u32, bound, out),
+        None => Ok(bound),
+    }
+}
+
+// Those of the labels with new slots come in that stand before the label and may set its end.
+fn sift_moved(sought: &Sought<'_>, bound: Ratio, out: &mut Seq<u32>) -> Result<Ratio, AllocError>
+    ensures { IfOk result (λ next.
+        AreSifted sought.now.roster.now sought.now.moves.now sought.now.low.now sought.now.edited.at sought.now.edited.comes sought.now.place (λ p. (p < length sought.now.roster.now) × Contains (numbers_of sought.now.moves.now) (number_at sought.now.roster.now p)) bound next out.old out.new) }
+{
+    let mut next = bound;
+    let all = sought.moves.as_slice();
+    for moved in all {
+        next = sift_moved_one(sought, moved, next, out)?;
+    }
+    Ok(next)
+}
+
+// Places, among them those of all labels that the label overlaps in the band.
+fn search_all(alloc: Global, sought: &Sought<'_>, band: u8) -> Result<Seq<u32>, AllocError>
+    requires { band ≤ 27 }
+    ensures { IfOk result (AreMeeting sought.now.roster.now sought.now.low.now band) }
+{
+    let scale = start_of(0);
+    sought.roster.overlapping(alloc, sought.low, band, &scale)
+}
+
+// Places before that of the label which are enough for its slot, where many labels have new slots: a search for
+// labels that may have ended long ago finds these with the others.
+fn gather_all(alloc: Global, sought: &Sought<'_>) -> Result<Vec<u32>, AllocError>
+    requires { sought.now.place < length sought.now.roster.now }
+    ensures ascending { IfOk result (λ places. IsStrictlyIncreasing places.items) }
+    ensures enough { IfOk result (λ places.
+        AreEnough sought.now.roster.now sought.now.moves.now sought.now.low.now sought.now.edited.at sought.now.edited.comes sought.now.place places.items) }
+{
+    let mut places = Seq::new(alloc);
+    let low = sought.low;
+    let mut bound = low.max();
+    let mut band = low.min().band();
+    while band <= bound.band() && band < 28 {
+        let found = search_all(alloc, sought, band)?;
+        bound = sift(sought, found.as_slice(), bound, &mut places)?;
+        band += 1;
+    }
+    Ok(ascending(places))
+}
+
+/// Places before that of the label which are enough for its slot. Where few labels have other ends by new slots, these are
+/// looked at first, since a search knows nothing of them. Then bands are searched upwards from the label's minimum, up to
 /// that of the least limit found so far; a label that sets none up to there is passed over. Below the first
 /// band with a neighbour four bands are passed over at a time.
 ///
@@ -148,10 +228,12 @@ pub fn gather(alloc: Global, sought: &Sought<'_>) -> Result<Vec<u32>, AllocError
     ensures enough { IfOk result (λ places.
         AreEnough sought.now.roster.now sought.now.moves.now sought.now.low.now sought.now.edited.at sought.now.edited.comes sought.now.place places.items) }
 {
+    if sought.many {
+        return gather_all(alloc, sought);
+    }
     let mut places = Seq::new(alloc);
     let low = sought.low;
-    let moved = moved_places(alloc, sought.roster, sought.moves)?;
-    let mut bound = sift(sought, moved.as_slice(), low.max(), &mut places)?;
+    let mut bound = sift_moved(sought, low.max(), &mut places)?;
     let mut band = low.min().band();
     let mut apart = true;
     while band <= bound.band() && band < 28 {

@@ -22,6 +22,9 @@ use ml_ratio::{Seq, Steps};
 use std::alloc::{AllocError, Global};
 use std::sync::ledger::Ledger;
 
+// Where more labels than these have other ends, a search near a label finds fewer than all of them.
+const FEW_CHANGED: usize = 64;
+
 // Whether the place is among the places.
 fn has(places: &[u32], place: usize) -> bool
     ensures { MatchBool result (Contains places.now place) (¬ (Contains places.now place)) }
@@ -121,8 +124,8 @@ fn settle_among<L: Ledger>(
 }
 
 /// The slot that the labels before `i` leave the label there, once those at the places `changed` have other
-/// ends than when they left it its present slot. Where its blocker stands as it did, or it has none, that one
-/// and those are enough. It spends one step.
+/// ends than when they left it its present slot. Where these are few, and its blocker stands as it did, or it has
+/// none, that one and those are enough. It spends one step.
 ///
 /// # Errors
 /// Want of memory.
@@ -144,12 +147,15 @@ pub fn settle_again<L: Ledger>(
     smaller_ends();
     same_limits();
     let _many = roster.len();
+    if changed.len() > FEW_CHANGED {
+        return settle(alloc, roster, moves, edited, true, i, steps);
+    }
     let old = present_slot(roster, moves, i);
     match old.blocker {
         None => settle_among(alloc, roster, moves, changed, None, i, steps),
         Some(number) => match staying(roster, changed, edited, i, number) {
             Some(b) => settle_among(alloc, roster, moves, changed, Some(b), i, steps),
-            None => settle(alloc, roster, moves, edited, i, steps),
+            None => settle(alloc, roster, moves, edited, false, i, steps),
         },
     }
 }

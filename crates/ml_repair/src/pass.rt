@@ -77,7 +77,7 @@ pub fn settle_coming<L: Ledger>(
     carried();
     let roster = Roster::with(store, gone, row, at);
     let edited = Edited { at, comes: true };
-    let slot = settle(alloc, &roster, moves, edited, at, steps)?;
+    let slot = settle(alloc, &roster, moves, edited, false, at, steps)?;
     row.slot = slot;
     Ok(())
 }

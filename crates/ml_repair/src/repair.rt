@@ -19,7 +19,7 @@ use crate::moves::Moves;
 use crate::roster::Roster;
 use crate::sought::Edited;
 use crate::waiting::next_waiting;
-use crate::wake::wake;
+use crate::wake::{wake, wake_more};
 use ml_cone::Slot;
 use ml_conflict::laws::{carried, rivals_or_free, smaller_ends};
 use ml_ratio::{Ratio, Steps};
@@ -116,6 +116,9 @@ fn first_changed(alloc: Global, at: usize, comes: bool) -> Result<Vec<u32>, Allo
     Ok(places)
 }
 
+// Where more labels than these have woken their rivals, it pays to search for those of the next in small cells.
+const FEW_WOKE: usize = 8;
+
 // The label at `i` has another end: its later rivals wait, and its place is noted.
 fn note(
     alloc: Global,
@@ -132,7 +135,7 @@ fn note(
     ensures noted { IfOk result (λ _. changed.new.items ≡ changed.old.items ++ i ∷ []) }
 {
     let _many = roster.len();
-    wake(alloc, roster, i, waits)?;
+    wake_more(alloc, roster, changed.len() > FEW_WOKE, i, waits)?;
     changed.push(i as u32)?;
     Ok(())
 }

@@ -19,8 +19,8 @@ use ml_ratio::Steps;
 use std::alloc::{AllocError, Global};
 use std::sync::ledger::Ledger;
 
-/// The slot that the labels before `i` leave the label there, with their present ends. It spends one
-/// step.
+/// The slot that the labels before `i` leave the label there, with their present ends. Whether many of these
+/// have new slots is told, for the sake of time alone. It spends one step.
 ///
 /// # Errors
 /// Want of memory.
@@ -29,6 +29,7 @@ pub fn settle<L: Ledger>(
     roster: &Roster<'_>,
     moves: &Moves,
     edited: Edited,
+    many: bool,
     i: usize,
     steps: &mut Steps<L>,
 ) -> Result<Slot, AllocError>
@@ -52,6 +53,7 @@ pub fn settle<L: Ledger>(
         moves,
         low,
         edited,
+        many,
         place: i,
     };
     let places = gather(alloc, &sought)?;

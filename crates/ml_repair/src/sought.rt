@@ -11,12 +11,13 @@ pub struct Edited {
 }
 
 /// A label whose slot is sought: the label and its place, among which labels, with which new slots, for
-/// which edit.
+/// which edit, and whether many labels have other ends by these.
 #[derive(Clone, Copy)]
 pub struct Sought<'a> {
     pub roster: &'a Roster<'a>,
     pub moves: &'a Moves,
     pub low: &'a Label,
     pub edited: Edited,
+    pub many: bool,
     pub place: usize,
 }

@@ -1,15 +1,18 @@
 //! The later rivals of a label.
-ghost use Rattle.std.specs.Prelude.{ℕ, ◌≡◌, ◌<◌, ◌≤◌, ◌⊎◌, ◌↔◌, false, IsTrue, List, length, All, IfOk, slice_index_or};
-ghost use Rattle.ml_repair.specs.Repair.{AreSuspects, IsWokenBy};
+ghost use Rattle.std.specs.Prelude.{ℕ, ◌≡◌, ◌≢◌, ◌+◌, ◌<◌, ◌≤◌, ◌⊎◌, ◌↔◌, ◌++◌, false, IsTrue, List, length, All, Contains, IfOk, slice_index_or};
+ghost use Rattle.ml_repair.specs.Repair.{AreSuspects, IsWokenBy, AreWoken};
 ghost use Rattle.ml_repair.specs.Touched.{IsRivalBefore};
 ghost use Rattle.ml_store.specs.Rows.{labels_in};
 
 use crate::roster::Roster;
-use ml_cone::laws::rivals_share;
+use ml_cone::laws::{rivals_overlap, rivals_share};
 use ml_cone::{Label, last_band};
 use ml_conflict::are_rivals;
-use ml_ratio::Seq;
+use ml_ratio::{Ratio, Seq};
 use std::alloc::{AllocError, Global};
+
+// So many labels are asked whether they wait, to tell whether few do not.
+const ASKED: usize = 64;
 
 // Places, among them those of all rivals of the label: rivals share a cell in the last band of one of them, so the
 // bands of the label's range are searched from that on in which a range ends first.
@@ -27,6 +30,44 @@ fn suspects(alloc: Global, roster: &Roster<'_>, label: &Label) -> Result<Seq<u32
     Ok(places)
 }
 
+// Appends the places.
+fn append(found: &[u32], out: &mut Seq<u32>) -> Result<(), AllocError>
+    ensures { IfOk result (λ _. out.new ≡ out.old ++ found.now) }
+{
+    for place in found {
+        out.push(*place)?;
+    }
+    Ok(())
+}
+
+// The fraction 0/1.
+fn zero() -> Ratio
+    ensures { result.num ≡ 0 }
+{
+    match Ratio::of(0, 1) {
+        Some(zero) => zero,
+        None => unreachable!(),
+    }
+}
+
+// Places, among them those of all rivals of the label, by searches in all bands of its range. Where there are many
+// labels these find fewer that are no rivals, since they look at small cells about the label.
+fn near_suspects(alloc: Global, roster: &Roster<'_>, label: &Label) -> Result<Seq<u32>, AllocError>
+    ensures { IfOk result (AreSuspects roster.now label.now) }
+{
+    rivals_overlap();
+    let scale = zero();
+    let mut places = Seq::new(alloc);
+    let last = last_band(label);
+    let mut band = label.min().band();
+    while band <= last {
+        let found = roster.overlapping(alloc, label, band, &scale)?;
+        append(found.as_slice(), &mut places)?;
+        band += 1;
+    }
+    Ok(places)
+}
+
 // Whether the label at `k` is a later rival of that at `i`.
 fn is_later_rival(roster: &Roster<'_>, i: usize, k: usize) -> bool
     requires is_place { i < length roster.now }
@@ -38,20 +79,64 @@ fn is_later_rival(roster: &Roster<'_>, i: usize, k: usize) -> bool
     i < k && are_rivals(&low.label, &high.label)
 }
 
+// The label at `k` waits from now on, if it is a later rival of that at `i`. One that waits is not asked.
+fn wake_one(roster: &Roster<'_>, i: usize, k: usize, waits: &mut Vec<bool>)
+    requires one_each { length waits.old.items ≡ length roster.now }
+    requires is_place { i < length roster.now }
+    requires k_is_place { k < length roster.now }
+    ensures one_each { length waits.new.items ≡ length roster.now }
+    ensures woken { IsTrue (slice_index_or waits.new.items k false) ↔ (IsTrue (slice_index_or waits.old.items k false) ⊎ IsRivalBefore (labels_in roster.now) i k) }
+    ensures others { (m : ℕ) → m ≢ k → slice_index_or waits.new.items m false ≡ slice_index_or waits.old.items m false }
+{
+    if waits[k] {
+        return;
+    }
+    if is_later_rival(roster, i, k) {
+        waits[k] = true;
+    }
+}
+
 // Those of the places whose labels are later rivals of that at `i` wait from now on.
 fn wake_among(roster: &Roster<'_>, places: &[u32], i: usize, waits: &mut Vec<bool>)
     requires one_each { length waits.old.items ≡ length roster.now }
     requires is_place { i < length roster.now }
     requires in_roster { All (λ p. p < length roster.now) places.now }
     ensures one_each { length waits.new.items ≡ length roster.now }
-    ensures woken { IsWokenBy (labels_in roster.now) i places.now (length places.now) waits.old.items waits.new.items }
+    ensures woken { IsWokenBy (labels_in roster.now) i (Contains places.now) waits.old.items waits.new.items }
 {
     for place in places {
-        let k = *place as usize;
-        if is_later_rival(roster, i, k) {
-            waits[k] = true;
-        }
+        wake_one(roster, i, *place as usize, waits);
     }
+}
+
+// The later rivals of the label at `i` wait from now on. Each later label that does not wait is asked.
+fn wake_idle(roster: &Roster<'_>, i: usize, waits: &mut Vec<bool>)
+    requires one_each { length waits.old.items ≡ length roster.now }
+    requires is_place { i < length roster.now }
+    ensures one_each { length waits.new.items ≡ length roster.now }
+    ensures woken { AreWoken roster.now i waits.old.items waits.new.items }
+{
+    let many = waits.len();
+    for k in (i + 1)..many {
+        wake_one(roster, i, k, waits);
+    }
+}
+
+// Whether few of the labels from `from` on are idle: fewer than a quarter of some that are spread over them.
+fn are_few_idle(waits: &[bool], from: usize) -> bool
+    requires { from ≤ length waits.now }
+{
+    let later = &waits[from..];
+    let apart = later.len() / ASKED + 1;
+    let mut idle = 0;
+    let mut at = 0;
+    while at < later.len() {
+        if !later[at] {
+            idle += 1;
+        }
+        at += apart;
+    }
+    idle < ASKED / 4
 }
 
 /// The later rivals of the label at `i` wait from now on.
@@ -67,11 +152,56 @@ pub fn wake(
     requires one_each { length waits.old.items ≡ length roster.now }
     requires is_place { i < length roster.now }
     ensures one_each { length waits.new.items ≡ length roster.now }
-    ensures woken { IfOk result (λ _. (k : ℕ) → k < length roster.now →
-        IsTrue (slice_index_or waits.new.items k false) ↔ (IsTrue (slice_index_or waits.old.items k false) ⊎ IsRivalBefore (labels_in roster.now) i k)) }
+    ensures woken { IfOk result (λ _. AreWoken roster.now i waits.old.items waits.new.items) }
 {
     let row = roster.row(i);
     let places = suspects(alloc, roster, &row.label)?;
     wake_among(roster, places.as_slice(), i, waits);
     Ok(())
+}
+
+// The later rivals of the label at `i` wait from now on, found near it.
+fn wake_near(
+    alloc: Global,
+    roster: &Roster<'_>,
+    i: usize,
+    waits: &mut Vec<bool>,
+) -> Result<(), AllocError>
+    requires one_each { length waits.old.items ≡ length roster.now }
+    requires is_place { i < length roster.now }
+    ensures one_each { length waits.new.items ≡ length roster.now }
+    ensures woken { IfOk result (λ _. AreWoken roster.now i waits.old.items waits.new.items) }
+{
+    let row = roster.row(i);
+    let places = near_suspects(alloc, roster, &row.label)?;
+    wake_among(roster, places.as_slice(), i, waits);
+    Ok(())
+}
+
+/// The later rivals of the label at `i` wait from now on, where others wait already, and whether rivals of many
+/// labels were woken before is told, for the sake of time alone.
+///
+/// # Errors
+/// Want of memory.
+pub fn wake_more(
+    alloc: Global,
+    roster: &Roster<'_>,
+    many: bool,
+    i: usize,
+    waits: &mut Vec<bool>,
+) -> Result<(), AllocError>
+    requires one_each { length waits.old.items ≡ length roster.now }
+    requires is_place { i < length roster.now }
+    ensures one_each { length waits.new.items ≡ length roster.now }
+    ensures woken { IfOk result (λ _. AreWoken roster.now i waits.old.items waits.new.items) }
+{
+    if are_few_idle(waits, i + 1) {
+        wake_idle(roster, i, waits);
+        return Ok(());
+    }
+    if many {
+        wake_near(alloc, roster, i, waits)
+    } else {
+        wake(alloc, roster, i, waits)
+    }
 }

@@ -2,7 +2,7 @@
 use Rattle.std.proofs.Common.{◌≡◌, ℕ, List, [], get_or, Contains, inl, inr, refl, sym, ◌∙◌, subst, arith, Result, Ok, Err}
 use Rattle.std.specs.Prelude.{◌↔◌, All, OnOk, IfOk}
 use Rattle.std.proofs.lemmas.List.Kept.{AllPairs-from_increasing}
-use Rattle.std.proofs.lemmas.List.Elements.{Contains-append_left, Contains-append_right, Contains-append_cases, All-contains}
+use Rattle.std.proofs.lemmas.List.Elements.{All-contains}
 use Rattle.ml_ratio.specs.Fraction.{value_of}
 use Rattle.ml_ratio.specs.declared.ratio.Ratio.{Ratio}
 use Rattle.ml_spans.specs.Spans.{entry_of}
@@ -16,7 +16,7 @@ use Rattle.ml_cone.specs.declared.outline.Outline.{Outline}
 use Rattle.ml_cone.specs.declared.view.View.{View}
 use Rattle.ml_grid.specs.Cell.{cell_of}
 use Rattle.ml_grid.specs.Entry.{Entry, AreEntriesOf}
-use Rattle.ml_grid.specs.Found.{IsNumberOf, HasEntry, IsInHull, IsSeen, AppendsNumbers}
+use Rattle.ml_grid.specs.Found.{IsNumberOf, HasEntry, IsInHull, IsSeen, AppendsNumbers, Finds}
 use Rattle.ml_grid.specs.Column.{IsAmongFrom}
 use Rattle.ml_grid.specs.Near.{IsNear}
 use Rattle.ml_store.specs.Rows.{HaveOwnNumbers, IsLive}
@@ -89,16 +89,10 @@ module _ (rows : List Row) (entries : List Entry) (kept : IsIndex IsEntryIn rows
       let some = (kept h.0).0 h.1 in
       (some.0, some.1, sym some.2.its_number ∙ h.2)
 
-  pub found_near : (a : Label) (k : ℕ) (before after : List ℕ) → AppendsNumbers (IsInHull a k) entries before after → Gathers (IsNumberWith (λ r. IsFoundIn a r.label k) rows) before after
-  found_near a k before after app n = (
-    λ c. elim (Contains-append_cases before app.0 n (subst (λ (l : List ℕ). Contains l n) app.1 c)) [
-      | inl old ↦ inl old
-      | inr new ↦ inr (hull_row a k n (app.2.sound n new))
-    ],
-    λ h. subst (λ (l : List ℕ). Contains l n) (sym app.1) (elim h [
-      | inl old ↦ Contains-append_left before app.0 n old
-      | inr new ↦ Contains-append_right before app.0 n (app.2.whole n (row_hull a k n new))
-    ]),
+  pub found_near : (a : Label) (k : ℕ) (before after : List ℕ) → Finds (IsInHull a k) entries before after → Gathers (IsNumberWith (λ r. IsFoundIn a r.label k) rows) before after
+  found_near a k before after found n = (
+    λ c. elim ((found n).0 c) [ inl old ↦ inl old | inr new ↦ inr (hull_row a k n new) ],
+    λ h. (found n).1 (elim h [ inl old ↦ inl old | inr new ↦ inr (row_hull a k n new) ]),
   )
 
   -- a row's entries are those with its number

@@ -147,7 +147,7 @@ fn find_near(
     requires kept { IsIndex IsEntryIn rows.now.rows grid.now.entries }
     ensures ok { OnOk result (Gathers (IsNumberWith (λ r. IsFoundIn label.now r.label band) rows.now.rows) out.old out.new) }
 {
-    grid.near(label, band, out)
+    grid.in_hull(label, band, out)
 }
 
 // Numbers, among them those of all labels that the label overlaps in the band and that are active up to

@@ -10,19 +10,16 @@ loop-band-init c = (
   c.band-band.result,
   rw c.min.ensures at c.band-band.ensures.band,
   gathered_new c.args.sought.now.roster.now c.args.sought.now.moves.now c.args.sought.now.low.now c.args.sought.now.edited.at c.args.sought.now.edited.comes c.args.sought.now.place c.band-band.result
-      c.in_ok-moved.moved c.sift.new.out c.in_ok-bound.bound c.in_ok-moved.ensures.whole (rw (c.as_slice.ensures, c.max.ensures, c.new-places.ensures) at c.in_ok-bound.ensures),
+      c.sift_moved.new.out c.in_ok-bound.bound (rw (c.max.ensures, c.new-places.ensures) at c.in_ok-bound.ensures),
 )
 
 pub sift-requires : goal.sift-requires
-sift-requires c = rw c.as_slice.ensures c.in_ok-moved.ensures.within
-
-pub sift-requires-else-apart-2 : goal.sift-requires-else-apart-2
-sift-requires-else-apart-2 c = rw c.as_slice-found.ensures c.in_ok-found.ensures.within
+sift-requires c = rw c.as_slice-found.ensures c.in_ok-found.ensures.within
 
 pub loop-band-preserved : goal.loop-band-preserved
 loop-band-preserved c =
     let i = c.loop-band.invariant in
-    (i.0, i.1, gathered_more c.args.sought.now.roster.now c.args.sought.now.moves.now c.args.sought.now.low.now c.args.sought.now.edited.at c.args.sought.now.edited.comes c.args.sought.now.place i.0 c.loop-band.band c.loop-band.bound c.in_ok-bound-2.bound c.loop-band.places c.sift-else-apart-2.new.out c.in_ok-found.found i.2 c.in_ok-found.ensures (rw c.as_slice-found.ensures at c.in_ok-bound-2.ensures))
+    (i.0, i.1, gathered_more c.args.sought.now.roster.now c.args.sought.now.moves.now c.args.sought.now.low.now c.args.sought.now.edited.at c.args.sought.now.edited.comes c.args.sought.now.place i.0 c.loop-band.band c.loop-band.bound c.in_ok-bound-2.bound c.loop-band.places c.sift.new.out c.in_ok-found.found i.2 c.in_ok-found.ensures (rw c.as_slice-found.ensures at c.in_ok-bound-2.ensures))
 
 pub loop-band-preserved-then-apart-2 : goal.loop-band-preserved-then-apart-2
 loop-band-preserved-then-apart-2 c =
@@ -42,4 +39,4 @@ returns-clause-enough c =
       | then-loop-band-test+else-band-lt28 w ↦ inr w.if-band-lt28.false
       | else-loop-band-test w ↦ inl w.loop-band-test.false
     ] in
-    gathered_enough c.args.sought.now.roster.now c.args.sought.now.moves.now c.args.sought.now.low.now c.args.sought.now.edited.at c.args.sought.now.edited.comes c.args.sought.now.place i.0 c.loop-band.band c.band.result c.loop-band.bound c.loop-band.places c.ascending.result.items i.2 i.1 c.band.ensures.band stop c.ascending.ensures.same
+    gathered_enough c.args.sought.now.roster.now c.args.sought.now.moves.now c.args.sought.now.low.now c.args.sought.now.edited.at c.args.sought.now.edited.comes c.args.sought.now.place i.0 c.loop-band.band c.band.result c.loop-band.bound c.loop-band.places c.ascending.result.items i.2.bands i.1 c.band.ensures.band stop c.ascending.ensures.same

@@ -4,7 +4,7 @@ use Rattle.ml_repair.proofs.Gathering.{sifted_none, sifted_more}
 use Rattle.ml_repair.proofs.gather.sift.Goals as goal
 
 pub loop-place-init : goal.loop-place-init
-loop-place-init c = sifted_none c.args.sought.now.roster.now c.args.sought.now.moves.now c.args.sought.now.low.now c.args.sought.now.edited.at c.args.sought.now.edited.comes c.args.sought.now.place c.args.bound c.args.out.now
+loop-place-init c = sifted_none c.args.sought.now.roster.now c.args.sought.now.moves.now c.args.sought.now.low.now c.args.sought.now.edited.at c.args.sought.now.edited.comes c.args.sought.now.place c.args.found.now c.args.bound c.args.out.now
 
 pub loop-place-preserved : goal.loop-place-preserved
 loop-place-preserved c =

@@ -1,0 +1,29 @@
+use Rattle.std.proofs.Common.{◌<◌, ◌≤◌, ◌⊎◌, inl, inr}
+use Rattle.ml_repair.proofs.Gathering.{gathered_start, gathered_all, gathered_enough}
+use Rattle.ml_repair.proofs.gather.gather_all.Goals as goal
+use Rattle.ml_repair.proofs.gather.gather_all.Goals.{then-loop-band-test+else-band-lt28, else-loop-band-test}
+
+pub loop-band-init : goal.loop-band-init
+loop-band-init c = (
+  c.band-band.result,
+  rw c.min.ensures at c.band-band.ensures.band,
+  rw (c.max-bound.ensures, c.new-places.ensures) (gathered_start c.args.sought.now.roster.now c.args.sought.now.moves.now c.args.sought.now.low.now c.args.sought.now.edited.at c.args.sought.now.edited.comes c.args.sought.now.place c.band-band.result),
+)
+
+pub sift-requires : goal.sift-requires
+sift-requires c = rw c.as_slice.ensures c.in_ok-found.ensures.within
+
+pub loop-band-preserved : goal.loop-band-preserved
+loop-band-preserved c =
+    let i = c.loop-band.invariant in
+    (i.0, i.1, gathered_all c.args.sought.now.roster.now c.args.sought.now.moves.now c.args.sought.now.low.now c.args.sought.now.edited.at c.args.sought.now.edited.comes c.args.sought.now.place i.0 c.loop-band.band c.loop-band.bound c.in_ok-bound.bound c.loop-band.places c.sift.new.out c.in_ok-found.found i.2 c.in_ok-found.ensures (rw c.as_slice.ensures at c.in_ok-bound.ensures))
+
+pub returns-clause-enough : goal.returns-clause-enough
+returns-clause-enough c =
+    let i = c.loop-band.invariant in
+    let stop : (c.band.result < c.loop-band.band) ⊎ (28 ≤ c.loop-band.band) =
+    elim c.loop-band-test.branch [
+      | then-loop-band-test+else-band-lt28 w ↦ inr w.if-band-lt28.false
+      | else-loop-band-test w ↦ inl w.loop-band-test.false
+    ] in
+    gathered_enough c.args.sought.now.roster.now c.args.sought.now.moves.now c.args.sought.now.low.now c.args.sought.now.edited.at c.args.sought.now.edited.comes c.args.sought.now.place i.0 c.loop-band.band c.band.result c.loop-band.bound c.loop-band.places c.ascending.result.items i.2 i.1 c.band.ensures.band stop c.ascending.ensures.same
