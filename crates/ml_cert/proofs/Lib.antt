@@ -7,3 +7,4 @@ mod ReadSoFar
 mod OneVerdict
 mod OneSlots
 mod Nearby
+mod Arranging

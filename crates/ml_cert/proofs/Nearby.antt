@@ -11,7 +11,7 @@ use Rattle.ml_cone.specs.declared.slot.Slot.{Slot}
 use Rattle.ml_conflict.specs.Begin.{SetsNoneUpTo}
 use Rattle.ml_cert.specs.Judged.{IsDue}
 use Rattle.ml_cert.specs.Known.{Known}
-use Rattle.ml_cert.specs.Near.{IsDueAmong, IsDueWith, IsSooner}
+use Rattle.ml_cert.specs.Near.{IsDueAmong, IsDueWith, IsSooner, IsSoonest}
 use Rattle.ml_cert.specs.declared.near.Asked.{Asked}
 use Rattle.ml_cert.proofs.Dues.{ArePair, aside_of, blocker_of}
 
@@ -58,6 +58,10 @@ module _ (low : Label) (labels : List Label) (slots : List Slot) (place : ℕ) (
       (subst (λ (t : Slot). IsLimit low (get_or labels place a) (value_of t.until) f) read_slot limit)
 
 -- ---- more labels
+
+-- of the labels before i that were seen the first that blocks it, if any does
+abbrev IsFirstOf : List Label → Choice → ℕ → (ℕ → Type 0) → Option ℕ → Type 0
+IsFirstOf labels c i seen due = MatchOption due ((k : ℕ) → seen k → k < i → ¬ (Blocks labels c k i)) (λ m. (m < i) × Blocks labels c m i × ((k : ℕ) → seen k → k < m → ¬ (Blocks labels c k i)))
 
 module _ (labels : List Label) (c : Choice) (i : ℕ) where
   -- nothing was seen
@@ -111,6 +115,33 @@ module _ (labels : List Label) (c : Choice) (i : ℕ) where
         elim one [ inl first ↦ subst (λ (q : ℕ). Blocks labels c q i) (sym first) blocks_m | inr second ↦ subst (λ (q : ℕ). Blocks labels c q i) (sym second) blocks ],
         λ k saw lt. elim (either k saw) [ inl old ↦ h k old (omega arith) | inr here ↦ absurd (omega arith) ],
       )
+
+  -- some labels and others were seen
+  pub due_both : (seen others all : ℕ → Type 0) (due other next : Option ℕ) → IsDueAmong labels c i seen due → IsDueAmong labels c i others other → IsSoonest due other next → ((k : ℕ) → all k → seen k ⊎ others k) → IsDueAmong labels c i all next
+  due_both seen others all due other next one two soonest either = record {
+    allowed = λ k saw lt. elim (either k saw) [ inl old ↦ one.allowed k old lt | inr new ↦ two.allowed k new lt ];
+    first = first due other one.first two.first soonest;
+  }
+    where
+      both : (n : ℕ) (due : Option ℕ) (j : ℕ) → IsFirstOf labels c i seen due → (j < i) × Blocks labels c j i × ((k : ℕ) → others k → k < j → ¬ (Blocks labels c k i)) → IsSooner due j n → (n < i) × Blocks labels c n i × ((k : ℕ) → all k → k < n → ¬ (Blocks labels c k i))
+      both n None j h (lt_j, blocks, g) same = (
+        omega arith,
+        subst (λ (m : ℕ). Blocks labels c m i) (sym same) blocks,
+        λ k saw lt. elim (either k saw) [ inl old ↦ h k old (omega arith) | inr new ↦ g k new (omega arith) ],
+      )
+      both n (Some m) j (lt_m, blocks_m, h) (lt_j, blocks, g) (le_m, le_j, which) = (
+        omega arith,
+        elim which [ inl first ↦ subst (λ (q : ℕ). Blocks labels c q i) (sym first) blocks_m | inr second ↦ subst (λ (q : ℕ). Blocks labels c q i) (sym second) blocks ],
+        λ k saw lt. elim (either k saw) [ inl old ↦ h k old (omega arith) | inr new ↦ g k new (omega arith) ],
+      )
+
+      kept : (due : Option ℕ) → IsFirstOf labels c i seen due → ((k : ℕ) → others k → k < i → ¬ (Blocks labels c k i)) → IsFirstOf labels c i all due
+      kept None h g = λ k saw lt. elim (either k saw) [ inl old ↦ h k old lt | inr new ↦ g k new lt ]
+      kept (Some m) (lt_m, blocks, h) g = (lt_m, blocks, λ k saw lt. elim (either k saw) [ inl old ↦ h k old lt | inr new ↦ g k new (omega arith) ])
+
+      first : (due other : Option ℕ) → IsFirstOf labels c i seen due → IsFirstOf labels c i others other → IsSoonest due other next → IsFirstOf labels c i all next
+      first due None h g same = subst (IsFirstOf labels c i all) (sym same) (kept due h g)
+      first due (Some j) h g (n, is, sooner) = subst (IsFirstOf labels c i all) (sym is) (both n due j h g sooner)
 
   -- all labels before were seen
   pub due_of_all : (due : Option ℕ) → IsDueAmong labels c i (λ j. j < i) due → IsDue labels c i i due

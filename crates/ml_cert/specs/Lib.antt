@@ -3,3 +3,4 @@ pub mod SlotLine
 pub mod SlotsText
 pub mod Near
 pub mod Known
+pub mod Strips

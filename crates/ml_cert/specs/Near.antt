@@ -22,6 +22,10 @@ pub record IsDueAmong (labels : List Label) (c : Choice) (i : ℕ) (seen : ℕ �
 abbrev pub IsSooner : Option ℕ → ℕ → ℕ → Type 0
 IsSooner due j n = MatchOption due (n ≡ j) (λ m. (n ≤ m) × (n ≤ j) × ((n ≡ m) ⊎ (n ≡ j)))
 
+-- the next is the sooner of what was due and what is due by others
+abbrev pub IsSoonest : Option ℕ → Option ℕ → Option ℕ → Type 0
+IsSoonest due other next = MatchOption other (next ≡ due) (λ j. (n : ℕ) × (next ≡ Some n) × IsSooner due j n)
+
 -- with the label at j the next is due after `due`
 pub record IsDueWith (labels : List Label) (c : Choice) (i j : ℕ) (due next : Option ℕ) : Type 0 where
   pub allowed : j < i → AllowsAt labels c j i

@@ -2,13 +2,14 @@
 ghost use Rattle.std.specs.Prelude.{◌≡◌, ◌<◌, length, IfSome, MatchResult};
 ghost use Rattle.ml_cone.specs.Slots.{ends};
 ghost use Rattle.ml_cone.specs.Sound.{HasGoodEnd};
-ghost use Rattle.ml_conflict.specs.Field.{IsFieldOf};
 ghost use Rattle.ml_cert.specs.Judged.{IsDue, IsClash};
+ghost use Rattle.ml_cert.specs.Strips.{IsFieldOf};
 
 use crate::known::known_limits;
-use crate::near::{Asked, Field};
+use crate::near::Asked;
+use crate::strip::Field;
 use ml_cone::{Label, Site, Slot};
-use ml_conflict::limit_up_to;
+use ml_conflict::{Area, limit_up_to};
 use ml_ratio::Ratio;
 
 /// The first label before `i` that blocks it, where all labels before it allow its end; else the
@@ -22,7 +23,7 @@ pub fn blocker_due(
     i: usize,
 ) -> Result<Option<usize>, (usize, Ratio)>
     requires lengths { length slots.now ≡ length labels.now }
-    requires field { IfSome field (λ f. IsFieldOf labels.now f.spots.now f.reach) }
+    requires field { IfSome field (λ f. IsFieldOf labels.now slots.now f.spots.now f.strips.now) }
     requires at { i < length labels.now }
     requires end { HasGoodEnd labels.now (ends slots.now) i }
     ensures { MatchResult result
@@ -41,7 +42,7 @@ pub fn blocker_due(
 // where one may refuse it.
 fn due_near(labels: &[Label], slots: &[Slot], field: Field<'_>, i: usize) -> Option<Option<usize>>
     requires lengths { length slots.now ≡ length labels.now }
-    requires field { IsFieldOf labels.now field.spots.now field.reach }
+    requires field { IsFieldOf labels.now slots.now field.spots.now field.strips.now }
     requires at { i < length labels.now }
     requires end { HasGoodEnd labels.now (ends slots.now) i }
     ensures { IfSome result (λ due. IsDue labels.now (ends slots.now) i i due) }
@@ -53,6 +54,7 @@ fn due_near(labels: &[Label], slots: &[Slot], field: Field<'_>, i: usize) -> Opt
         place: i,
         low,
         site: Site::of(low),
+        area: Area::of(low),
         until: slots[i].until,
     };
     asked.due(&field)

@@ -8,6 +8,7 @@
 //!   `slot_line`: one line of it, and [`places`]: where each id stands.
 #![tactic(auto)]
 
+mod arrange;
 mod due;
 mod fault;
 mod judge;
@@ -18,6 +19,7 @@ pub mod places;
 mod slot_line;
 mod slots_text;
 mod stance;
+mod strip;
 mod verdict;
 
 pub use fault::SlotsFault;

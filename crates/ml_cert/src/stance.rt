@@ -1,5 +1,5 @@
 //! What labels say of the end of another.
-ghost use Rattle.ml_cert.specs.Near.{IsSooner};
+ghost use Rattle.ml_cert.specs.Near.{IsSooner, IsSoonest};
 
 /// What a label says of the end of another.
 #[derive(Clone, Copy)]
@@ -19,5 +19,15 @@ pub fn sooner(due: Option<usize>, place: usize) -> usize
     match due {
         Some(first) if first < place => first,
         _ => place,
+    }
+}
+
+/// The sooner of what was due and what is due by others.
+pub fn soonest(due: Option<usize>, other: Option<usize>) -> Option<usize>
+    ensures { IsSoonest due other result }
+{
+    match other {
+        None => due,
+        Some(place) => Some(sooner(due, place)),
     }
 }
