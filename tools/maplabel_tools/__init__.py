@@ -1,1 +1,1 @@
-"""What the tools share: finding and asking the program, maps, styles, fonts, zooms, faults and files."""
+"""What the tools for makers of maps share: fonts, making styles, places of names, the report."""

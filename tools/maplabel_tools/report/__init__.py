@@ -1,1 +1,1 @@
-"""What the engine made of a map: the survey, what else is silent, and how both are told."""
+"""The report on a map under a style."""
