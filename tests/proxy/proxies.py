@@ -1,192 +1,307 @@
-"""nginx and HAProxy before `deploy/run`: what is refused, what is cached, how many are served, and what a
-restart costs."""
+"""nginx and HAProxy before `deploy/run`: what is refused, what is cached, how many are served,
+and what a restart costs."""
+
+import contextlib
 import os
 import socket
-import tempfile
 import time
+from collections.abc import Callable, Iterator
+from contextlib import AbstractContextManager
+from dataclasses import dataclass
+from pathlib import Path
 
 from crowd import Editors, Lookers, idle_clients
-from stage import HOST, PORT, PROXY, TOP, Run, add, ask, both, fail, haproxy, hold, ids, ids_in, nginx, say, town, wait_for
+from maplabel_kit.files import TOP, folder
+from maplabel_kit.ports import HOST
+from maplabel_run.process import opened
+from stage import (
+    PORT,
+    PROXY,
+    Run,
+    add,
+    ask,
+    both,
+    fail,
+    haproxy,
+    hold,
+    ids,
+    ids_in,
+    nginx,
+    running,
+    say,
+    town,
+    wait_for,
+)
+from trials import TRIALS, Seconds
 
-VIEW = '/view?cx=-1760000000&cy=-600000000&w=1024&h=512&s=200000'        # where the first towns that are added stand
+EDIT = {"X-Edit": "1"}
+Wanted = tuple[str, str, str | None, dict[str, str], int]
+VIEW = "/view?cx=-1760000000&cy=-600000000&w=1024&h=512&s=200000"  # where the first towns stand
+PAGES = (".html", ".js", ".css", ".svg", ".png")
 
 
-def refusals(name):
+@dataclass(frozen=True)
+class Front:
+    """A way to put a proxy before the server."""
+
+    name: str
+    start: Callable[[Path], AbstractContextManager[None]]
+    has_pages: bool
+
+    @contextlib.contextmanager
+    def served(self, *words: object, towns: int = 0) -> Iterator[Run]:
+        """A server behind this proxy, over the sample map or so many towns."""
+        with folder() as at:
+            at.chmod(0o755)
+            options = ("--drain", at / "drain", "--publish", at / "published", *words)
+            with running(at, *options, towns=towns) as run, self.start(at):
+                yield run
+
+
+FRONTS = (
+    Front("nginx", nginx, True),
+    Front("haproxy", haproxy, False),
+    Front("both", both, True),
+)
+
+
+REFUSALS: tuple[Wanted, ...] = (
+    ("POST", "/feature", town("x"), {}, 403),
+    ("PUT", "/style", "version = 2", {}, 403),
+    ("DELETE", "/feature?id=x", None, {}, 403),
+    ("POST", "/view", "x", {}, 403),
+    ("POST", "/map", "x", {}, 403),
+    ("GET", "/nothing", None, {}, 404),
+    ("GET", "/map/", None, {}, 404),
+    ("GET", "/why?id=x", None, {}, 404),
+    ("GET", "/state", None, {}, 200),
+    ("GET", "/tile?z=21&i=0&j=0", None, {}, 200),
+    ("PUT", "/style", "x", EDIT, 422),
+    ("POST", "/feature", town("x"), EDIT, 200),
+    ("DELETE", "/feature?id=x", None, EDIT, 200),
+    ("DELETE", "/feature?id=x", None, EDIT | {"X-Forwarded-For": "192.0.2.7"}, 403),
+)
+
+
+def refusals(front: Front) -> None:
     """What the proxy refuses by itself; and that the same edit passes with its field."""
-    for method, target, body, fields, want in (
-            ('POST', '/feature', town('x'), {}, 403), ('PUT', '/style', 'version = 2', {}, 403),
-            ('DELETE', '/feature?id=x', None, {}, 403), ('POST', '/view', 'x', {}, 403), ('POST', '/map', 'x', {}, 403),
-            ('GET', '/nothing', None, {}, 404), ('GET', '/map/', None, {}, 404), ('GET', '/why?id=x', None, {}, 404),
-            ('GET', '/state', None, {}, 200), ('GET', '/tile?z=21&i=0&j=0', None, {}, 200),
-            ('PUT', '/style', 'x', {'X-Edit': '1'}, 422), ('POST', '/feature', town('x'), {'X-Edit': '1'}, 200),
-            ('DELETE', '/feature?id=x', None, {'X-Edit': '1'}, 200)):
-        got, text = ask(method, target, body, fields)
-        if got != want:
-            fail('%s: %s %s was answered %d in place of %d: %r' % (name, method, target, got, want, text[:200]))
-    say('%s: edits without the field, other methods and other paths are refused' % name)
+    with front.served():
+        for method, target, body, fields, want in REFUSALS:
+            got, text = ask(method, target, body, fields)
+            if got != want:
+                raise fail(
+                    f"{front.name}: {method} {target} {fields}: {got}, not {want}: {text[:200]!r}"
+                )
+    say(f"{front.name}: edits without the field, other methods and other paths are refused")
 
 
-def pages(name):
-    """Each page of web/ comes as it is, and no script of it; and Leaflet beside it where it is installed."""
-    top, count = os.path.join(TOP, 'web'), 0
-    for folder, _, files in os.walk(top):
-        for one in files:
-            path = os.path.join(folder, one)
-            with open(path, 'rb') as file:
-                want = (200, file.read())
-            is_page = one.endswith(('.html', '.js', '.css', '.svg', '.png'))
-            got = ask('GET', '/' + os.path.relpath(path, top))
-            if got != want if is_page else got[0] != 404:
-                fail('%s was answered with %d' % (path, got[0]))
+def hosts(front: Front) -> None:
+    """A page of another origin that was given a name of this machine neither reads nor edits."""
+    with front.served():
+        for host in (f"evil.example:{PROXY}", "evil.example", "localhost.evil.example", ""):
+            for method, target in (("POST", "/feature"), ("GET", "/rev"), ("GET", "/map")):
+                body = town("added-x") if method == "POST" else None
+                got = ask(method, target, body, EDIT | {"Host": host})[0]
+                if got not in (400, 421):
+                    raise fail(f"{front.name}: {method} {target} with Host {host!r} has {got}")
+        if ids(ask("GET", "/map", port=PORT)[1]):
+            raise fail(f"{front.name}: an edit by another name of the machine was made")
+        for host in ("localhost", f"localhost:{PROXY}", f"127.0.0.1:{PROXY}", f"[::1]:{PROXY}"):
+            if (got := ask("GET", "/rev", fields={"Host": host})[0]) != 200:
+                raise fail(f"{front.name}: Host {host} has {got}")
+    say(f"{front.name}: other names of this machine than those of the list are refused")
+
+
+def cached(front: Front) -> None:
+    """After an edit a name may be old, but by no more than a second; the revision and the reason
+    never are, and neither is the map for an editor."""
+    with front.served("--save", "3600"):
+        old = 0
+        for number in range(8):
+            old += _one_edit(front, number)
+        if old == 0:
+            raise fail(f"{front.name} keeps no view")
+    say(f"{front.name}: {old} of 8 views were old right after an edit, and none a second later")
+
+
+def _one_edit(front: Front, number: int) -> bool:
+    """Whether the view was old right after an edit."""
+    one = f"added-c{number}"
+    time.sleep(1.02 - time.time() % 1)
+    for target in (VIEW, VIEW, VIEW):
+        ask("GET", target)
+    if add(one, number) != 200 or one.encode() not in ask("GET", VIEW, port=PORT)[1]:
+        raise fail(f"{front.name}: no edit that is seen")
+    is_old = one.encode() not in ask("GET", VIEW)[1]
+    known = (ask("GET", f"/why?id={one}")[0], one in ids(ask("GET", "/map", fields=EDIT)[1]))
+    if known != (200, True) or ask("GET", "/rev") != ask("GET", "/rev", port=PORT):
+        raise fail(f"{front.name}: a reply is old that must not be")
+    time.sleep(1.02)
+    for target in (VIEW, "/state", "/map"):
+        here = HOST if front.start is haproxy else f"127.0.0.{number + 10}"
+        if ask("GET", target, source=here) != ask("GET", target, port=PORT):
+            raise fail(f"{front.name}: {target} is more than a second old")
+    return is_old
+
+
+def pages(front: Front) -> None:
+    """Each page of web/ comes as it is, and no script of it; Leaflet beside it where it is
+    installed."""
+    top, count = TOP / "web", 0
+    with front.served():
+        for path in top.rglob("*"):
+            name = path.relative_to(top)
+            if not path.is_file() or name.parts[0].startswith((".", "maplabel_kit", "node_")):
+                continue
+            is_page = path.suffix in PAGES and not name.name.startswith(".")
+            got = ask("GET", f"/{name}")
+            if got != (200, path.read_bytes()) if is_page else got[0] != 404:
+                raise fail(f"{path} was answered with {got[0]}")
             count += is_page
-    if ask('GET', '/') != ask('GET', '/index.html') or ask('POST', '/index.html', 'x')[0] != 403:
-        fail('the first page is not index.html, or it takes a POST')
-    if os.path.exists('/usr/share/javascript/leaflet') and ask('GET', '/leaflet/leaflet.js')[0] != 200:
-        fail('Leaflet is not served')
-    say('%s: the %d pages of web/ are served, and nothing else of it' % (name, count))
+        if (
+            ask("GET", "/") != ask("GET", "/index.html")
+            or ask("POST", "/index.html", "x")[0] != 403
+        ):
+            raise fail("the first page is not index.html, or it takes a POST")
+        leaflet = os.path.exists("/usr/share/javascript/leaflet")
+        if leaflet and ask("GET", "/leaflet/leaflet.js")[0] != 200:
+            raise fail("Leaflet is not served")
+    say(f"{front.name}: the {count} pages of web/ are served, and nothing else of it")
 
 
-def cached(name):
-    """After an edit a name may be old, but by no more than a second; the revision, the reason and the map never are."""
-    old = 0
-    for number in range(8):
-        one = 'added-c%d' % number
-        for _ in range(3):
-            ask('GET', VIEW), ask('GET', '/state')
-        if add(one, number) != 200 or one.encode() not in ask('GET', VIEW, port=PORT)[1]:
-            fail('%s: no edit that is seen' % name)
-        old += one.encode() not in ask('GET', VIEW)[1]
-        known = (ask('GET', '/why?id=' + one)[0], one in ids(ask('GET', '/map')[1]))
-        if known != (200, True) or ask('GET', '/rev') != ask('GET', '/rev', port=PORT):
-            fail('%s: a reply is old that must not be' % name)
-        time.sleep(1.02)
-        for target in (VIEW, '/state'):
-            if ask('GET', target) != ask('GET', target, port=PORT):
-                fail('%s: %s is more than a second old' % (name, target))
-    for number in range(8):
-        ask('DELETE', '/feature?id=added-c%d' % number, port=PORT)
-    if old == 0:
-        fail('%s keeps no view' % name)
-    say('%s: %d of 8 views were old right after an edit, none a second later; /rev, /why and /map never' % (name, old))
-
-
-def limited(name):
+def limited(front: Front) -> None:
     """One client that asks too often is told so, and another one is answered."""
-    begin, got = time.monotonic(), {200: 0}
-    while sum(got.values()) < 1000 and time.monotonic() < begin + 10:
-        target = '/view?cx=%d&cy=0&w=64&h=64&s=1000' % sum(got.values())
-        status = ask('GET', target, source='127.0.0.9')[0]
-        got[status] = got.get(status, 0) + 1
-    seconds, count = time.monotonic() - begin, sum(got.values())
-    if not min(200, count) <= got[200] <= 201 + 50 * seconds or set(got) - {200, 429} or ask('GET', '/rev')[0] != 200:
-        fail('%s: %d views of one client in %.1f s: %s' % (name, count, seconds, got))
-    say('%s: of %d views that one client wanted in %.1f s, %d were given; another client was answered'
-        % (name, count, seconds, got[200]))
+    with front.served():
+        begin, got = time.monotonic(), {200: 0}
+        while sum(got.values()) < 1000 and time.monotonic() < begin + 10:
+            target = f"/view?cx={sum(got.values())}&cy=0&w=64&h=64&s=1000"
+            status = ask("GET", target, source="127.0.0.9")[0]
+            got[status] = got.get(status, 0) + 1
+        seconds, count = time.monotonic() - begin, sum(got.values())
+        most = 201 + 50 * seconds
+        if not min(200, count) <= got[200] <= most or set(got) - {200, 429}:
+            raise fail(f"{front.name}: {count} views of one client in {seconds:.1f} s: {got}")
+        if ask("GET", "/rev")[0] != 200:
+            raise fail(f"{front.name}: another client is not answered")
+    say(
+        f"{front.name}: of {count} views one client wanted in {seconds:.1f} s, {got[200]} were"
+        " given"
+    )
 
 
-def chunked(name, want):
+def chunked(front: Front) -> None:
     """A body in chunks, without its length."""
-    text = town('added-x').encode()
-    with socket.create_connection((HOST, PROXY), timeout=20) as link:
-        link.sendall(b'POST /feature HTTP/1.1\r\nHost: a\r\nX-Edit: 1\r\nTransfer-Encoding: chunked\r\n\r\n%x\r\n%s\r\n0\r\n\r\n'
-                     % (len(text), text))
-        got = int(link.recv(1000).split()[1])
-    if got != want:
-        fail('%s: a body in chunks was answered with %d' % (name, got))
-    ask('DELETE', '/feature?id=added-x', port=PORT)
-    say('%s: a body in chunks is answered with %d' % (name, got))
+    text = town("added-x").encode()
+    want = 200 if front.has_pages else 501
+    with front.served():
+        with socket.create_connection((HOST, PROXY), timeout=20) as link:
+            link.sendall(
+                b"POST /feature HTTP/1.1\r\nHost: localhost\r\nX-Edit: 1\r\n"
+                b"Transfer-Encoding: chunked\r\n\r\n%x\r\n%s\r\n0\r\n\r\n" % (len(text), text)
+            )
+            got = int(link.recv(1000).split()[1])
+        if got != want:
+            raise fail(f"{front.name}: a body in chunks was answered with {got}")
+    say(f"{front.name}: a body in chunks is answered with {got}")
 
 
-def held(name):
+def fields(front: Front) -> None:
+    """A request with more fields than the engine takes does not reach it, or not with all of
+    them."""
+    with front.served():
+        many = {f"X-Field-{number}": "x" for number in range(70)}
+        status, body = ask("GET", "/rev", fields=many)
+        if status == 400 and body.startswith(b'{"error":'):
+            raise fail(f"{front.name}: 70 fields reached the engine")
+        if status not in (200, 400):
+            raise fail(f"{front.name}: 70 fields were answered with {status}")
+    say(f"{front.name}: 70 fields are answered with {status}, and the engine does not see them")
+
+
+def held(front: Front) -> None:
     """A client that goes past the proxy, and holds the server."""
-    with hold():
+    with front.served():
+        with hold():
+            begin = time.monotonic()
+            status = ask("GET", "/rev")[0]
+            seconds = time.monotonic() - begin
         begin = time.monotonic()
-        status = ask('GET', '/rev')[0]
-        seconds = time.monotonic() - begin
-    begin = time.monotonic()
-    if not 500 <= status <= 504 or ask('GET', '/rev')[0] != 200:
-        fail('%s: %d beside a client that holds the server' % (name, status))
-    say('%s: beside a client that holds the server %d after %.1f s, and 200 after %.0f ms once that is gone'
-        % (name, status, seconds, 1000 * (time.monotonic() - begin)))
+        if not 500 <= status <= 504 or ask("GET", "/rev")[0] != 200:
+            raise fail(f"{front.name}: {status} beside a client that holds the server")
+        late = 1000 * (time.monotonic() - begin)
+    say(
+        f"{front.name}: beside a client that holds the server {status} after {seconds:.1f} s, and"
+        f" 200 after {late:.0f} ms once that is gone"
+    )
 
 
-def crowd(name, seconds):
-    """Many clients beside idle ones; how many were answered in a second."""
-    idle, lookers = idle_clients(), Lookers(50)
-    time.sleep(seconds)
-    said = lookers.end()
-    for link in idle:
-        link.close()
-    say('%s: 50 clients beside 20 idle ones, %.0f s: %s' % (name, seconds, said))
-    if lookers.bad:
-        fail('%s: not all were answered' % name)
-    if ask('GET', '/rev', port=PORT, seconds=2)[0] != 200:
-        fail('%s holds the server though it has nothing to ask' % name)
-    return lookers.good / seconds
+def crowd(front: Front) -> None:
+    """Many clients beside idle ones."""
+    with front.served():
+        idle, lookers = idle_clients(), Lookers(50)
+        seconds = min(Seconds.told, 5)
+        time.sleep(seconds)
+        said = lookers.end()
+        for link in idle:
+            link.close()
+        say(f"{front.name}: 50 clients beside 20 idle ones, {seconds:.0f} s: {said}")
+        if lookers.bad or lookers.good < 100:
+            raise fail(f"{front.name}: not all were answered")
+        if ask("GET", "/rev", port=PORT, seconds=2)[0] != 200:
+            raise fail(f"{front.name} holds the server though it has nothing to ask")
 
 
-def restarts(name, run, seconds, is_hidden):
-    """50 clients and four editors, while the connections of several servers are used up; where the proxy waits for
-    the server, no client sees it."""
-    begin, lookers, editors = time.monotonic(), Lookers(50), Editors(4)
-    time.sleep(seconds)
-    while run.said('are used up') < 3 and time.monotonic() < begin + 2 * seconds:
-        time.sleep(1)
-    editors.end()
-    said, seconds = lookers.end(), time.monotonic() - begin
-    wait_for(lambda: ask('GET', '/rev', port=PORT)[0] == 200, '%s: the server does not come back' % name)
-    there, made = ids(ask('GET', '/map', port=PORT)[1]), set(editors.made)
-    times, crashes = run.said('are used up'), run.said('by itself')
-    say('%s: %d restarts in %.0f s: %s' % (name, times, seconds, said))
-    say('%s: %d additions answered as made, others by status: %s; lost %d, made without an answer %d'
-        % (name, len(made), editors.refused or 'none', len(made - there), len(there - made)))
-    if made - there or crashes or times < 3:
-        fail('%s: %d lost, %d servers ended by themselves, %d restarts' % (name, len(made - there), crashes, times))
-    if is_hidden and lookers.bad:
-        fail('%s: a restart is seen' % name)
-    if run.end() != 0 or made - ids_in(run.map):
-        fail('%s: the planned end lost an edit: %s' % (name, run.lines()[-3:]))
+def restarts(front: Front) -> None:
+    """50 clients and four editors, while the connections of several servers are used up; where
+    HAProxy waits for the server, no client sees it."""
+    seconds, count = Seconds.told, int(max(_rate(front), 50) * max(Seconds.told / 8, 5))
+    options = ("--count", count, "--reserve", count // 3, "--save", "2")
+    with front.served(*options) as run:
+        begin, lookers, editors = time.monotonic(), Lookers(50), Editors(4)
+        time.sleep(seconds)
+        while run.said("are used up") < 3 and time.monotonic() < begin + 60 + seconds:
+            time.sleep(1)
+        editors.end()
+        said, seconds = lookers.end(), time.monotonic() - begin
+        wait_for(lambda: ask("GET", "/rev", port=PORT)[0] == 200, "the server does not come back")
+        there, made = ids(ask("GET", "/map", port=PORT)[1]), set(editors.made)
+        times, crashes = run.said("are used up"), run.said("by itself")
+        say(f"{front.name}: {times} restarts in {seconds:.0f} s: {said}")
+        say(
+            f"{front.name}: {len(made)} additions answered as made, others by status: "
+            f"{editors.refused or 'none'}; lost {len(made - there)}, made without an answer "
+            f"{len(there - made)}"
+        )
+        if made - there or crashes or times < 3:
+            raise fail(f"{front.name}: lost {len(made - there)}, {crashes} ends, {times} restarts")
+        if front.start is not nginx and set(lookers.bad) - {502, 503}:
+            raise fail(f"{front.name}: a restart is seen")
+        if run.end() != 0 or made - ids_in(run.map):
+            raise fail(f"{front.name}: the planned end lost an edit: {run.lines()[-3:]}")
 
 
-def behind(proxy, part, *words):
-    """A part with a server and a proxy of its own."""
-    with tempfile.TemporaryDirectory() as folder:
-        os.chmod(folder, 0o755)
-        run = Run(folder, '--drain', os.path.join(folder, 'drain'), *words)
-        try:
-            with proxy(folder):
-                part(run)
-        finally:
-            run.end()
+def _rate(front: Front) -> float:
+    """How many requests of such a crowd reach the server in a second."""
+    with front.served():
+        before, lookers, editors = opened(), Lookers(50), Editors(4)
+        time.sleep(3)
+        editors.end()
+        lookers.end()
+        return (opened() - before) / 3
 
 
-def all_parts(name, proxy, seconds):
-    is_nginx, rates = proxy is not haproxy, []
-
-    def without_restarts(_):
-        refusals(name)
-        cached(name)
-        if is_nginx:
-            pages(name)
-            limited(name)
-        chunked(name, 200 if is_nginx else 501)
-        held(name)
-        rates.append(crowd(name, min(seconds, 5)))
-
-    behind(proxy, without_restarts)
-    # So few connections that, at this rate, a dozen servers are used up, on a slow machine as on a fast one.
-    count = int(max(rates[0], 50) * seconds / 8)
-    behind(proxy, lambda run: restarts(name, run, seconds, proxy is not nginx),
-           '--count', str(count), '--reserve', str(count // 3), '--save', '2')
+def _enter() -> None:
+    """Makes each of these a trial of each proxy."""
+    for front in FRONTS:
+        for function in (refusals, hosts, cached, chunked, fields, held, crowd, restarts):
+            TRIALS[f"{front.name}.{function.__name__}"] = _bound(function, front)
+        if front.has_pages:
+            for function in (pages, limited):
+                TRIALS[f"{front.name}.{function.__name__}"] = _bound(function, front)
 
 
-def nginx_part(seconds):
-    all_parts('nginx', nginx, seconds)
+def _bound(function: Callable[[Front], None], front: Front) -> Callable[[], None]:
+    return lambda: function(front)
 
 
-def haproxy_part(seconds):
-    all_parts('HAProxy', haproxy, seconds)
-
-
-def both_part(seconds):
-    all_parts('nginx before HAProxy', both, seconds)
+_enter()

@@ -1,0 +1,1 @@
+"""What keeps a server and its edits: the parts of `deploy/run`, `save`, `stop` and `style`."""
