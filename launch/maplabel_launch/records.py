@@ -1,20 +1,26 @@
-"""What is done: beside what was built of a crate stands the sum of the text that it was proved as."""
+"""What is done: beside what was built of a crate stands the sum of the text that it was proved
+as.
+"""
 
 import hashlib
 import os
 
-import compiler
+from maplabel_launch import compiler
+from maplabel_launch.crates import Crate
 
 # What the crate's check took, in its folder.
 SECONDS = "out/seconds"
 
 
-def file_of(crate):
+def file_of(crate: Crate) -> str:
+    """The place of the record."""
     return f"{crate.folder}/out/proved"
 
 
-def built(crate):
-    """What tells that nothing replaced what was built of a crate, or none where there is nothing."""
+def built(crate: Crate) -> str | None:
+    """What tells that nothing replaced what was built of a crate, or none where there is
+    nothing.
+    """
     try:
         if not crate.is_program:
             return str(os.stat(compiler.library_of(crate)).st_mtime_ns)
@@ -24,7 +30,7 @@ def built(crate):
         return None
 
 
-def is_done(crate, digest):
+def is_done(crate: Crate, digest: str) -> bool:
     """Whether what stands in the crate's out/ was built from this text."""
     made = built(crate)
     try:
@@ -34,19 +40,19 @@ def is_done(crate, digest):
         return False
 
 
-def note(crate, digest):
+def note(crate: Crate, digest: str) -> None:
     """Notes that what stands in the crate's out/ was built from this text."""
     with open(file_of(crate), "w", encoding="utf-8") as file:
         file.write(f"{digest} {built(crate)}\n")
 
 
-def note_seconds(crate, seconds):
+def note_seconds(crate: Crate, seconds: float) -> None:
     """Notes how many seconds of one processor the crate's check took."""
     with open(f"{crate.folder}/{SECONDS}", "w", encoding="utf-8") as file:
         file.write(f"{seconds:.1f}\n")
 
 
-def seconds(crate):
+def seconds(crate: Crate) -> float:
     """How many seconds of one processor the crate's check took."""
     with open(f"{crate.folder}/{SECONDS}", encoding="utf-8") as file:
         return float(file.read())
