@@ -1,125 +1,170 @@
-"""The engine over a map, and the pages in front of it."""
+"""The engine over a map, the pages in front of it, nginx before both, and files that any host
+serves.
+"""
+
+import functools
+import http.server
 import json
 import os
-import subprocess
+import signal
 import tempfile
+import threading
 import time
 import urllib.request
+from pathlib import Path
+from typing import Any
 
 from chromium import Fault
+from maplabel_kit.files import TOP
+from maplabel_kit.ports import free_port
+from maplabel_kit.server import Child, Server
 
-TOP = os.path.dirname(os.path.dirname(os.path.dirname(os.path.abspath(__file__))))
-DATA = os.path.join(TOP, 'crates', 'maplabel', 'data')
-STYLE, WORLD = os.path.join(DATA, 'world.toml'), os.path.join(DATA, 'world.geojson')
-WEB = os.path.join(TOP, 'web')
-
-
-def started(words):
-    """A server and its first line; tried again for some seconds where its port is another's for a moment."""
-    for _ in range(20):
-        process = subprocess.Popen(words, stdout=subprocess.PIPE, stderr=subprocess.DEVNULL)
-        line = process.stdout.readline()
-        if line and line != b'door fault\n':
-            break
-        process.wait()
-        process.stdout.close()
-        time.sleep(0.5)
-    return process, line
+DATA = TOP / "crates" / "maplabel" / "data"
+STYLE, WORLD = DATA / "world.toml", DATA / "world.geojson"
+WEB = TOP / "web"
 
 
 class Engine:
-    """`serve` over a map."""
+    """`serve` over a map, which can be ended and started again at its port."""
 
-    def __init__(self, program, port, style=STYLE, map_file=WORLD):
-        self.words, self.port = [program, 'serve', style, map_file, str(port), '1000000'], port
-        self.start()
+    def __init__(
+        self,
+        program: str | Path,
+        port: int | None = None,
+        style: str | Path = STYLE,
+        map_file: str | Path = WORLD,
+    ) -> None:
+        self.program = str(program)
+        self.style, self.map_file = style, map_file
+        self.server = Server(program, style, map_file, port)
+        self.port = self.server.port
 
-    def start(self):
-        self.process, line = started(self.words)
-        if line != b'ready\n':
-            raise Fault('the engine is not ready: %s' % line.decode().strip())
+    def start(self) -> None:
+        """Starts it again, at the port that it had."""
+        self.server = Server(self.program, self.style, self.map_file, self.port, patience=20)
 
-    def end(self):
-        self.process.terminate()
-        self.process.wait()
-        self.process.stdout.close()
+    def end(self) -> None:
+        self.server.end()
 
-    def __enter__(self):
+    def __enter__(self) -> "Engine":
         return self
 
-    def __exit__(self, *_):
+    def __exit__(self, *_: object) -> None:
         self.end()
 
 
 class Pages:
     """`web/serve` in front of an engine."""
 
-    def __init__(self, engine, port):
-        self.port, self.base = port, 'http://127.0.0.1:%d' % port
-        self.process, line = started([os.path.join(WEB, 'serve'), '--engine', str(engine), '--port', str(port)])
-        if not line:
-            raise Fault('web/serve does not start at port %d' % port)
+    def __init__(self, engine: int | Engine, port: int | None = None, *words: object) -> None:
+        self.port = port or free_port()
+        self.base = f"http://127.0.0.1:{self.port}"
+        if isinstance(engine, Engine):
+            self.engine = engine
+        number = engine.port if isinstance(engine, Engine) else engine
+        command = [WEB / "serve", "--engine", number, "--port", self.port, *words]
+        self.child = Child(command)
+        if not self.child.first_line():
+            raise Fault(f"web/serve does not start at port {self.port}")
 
-    def ask(self, path, method='GET', body=None):
+    def ask(self, path: str, method: str = "GET", body: bytes | None = None) -> Any:
         """The JSON value of a reply."""
-        request = urllib.request.Request(self.base + path, body, {'X-Edit': '1'}, method=method)
+        request = urllib.request.Request(self.base + path, body, {"X-Edit": "1"}, method=method)
         with urllib.request.urlopen(request, timeout=20) as reply:
             return json.load(reply)
 
-    def connections(self):
+    def connections(self) -> int:
         """How many connections clients have to these pages."""
-        with open('/proc/net/tcp') as file:
-            lines = [line.split() for line in list(file)[1:]]
-        return sum(near.endswith(':%04X' % self.port) and state == '01' for _, near, _, state, *_ in lines)
+        lines = [line.split() for line in Path("/proc/net/tcp").read_text().splitlines()[1:]]
+        return sum(words[1].endswith(f":{self.port:04X}") and words[3] == "01" for words in lines)
 
-    def end(self):
-        self.process.terminate()
-        self.process.wait()
-        self.process.stdout.close()
+    def end(self) -> None:
+        self.child.end()
 
-    def __enter__(self):
+    def __enter__(self) -> "Pages":
         return self
 
-    def __exit__(self, *_):
+    def __exit__(self, *_: object) -> None:
         self.end()
 
 
 class Nginx(Pages):
     """nginx in front of an engine, as deploy/nginx.conf has it, with other ports and folders."""
 
-    def __init__(self, engine, port):
-        self.port, self.base, self.engine = port, 'http://127.0.0.1:%d' % port, engine
-        self.folder = tempfile.TemporaryDirectory(prefix='maplabel-nginx-')
-        os.chmod(self.folder.name, 0o711)                   # nginx's workers are others
-        site, main = (os.path.join(self.folder.name, name) for name in ('site.conf', 'nginx.conf'))
-        with open(os.path.join(TOP, 'deploy', 'nginx.conf')) as file:
-            text = file.read()
-        for here, there in (('/opt/maplabel/web', WEB), ('8080', str(port)), ('47101', str(port + 1)), ('47100', str(engine.port)),
-                            ('/var/lib/nginx/maplabel', self.folder.name + '/cache')):
+    def __init__(self, engine: Engine) -> None:
+        self.port, self.engine = free_port(), engine
+        self.base = f"http://127.0.0.1:{self.port}"
+        self.folder = tempfile.TemporaryDirectory(prefix="maplabel-nginx-")
+        at = Path(self.folder.name)
+        at.chmod(0o711)  # nginx's workers are others
+        text = (TOP / "deploy" / "nginx.conf").read_text(encoding="utf-8")
+        for here, there in (
+            ("/opt/maplabel", str(TOP)),
+            ("8080", str(self.port)),
+            ("47101", str(free_port())),
+            ("47100", str(engine.port)),
+            ("/var/lib/nginx/maplabel", f"{at}/cache"),
+        ):
             text = text.replace(here, there)
-        with open(site, 'w') as file:
-            file.write(text)
-        kinds = ('client_body', 'proxy', 'fastcgi', 'uwsgi', 'scgi')
-        with open(main, 'w') as file:
-            folders = ' '.join('%s_temp_path %s/%s;' % (kind, self.folder.name, kind) for kind in kinds)
-            file.write('daemon off; pid %s/pid; events {} http { include /etc/nginx/mime.types; access_log off; %s include %s; }\n'
-                       % (self.folder.name, folders, site))
-        self.process = subprocess.Popen(['nginx', '-e', os.path.join(self.folder.name, 'errors'), '-c', main],
-                                        stdout=subprocess.PIPE, stderr=subprocess.DEVNULL)
-        self._wait()
+        (at / "site.conf").write_text(text, encoding="utf-8")
+        kinds = ("client_body", "proxy", "fastcgi", "uwsgi", "scgi")
+        folders = " ".join(f"{kind}_temp_path {at}/{kind};" for kind in kinds)
+        (at / "nginx.conf").write_text(
+            f"daemon off; pid {at}/pid; events {{}} http {{ include /etc/nginx/mime.types;"
+            f" access_log off; {folders} include {at}/site.conf; }}\n",
+            encoding="utf-8",
+        )
+        self.child = Child(["nginx", "-e", at / "errors", "-c", at / "nginx.conf"])
+        self._wait(at / "errors")
 
-    def _wait(self):
+    def _wait(self, errors: Path) -> None:
         for _ in range(100):
             try:
-                self.ask('/rev')
+                self.ask("/rev")
                 return
             except OSError:
                 time.sleep(0.05)
-        with open(os.path.join(self.folder.name, 'errors')) as file:
-            told = file.read()
+        told = errors.read_text(encoding="utf-8") if errors.exists() else ""
         self.end()
-        raise Fault('nginx does not answer: %s' % told[-300:])
+        raise Fault(f"nginx does not answer: {told[-300:]}")
 
-    def end(self):
+    def end(self) -> None:
         super().end()
         self.folder.cleanup()
+
+
+class _Quiet(http.server.SimpleHTTPRequestHandler):
+    def log_message(self, *_: object) -> None:
+        pass
+
+
+class Files:
+    """A folder as any static host serves it: Python's own server, which neither packs nor
+    unpacks.
+    """
+
+    def __init__(self, folder: str | Path) -> None:
+        handler = functools.partial(_Quiet, directory=str(folder))
+        self.server = http.server.ThreadingHTTPServer(("127.0.0.1", 0), handler)
+        self.base = f"http://127.0.0.1:{self.server.server_address[1]}"
+        threading.Thread(target=self.server.serve_forever, daemon=True).start()
+
+    def __enter__(self) -> "Files":
+        return self
+
+    def __exit__(self, *_: object) -> None:
+        self.server.shutdown()
+        self.server.server_close()
+
+
+def is_alive(number: int) -> bool:
+    """Whether a process is there."""
+    try:
+        os.kill(number, 0)
+    except ProcessLookupError:
+        return False
+    return True
+
+
+def end_process(number: int) -> None:
+    os.kill(number, signal.SIGKILL)

@@ -1,117 +1,241 @@
-'use strict'
-// What stands about the map: a field that finds names, what is known of one name, how the server is.
-{
-  const make = (tag, words, ...inner) => {
-    const made = Object.assign(document.createElement(tag), words)
-    made.append(...inner)
-    return made
-  }
-  const REASONS = {
-    NoGeometry: 'It has no place on the map.', NoClass: 'The style has no class for it.',
-    NoName: 'It has no text that could be shown.', TooWide: 'Its text is too wide for a label.'
-  }
-  const round = value => value >= 100 ? Math.round(value).toLocaleString('en') : +value.toPrecision(4)
-  const told = (fraction, plane) => {
-    const value = maplabel.valueOf(fraction)
-    return value > 0 ? `scale ${round(value)} (zoom ${maplabel.zoomOf(plane, value).toFixed(2)})` : 'as far in as one likes'
-  }
+// @ts-check
+// What stands about the map: a notice of what is wrong, a field that finds names, a card about one name, a bar with
+// the scale and the attribution. All of it lies within the map's element.
 
-  // The zoom of web maps, whose world is 256 pixels wide at zoom 0.
-  maplabel.zoomOf = (plane, scale) => Math.log2(plane.turn * plane.units / 256 / scale)
+/** @typedef {import('./types.js').State} State */
+/** @typedef {{ id: string, name: string, value?: string | null }} Entry */
 
-  // What `/why` says of a label, in sentences, for a page at this scale.
-  maplabel.explain = (why, scale, plane, nameOf, isHidden) => {
-    if (why.error) return ['No feature has this id.']
-    if (why.reason) return [REASONS[why.reason] ?? why.reason]
-    const min = maplabel.valueOf(why.min), until = maplabel.valueOf(why.until), lines = []
-    if (isHidden) lines.push('Left out on this plane: where y is stretched it could lie over another name.')
-    if (until <= min) lines.push('It is shown at no scale.')
-    else if (scale < min) lines.push(`Not shown at this scale: the names of its class begin at ${told(why.min, plane)}.`)
-    else if (scale >= until) lines.push('Not shown at this scale.')
-    else if (!isHidden) lines.push('Shown at this scale.')
-    const end = told(why.until, plane)
-    lines.push(why.blocker === null ? `It ends where its class ends, at ${end}.` : `It ends at ${end}: from there on out ` +
-      `it would lie over ${nameOf(why.blocker)} (${why.blocker}), which comes before it.`)
-    return lines
-  }
+/** An element with its words and what is in it.
+ * @template {keyof HTMLElementTagNameMap} T
+ * @param {T} tag
+ * @param {{ [word: string]: unknown }} words properties; those with a hyphen, and `role`, are attributes
+ * @param {(Node | string)[]} inner
+ * @returns {HTMLElementTagNameMap[T]} */
+export function make(tag, words, ...inner) {
+  const made = document.createElement(tag)
+  for (const [name, value] of Object.entries(words))
+    if (name.includes('-') || name === 'role') made.setAttribute(name, String(value))
+    else Reflect.set(made, name, value)
+  made.append(...inner)
+  return made
+}
 
-  // A scale at which a label is shown, near to this one; null where there is none.
-  maplabel.scaleFor = (why, scale) => {
-    if (why.until === undefined) return null
-    const min = maplabel.valueOf(why.min), until = maplabel.valueOf(why.until)
-    if (until <= min) return null
-    if (scale < min) return Math.min(min * 1.05, (min + until) / 2)
-    return scale >= until ? Math.max(until * 0.95, (min + until) / 2) : scale
+/** @type {{ [state: string]: (seconds?: number) => string }} */
+const STATES = {
+  held: () => 'Another client holds the server: waiting.',
+  gone: seconds => `The server does not answer${seconds ? `: asked again in ${seconds} s` : ''}.`,
+  many: () => 'The proxy takes no more requests for now: waiting.',
+  refused: () => 'The server refused a request: see the console.',
+  broken: () => 'Some of the names could not be read: see the console.'
+}
+const PASSING = 5000
+
+/** What is wrong, in a line at the map's foot; and what passes. */
+export class Notice {
+  constructor() {
+    this.element = make('span', { className: 'ml-note', role: 'status' })
+    this.lasting = ''
+    this.passing = 0
   }
 
-  const STATES = {
-    held: () => 'Another client holds the server: waiting.',
-    gone: seconds => `The server does not answer${seconds ? `: asked again in ${seconds} s` : ''}.`,
-    many: () => 'The proxy takes no more requests for now: waiting.',
-    refused: () => 'The server refused a request: see the console.'
+  /** @param {string} text
+   * @param {boolean} isBad */
+  put(text, isBad) {
+    this.element.textContent = text
+    this.element.className = 'ml-note' + (isBad ? ' ml-bad' : '')
   }
 
-  // act: find(letters), choose(id), again(), and zoom(factor) where the page wants buttons.
-  maplabel.Panel = class {
-    constructor(element, act) {
-      this.act = act
-      this.field = make('input', { type: 'search', placeholder: 'Find a name', autocomplete: 'off' })
-      this.field.setAttribute('aria-label', 'Find a name')
-      this.list = make('ul', { hidden: true })
-      this.card = make('section', { className: 'ml-card', hidden: true })
-      this.where = make('span', { className: 'ml-where' })
-      this.note = make('span', { className: 'ml-note' })
-      this.again = make('button', {
-        type: 'button', textContent: 'Ask again', title: 'The map was edited: ask for its names again', onclick: act.again
-      })
-      const first = event => { event.preventDefault(); this.list.querySelector('button')?.click() }
-      element.append(make('form', { className: 'ml-find', onsubmit: first }, this.field, this.list),
-        this.card, make('footer', { className: 'ml-bar' }, this.where, this.note, this.again))
-      this.note.setAttribute('role', 'status')
-      if (act.zoom)
-        element.append(make('div', { className: 'ml-zoom' },
-          make('button', { type: 'button', textContent: '+', title: 'Nearer', onclick: () => act.zoom(2) }),
-          make('button', { type: 'button', textContent: '\u2212', title: 'Further out', onclick: () => act.zoom(1 / 2) })))
-      this.field.addEventListener('input', () => this.look())
-      this.field.addEventListener('focus', () => this.look())
-      this.passing = 0
-    }
+  /** @param {State} state
+   * @param {State} before
+   * @param {number} [seconds] */
+  tell(state, before, seconds) {
+    clearTimeout(this.passing)
+    if (state !== 'good') this.put(STATES[state](seconds), true)
+    else if (before === 'held' || before === 'gone') this.pass('The server is back.')
+    else this.put(this.lasting, this.lasting !== '')
+  }
 
-    async look() {
-      const letters = this.field.value
-      const found = letters.trim() ? await this.act.find(letters).catch(() => null) : []
-      if (letters !== this.field.value) return
-      this.list.replaceChildren(...(found ?? []).map(({ id, name }) => make('li', {}, make('button', {
-        type: 'button', onclick: () => { this.list.hidden = true; this.field.blur(); this.act.choose(id) }
-      }, name, make('small', { textContent: ' ' + id })))))
-      if (found !== null && letters.trim() && !found.length)
-        this.list.append(make('li', { textContent: 'No name has these letters.' }))
-      this.list.hidden = !letters.trim()
-    }
+  /** Says something for a while.
+   * @param {string} text */
+  pass(text) {
+    clearTimeout(this.passing)
+    this.put(text, false)
+    this.passing = window.setTimeout(() => this.put(this.lasting, this.lasting !== ''), PASSING)
+  }
 
-    // What is known of a name, with a button where it can be seen at another scale.
-    show(title, lines, button) {
-      const close = make('button', {
-        type: 'button', className: 'ml-close', textContent: '\u00d7', title: 'Close', onclick: () => { this.card.hidden = true }
-      })
-      this.card.replaceChildren(close, make('h2', { textContent: title }), ...lines.map(line => make('p', { textContent: line })))
-      if (button) this.card.append(make('button', { type: 'button', textContent: button.text, onclick: button.act }))
-      this.card.hidden = false
-    }
+  /** Says something as long as nothing else is to be said.
+   * @param {string} text */
+  stay(text) {
+    if (this.lasting.includes(text)) return
+    this.lasting = this.lasting ? `${this.lasting} ${text}` : text
+    this.put(this.lasting, true)
+  }
 
-    tell(state, before, seconds) {
-      clearTimeout(this.passing)
-      this.note.className = 'ml-note' + (state === 'good' ? '' : ' ml-bad')
-      if (state !== 'good') this.note.textContent = STATES[state](seconds)
-      else if (before === 'held' || before === 'gone') this.pass('The server is back.')
-      else this.note.textContent = ''
-    }
+  end() { clearTimeout(this.passing) }
+}
 
-    // Says something for a while.
-    pass(text) {
-      clearTimeout(this.passing)
-      this.note.textContent = text
-      this.passing = setTimeout(() => { this.note.textContent = '' }, 5000)
-    }
+/** The field that finds names, with its list: a combination box by the rules of ARIA, so arrows go through what is found. */
+export class Finder {
+  /** @param {(letters: string) => Promise<Entry[]>} find
+   * @param {(id: string) => void} choose
+   * @param {boolean} hasIds */
+  constructor(find, choose, hasIds) {
+    this.find = find
+    this.choose = choose
+    this.hasIds = hasIds
+    this.active = -1
+    const id = `ml-found-${Finder.count++}`
+    this.list = make('ul', { id, hidden: true, role: 'listbox', 'aria-label': 'Names found' })
+    this.field = make('input', { type: 'search', placeholder: 'Find a name', autocomplete: 'off', role: 'combobox',
+      'aria-label': 'Find a name', 'aria-controls': id, 'aria-expanded': 'false', 'aria-autocomplete': 'list' })
+    this.element = make('form', { className: 'ml-find', role: 'search' }, this.field, this.list)
+    this.element.addEventListener('submit', event => { event.preventDefault(); this.take(Math.max(this.active, 0)) })
+    this.field.addEventListener('input', () => this.look())
+    this.field.addEventListener('focus', () => this.look())
+    this.field.addEventListener('blur', () => this.close())
+    this.field.addEventListener('keydown', event => this.key(event))
+    /** @type {Entry[]} */
+    this.found = []
+  }
+
+  async look() {
+    const letters = this.field.value
+    const found = letters.trim() ? await this.find(letters).catch(() => null) : []
+    if (letters !== this.field.value || document.activeElement !== this.field && found?.length === 0 && this.list.hidden) return
+    this.found = found ?? []
+    this.list.replaceChildren(...this.found.map((one, k) => this.item(one, k)))
+    if (found !== null && letters.trim() && !found.length)
+      this.list.append(make('li', { textContent: 'No name has these letters.' }))
+    this.mark(-1)
+    this.list.hidden = !letters.trim() || document.activeElement !== this.field
+    this.field.setAttribute('aria-expanded', String(!this.list.hidden))
+  }
+
+  /** @param {Entry} one
+   * @param {number} k */
+  item({ id, name, value }, k) {
+    const told = this.hasIds ? id : value ?? ''
+    const item = make('li', { id: `${this.list.id}-${k}`, role: 'option', 'aria-selected': 'false' }, name,
+      ...(told ? [make('small', { textContent: ' ' + told })] : []))
+    item.addEventListener('pointerdown', event => event.preventDefault())
+    item.addEventListener('click', () => this.take(k))
+    return item
+  }
+
+  /** @param {KeyboardEvent} event */
+  key(event) {
+    const step = event.key === 'ArrowDown' ? 1 : event.key === 'ArrowUp' ? -1 : 0
+    const { length } = this.found, from = this.active < 0 && step < 0 ? 0 : this.active
+    if (step && length) this.mark((from + step + length) % length)
+    else if (event.key === 'Escape') this.close()
+    else return
+    event.preventDefault()
+  }
+
+  /** @param {number} k */
+  mark(k) {
+    this.active = k
+    const items = [...this.list.children]
+    items.forEach((item, number) => item.setAttribute('aria-selected', String(number === k)))
+    if (k >= 0) {
+      this.field.setAttribute('aria-activedescendant', items[k].id)
+      items[k].scrollIntoView({ block: 'nearest' })
+    } else this.field.removeAttribute('aria-activedescendant')
+  }
+
+  /** @param {number} k */
+  take(k) {
+    const one = this.found[k]
+    if (!one) return
+    this.close()
+    this.field.blur()
+    this.choose(one.id)
+  }
+
+  close() {
+    this.list.hidden = true
+    this.field.setAttribute('aria-expanded', 'false')
+  }
+}
+Finder.count = 0
+
+/** What is known of one name. */
+export class Card {
+  constructor() {
+    this.element = make('section', { className: 'ml-card', hidden: true, 'aria-label': 'About the name' })
+  }
+
+  /** @param {string} title
+   * @param {(string | Node)[]} lines
+   * @param {{ text: string, act: () => void } | false} [button] */
+  show(title, lines, button = false) {
+    const close = make('button', { type: 'button', className: 'ml-close', textContent: '\u00d7', title: 'Close',
+      onclick: () => this.hide() })
+    this.element.replaceChildren(close, make('h2', { textContent: title }),
+      ...lines.map(line => typeof line === 'string' ? make('p', { textContent: line }) : line))
+    if (button) this.element.append(make('button', { type: 'button', textContent: button.text, onclick: button.act }))
+    this.element.hidden = false
+  }
+
+  hide() { this.element.hidden = true }
+}
+
+const ROUND = [1, 2, 5]
+
+/** A bar as long as a round length of at most so many pixels.
+ * @param {number} metres of a pixel
+ * @param {number} most
+ * @returns {[number, string]} */
+export function roundLength(metres, most) {
+  const power = 10 ** Math.floor(Math.log10(metres * most))
+  const length = power * (ROUND.filter(by => by * power <= metres * most).pop() ?? 1)
+  return [length / metres, length >= 1000 ? `${(length / 1000).toLocaleString('en')} km` : `${+length.toPrecision(3)} m`]
+}
+
+/** The scale, as a bar for the middle of the map. */
+export class ScaleBar {
+  constructor() {
+    this.line = make('span', { className: 'ml-length' })
+    this.text = make('span', {})
+    this.element = make('span', { className: 'ml-scale' }, this.line, this.text)
+    this.before = 0
+  }
+
+  /** @param {number} metres of a pixel */
+  show(metres) {
+    if (Math.abs(metres / this.before - 1) < 0.002) return
+    this.before = metres
+    const [pixels, text] = roundLength(metres, 90)
+    this.line.style.width = `${Math.round(pixels)}px`
+    this.text.textContent = text
+  }
+}
+
+/** act: find(letters), choose(id), again(), and zoom(factor) where the map has no buttons of its own.
+ * @typedef {{ find: (letters: string) => Promise<Entry[]>, choose: (id: string) => void, again: () => void,
+ *   zoom: ((factor: number) => void) | null }} Act */
+
+export class Panel {
+  /** @param {Act} act
+   * @param {{ isExplained: boolean, hasAgain: boolean, attribution: string, notice: Notice }} options */
+  constructor(act, { isExplained, hasAgain, attribution, notice }) {
+    this.finder = new Finder(act.find, act.choose, isExplained)
+    this.field = this.finder.field
+    this.list = this.finder.list
+    this.about = new Card()
+    this.card = this.about.element
+    this.scale = new ScaleBar()
+    this.where = make('span', { className: 'ml-where', hidden: !isExplained })
+    this.note = notice.element
+    this.again = make('button', { type: 'button', textContent: 'Ask again', hidden: !hasAgain,
+      title: 'The map was edited: ask for its names again', onclick: act.again })
+    const credit = make('span', { className: 'ml-credit', hidden: !attribution, innerHTML: attribution })
+    this.bar = make('footer', { className: 'ml-bar' }, this.scale.element, this.where, this.note, this.again, credit)
+    this.parts = [this.finder.element, this.card, this.bar]
+    const { zoom } = act
+    if (zoom)
+      this.parts.push(make('div', { className: 'ml-zoom' },
+        make('button', { type: 'button', textContent: '+', title: 'Nearer', onclick: () => zoom(2) }),
+        make('button', { type: 'button', textContent: '\u2212', title: 'Further out', onclick: () => zoom(1 / 2) })))
   }
 }

@@ -1,0 +1,197 @@
+// @ts-check
+// What a page knows of a served map beside the names on the screen: of each feature its class, its kind and its
+// properties (`/map`, once for each revision), of each label its scales (`/state`), and the style (a file beside the
+// page, since the server does not tell it).
+import { leftOut, readState } from './labels.js'
+
+/** @typedef {import('./types.js').Feature} Feature */
+/** @typedef {import('./types.js').Kind} Kind */
+/** @typedef {import('./types.js').Span} Span */
+/** @typedef {import('./types.js').Style} Style */
+/** @typedef {{ class?: number, value?: string | null, kind?: Kind, properties?: { [key: string]: any } }} Known */
+/** @typedef {{ id: string, name: string, value?: string | null }} Entry */
+
+const PATIENCE = 1500                                    // how long names wait for what is known of them
+const ALWAYS = ['line_height', 'line_spacing', 'line_label']
+/** @type {{ [type: string]: Kind }} */
+const KINDS = { Point: 'point', MultiPoint: 'point', LineString: 'line', MultiLineString: 'line', Polygon: 'area', MultiPolygon: 'area' }
+
+/** The text of a property, as classes compare it.
+ * @param {any} value */
+const textOf = value => ['string', 'number', 'boolean'].includes(typeof value) ? String(value) : null
+
+/** What a style makes of a feature: the number of the first class that fits, and its value.
+ * @param {Feature} feature
+ * @param {Style | null} style
+ * @returns {Known} */
+export function knownOf(feature, style) {
+  const kind = KINDS[feature.geometry?.type ?? ''], properties = feature.properties ?? {}
+  const number = (style?.classes ?? []).findIndex(one =>
+    one.geometry === kind && (one.key === undefined || textOf(properties[one.key]) === one.value))
+  /** @type {Known} */
+  const known = { kind, properties }
+  if (number >= 0) known.class = number
+  const own = style?.classes[number]
+  const keys = (style?.classes ?? []).filter(one => one.key !== undefined)
+  const key = own?.key ?? (keys.find(one => one.geometry === kind) ?? keys[0])?.key
+  if (key !== undefined) known.value = own?.value ?? textOf(properties[key])
+  return known
+}
+
+/** @param {{ [key: string]: any } | undefined} properties
+ * @param {string[]} [wanted] */
+const chosen = (properties, wanted) => wanted === undefined || properties === undefined ? properties
+  : Object.fromEntries(Object.entries(properties).filter(([key]) => wanted.includes(key) || ALWAYS.includes(key)))
+
+/** The facts of a server. */
+export class ServerFacts {
+  /** @param {import('./request.js').Server} source
+   * @param {import('./types.js').Plane} plane
+   * @param {{ property?: string, properties?: string[], style?: string | Style | null }} options
+   * @param {() => void} changed more is known */
+  constructor(source, plane, options, changed) {
+    this.source = source
+    this.plane = plane
+    this.options = options
+    this.changed = changed
+    /** @type {Map<string, Span> | null} */
+    this.state = null
+    /** @type {Set<string> | null} */
+    this.hidden = null
+    /** @type {Map<string, Known> | null} */
+    this.known = null
+    /** @type {Map<string, string>} */
+    this.titles = new Map()
+    /** @type {Style | null} */
+    this.style = null
+    /** @type {Promise<Style | null> | null} */
+    this.asked = null
+    /** @type {number | null} */
+    this.count = null
+    this.isOld = true
+    this.isReady = false
+    /** @type {Promise<Feature[]> | null} */
+    this.joining = null
+  }
+
+  /** Names may be drawn once this is done: where y is stretched it is known which; and how they look, if that is known soon.
+   */
+  async ready() {
+    if (this.plane.stretches && this.isOld) await this.learn()
+    if (this.known === null)
+      await Promise.race([this.learnMap().catch(() => {}), new Promise(done => setTimeout(done, PATIENCE))])
+    this.isReady = true
+  }
+
+  /** All labels with their ends; where y is stretched also which of them are left out.
+   */
+  async learn() {
+    const state = readState(await this.source.text('/state'))
+    this.state = state
+    this.hidden = this.plane.stretches ? leftOut(state) : new Set()
+    this.isOld = false
+    return state
+  }
+
+  /** The features of the map, once for each revision.
+   * @returns {Promise<Feature[]>} */
+  learnMap() {
+    if (this.joining) return this.joining
+    const joining = this.joining = this.join()
+    joining.catch(() => { if (this.joining === joining) this.joining = null })
+    return joining
+  }
+
+  async join() {
+    const { property, properties, style } = this.options
+    this.asked ??= typeof style === 'string' ? styleAt(style) : Promise.resolve(style ?? null)
+    this.style = await this.asked
+    const rev = this.source.rev === null ? '' : `?rev=${this.source.rev}`
+    /** @type {Feature[]} */
+    const features = (await this.source.json('/map' + rev)).features
+    const name = property ?? this.style?.name ?? 'name'
+    this.titles = new Map(features.map(one => [one.id, textOf(one.properties?.[name]) ?? one.id]))
+    this.known = new Map(features.map(one => {
+      const known = knownOf(one, this.style)
+      return [one.id, { ...known, properties: chosen(known.properties, properties) }]
+    }))
+    this.changed()
+    return features
+  }
+
+  /** @param {string} id
+   * @returns {Known | undefined} */
+  of(id) { return this.known?.get(id) }
+
+  /** @param {string} id */
+  isHidden(id) { return this.hidden?.has(id) ?? false }
+
+  /** What `/map` told goes, once outlines are made of it. */
+  drop() { if (this.joining) this.joining = Promise.resolve([]) }
+
+  /** The labels that have a name, in priority order.
+   * @returns {Promise<Entry[]>} */
+  async entries() {
+    const state = this.isOld || this.state === null ? await this.learn() : this.state
+    await this.learnMap()
+    return [...state.keys()].map(id => ({ id, name: this.titles.get(id) ?? id, value: this.known?.get(id)?.value }))
+  }
+
+  /** @param {string} id
+   * @returns {Promise<Span | undefined>} */
+  async span(id) { return (this.isOld || this.state === null ? await this.learn() : this.state).get(id) }
+
+  /** What was known of the map is no longer so. What names look like stays until it is known anew. */
+  forget() {
+    this.isOld = true
+    this.joining = null
+    if (this.plane.stretches) this.isReady = false
+  }
+}
+
+/** The style that stands beside the page, or none.
+ * @param {string} address
+ * @returns {Promise<Style | null>} */
+async function styleAt(address) {
+  const reply = await fetch(address, { cache: 'no-cache' }).catch(() => null)
+  return reply?.ok ? reply.json().catch(() => null) : null
+}
+
+/** The facts of a source that tells all it knows with its names. */
+export class NoFacts {
+  constructor() {
+    this.isReady = true
+    /** @type {Style | null} */
+    this.style = null
+    /** @type {Map<string, Span> | null} */
+    this.state = null
+    /** @type {Set<string> | null} */
+    this.hidden = null
+    /** @type {number | null} */
+    this.count = null
+    this.isOld = false
+  }
+
+  async ready() {}
+
+  /** @param {string} _id
+   * @returns {Known | undefined} */
+  of(_id) { return undefined }
+
+  /** @param {string} _id */
+  isHidden(_id) { return false }
+
+  /** @returns {Promise<Feature[]>} */
+  async learnMap() { return [] }
+
+  drop() {}
+
+  /** @returns {Promise<Entry[]>} */
+  async entries() { return [] }
+
+  /** @param {string} _id
+   * @returns {Promise<{ x: number, y: number, min: string, until: string } | undefined>} */
+  async span(_id) { return undefined }
+
+  forget() {}
+}

@@ -1,0 +1,48 @@
+// @ts-check
+// Fonts. Names keep apart as they were measured, so a page draws them in the family that the style's widths are of,
+// and tells where the browser has another.
+
+/** @typedef {import('./types.js').StyleFont} StyleFont */
+
+const SERIF = '"Liberation Serif", "Times New Roman", Times, serif'
+const SANS = '"Liberation Sans", Arial, Helvetica, sans-serif'
+const MONO = '"Liberation Mono", "Courier New", monospace'
+const PROBE = 1000, NEAR = 0.02, FEW = 0.2
+
+/** The families that a text of the page names, for a font of a style.
+ * @param {string} name what the style calls it
+ * @param {StyleFont} [font]
+ * @returns {string} */
+export function familyOf(name, font) {
+  const others = /mono|courier|code/i.test(name) ? MONO : /sans|arial|helvet/i.test(name) ? SANS : SERIF
+  return font?.family ? `"${font.family.replace(/["\\]/g, '')}", ${others}` : others
+}
+
+/** Whether letters are as wide as the style has them, but for a few that may come of another font.
+ * @param {CanvasRenderingContext2D} pen
+ * @param {string} family
+ * @param {StyleFont} font */
+export function isAsMeasured(pen, family, font) {
+  const letters = Object.keys(font.advances).filter(letter => /[!-~\u00c0-\u024f]/.test(letter)).slice(0, 120)
+  if (!letters.length) return true
+  pen.save()
+  pen.font = `${PROBE}px ${family}`
+  const off = letters.filter(letter => {
+    const wanted = font.advances[letter] / font.units * PROBE
+    return Math.abs(pen.measureText(letter).width - wanted) > NEAR * PROBE
+  })
+  pen.restore()
+  return off.length <= FEW * letters.length
+}
+
+/** A sentence about each font of a style that this browser does not have.
+ * @param {CanvasRenderingContext2D} pen
+ * @param {{ [name: string]: StyleFont }} fonts
+ * @param {string} [own] the families of the page's author, in place of the style's
+ * @returns {string[]} */
+export const lackingFonts = (pen, fonts, own) => Object.entries(fonts)
+  .filter(([name, font]) => !isAsMeasured(pen, own ?? familyOf(name, font), font))
+  .map(([name, font]) => {
+    const meant = font.family ? `the font ${font.family}` : `another font (“${name}” in the style)`
+    return `The names were measured with ${meant}, which this browser does not have: some are smaller than they should be.`
+  })
