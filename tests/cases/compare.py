@@ -40,6 +40,7 @@ def second_opinion(plan, case, runner):
     if plan.other:
         return runner.run(plan.other, case)
     import maplabel
+
     return maplabel.run(case)
 
 
@@ -48,7 +49,9 @@ def begin(plan, numbers):
     global _plan, _runner
     number = numbers.get()
     first = plan.port + number * PORTS
-    _plan, _runner = plan, Runner(os.path.join(plan.folder, str(number)), range(first, first + PORTS))
+    _plan, _runner = plan, Runner(
+        os.path.join(plan.folder, str(number)), range(first, first + PORTS)
+    )
 
 
 def process_plan():
@@ -74,9 +77,17 @@ def run_chunk(places):
         parts = got.differs_in(due)
         if parts:
             where = os.path.join(_plan.kept, f"{_plan.kind}-{_plan.seed}-{place}")
-            keep(where, case, _plan.program, {"program": got, "other" if _plan.other else "oracle": due}, _runner)
-            kept.append(f"{case.kind} case {place}: {' and '.join(parts)} differ; kept in {where} "
-                        f"(run it alone: {where}/run PROGRAM; again here: --only {place})")
+            keep(
+                where,
+                case,
+                _plan.program,
+                {"program": got, "other" if _plan.other else "oracle": due},
+                _runner,
+            )
+            kept.append(
+                f"{case.kind} case {place}: {' and '.join(parts)} differ; kept in {where} "
+                f"(run it alone: {where}/run PROGRAM; again here: --only {place})"
+            )
     return tally, kept
 
 
@@ -92,7 +103,7 @@ def compare(plan, places, jobs):
     numbers = multiprocessing.Queue()
     for number in range(jobs):
         numbers.put(number)
-    chunks = [places[at:at + CHUNK] for at in range(0, len(places), CHUNK)]
+    chunks = [places[at : at + CHUNK] for at in range(0, len(places), CHUNK)]
     start, done = time.monotonic(), 0
     try:
         with multiprocessing.Pool(jobs, begin, (plan, numbers)) as pool:
@@ -111,7 +122,12 @@ def compare(plan, places, jobs):
 def tell_progress(done, chunks, start):
     if sys.stderr.isatty():
         end = "\n" if done == chunks else ""
-        print(f"\r{done * CHUNK} cases, {time.monotonic() - start:.0f} s", end=end, file=sys.stderr, flush=True)
+        print(
+            f"\r{done * CHUNK} cases, {time.monotonic() - start:.0f} s",
+            end=end,
+            file=sys.stderr,
+            flush=True,
+        )
 
 
 def report(tally, kept, count, seconds):

@@ -1,6 +1,6 @@
 """JSON texts of values, written in one of many ways."""
 
-SHORT = {"\"": "\\\"", "\\": "\\\\", "\b": "\\b", "\f": "\\f", "\n": "\\n", "\r": "\\r", "\t": "\\t"}
+SHORT = {'"': '\\"', "\\": "\\\\", "\b": "\\b", "\f": "\\f", "\n": "\\n", "\r": "\\r", "\t": "\\t"}
 
 
 class Number(str):
@@ -18,7 +18,7 @@ class Pairs(list):
 def unit_escapes(char):
     """The character as escapes of its units of 16 bits."""
     data = char.encode("utf-16-be", "surrogatepass")
-    return "".join("\\u" + data[at:at + 2].hex() for at in range(0, len(data), 2))
+    return "".join("\\u" + data[at : at + 2].hex() for at in range(0, len(data), 2))
 
 
 def string_text(draw, text):
@@ -34,7 +34,7 @@ def string_text(draw, text):
             parts.append(unit_escapes(char))
         else:
             parts.append("\\/" if char == "/" and draw.chance(0.3) else char)
-    return "\"" + "".join(parts) + "\""
+    return '"' + "".join(parts) + '"'
 
 
 def space(draw, share):
@@ -55,8 +55,11 @@ def text_of(draw, value, share=0.0):
     if isinstance(value, dict):
         value = Pairs(value.items())
     if isinstance(value, Pairs):
-        members = [f"{space(draw, share)}{string_text(draw, key)}{space(draw, share)}:{space(draw, share)}"
-                   f"{text_of(draw, item, share)}" for key, item in value]
+        members = [
+            f"{space(draw, share)}{string_text(draw, key)}{space(draw, share)}:{space(draw, share)}"
+            f"{text_of(draw, item, share)}"
+            for key, item in value
+        ]
         return "{" + blank[0] + ",".join(members) + blank[1] + "}"
     items = [text_of(draw, item, share) + space(draw, share) for item in value]
     return "[" + blank[0] + ("," + blank[1]).join(items) + "]"

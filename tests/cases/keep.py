@@ -16,7 +16,9 @@ def put(path, data):
 
 
 def keep(place, case, program, outcomes, runner):
-    """A folder with the case's files, words, input, the outcomes by name and a script that runs it."""
+    """A folder with the case's files, words, input, the outcomes by name and a script that runs
+    it.
+    """
     shutil.rmtree(place, ignore_errors=True)
     os.makedirs(place)
     shutil.copytree(runner.files, os.path.join(place, "files"))
@@ -25,9 +27,12 @@ def keep(place, case, program, outcomes, runner):
     source = "." if case.stdin is None else "../stdin"
     target = " > /dev/full" if case.is_out_full else ""
     note = "\n# then connect once for each file link0, link1, .. and send it" if case.links else ""
-    put(os.path.join(place, "run"), f'#!/bin/sh\n# run PROGRAM: the case alone{note}\n'
+    put(
+        os.path.join(place, "run"),
+        f"#!/bin/sh\n# run PROGRAM: the case alone{note}\n"
         f'program=$(realpath "${{1:-{program}}}")\ncd "$(dirname "$0")/files" || exit\n'
-        f'"$program" {words} < {source}{target}\n')
+        f'"$program" {words} < {source}{target}\n',
+    )
     os.chmod(os.path.join(place, "run"), 0o755)
     for number, pieces in enumerate(case.links or []):
         put(os.path.join(place, f"link{number}"), b"".join(pieces))

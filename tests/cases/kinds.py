@@ -4,7 +4,15 @@ from cases import maps, tables
 from cases.case import LONG_FILE, Case
 from cases.draw import BAD_FRACTIONS, Draw
 from cases.maps import draw_map
-from cases.requests import Stream, draw_feature, bytes_of, draw_request, draw_stream, tile_stream, view_words
+from cases.requests import (
+    Stream,
+    draw_feature,
+    bytes_of,
+    draw_request,
+    draw_stream,
+    tile_stream,
+    view_words,
+)
 from cases.styles import draw_style
 from ml_geojson import read_collection
 from ml_pass import Refused
@@ -12,12 +20,28 @@ from ml_pass import Refused
 PIPE_ROOM = 60000
 UNITS = [1, 10, 10, 100, 1000, 100000]
 KEYS = [("name", "pop")] * 6 + [("title", "rank"), ("name", "name")]
-FORMS = {"show": 6, "slots": 1, "check": 2, "view": 7, "gaps": 1, "gapview": 6, "zoom": 6, "pipe": 2, "serve": 4,
-         "gen": 2, "follow": 1}
+FORMS = {
+    "show": 6,
+    "slots": 1,
+    "check": 2,
+    "view": 7,
+    "gaps": 1,
+    "gapview": 6,
+    "zoom": 6,
+    "pipe": 2,
+    "serve": 4,
+    "gen": 2,
+    "follow": 1,
+}
 WRONG_DOORS = [["0", "1"], ["65536", "1"], ["PORT", "0"], ["PORT", "1000001"], ["PORT"], ["x", "1"]]
-WRONG_WINDOW = [None, ("2000000001", "-2000000001", "", "1.5", "x"), ("2000000001", "x", "+1"),
-                ("0", "1", "4098", "1023", "-2", "x"), ("0", "3", "5000", "x", ""),
-                ("0", "0/1", "268435456", "536870912/2", *BAD_FRACTIONS)]
+WRONG_WINDOW = [
+    None,
+    ("2000000001", "-2000000001", "", "1.5", "x"),
+    ("2000000001", "x", "+1"),
+    ("0", "1", "4098", "1023", "-2", "x"),
+    ("0", "3", "5000", "x", ""),
+    ("0", "0/1", "268435456", "536870912/2", *BAD_FRACTIONS),
+]
 
 
 def wrong_number(draw, words, first):
@@ -103,7 +127,11 @@ def full_stream(draw, unit):
     for _ in range(3):
         body = bytes_of(draw, draw_feature(draw, unit, draw.pick(["A", "#7", "#32767"])))
         method = draw.pick([b"POST", b"POST", b"PUT"])
-        requests += method + b" /feature HTTP/1.1\r\nHost: a\r\nContent-Length: %d\r\n\r\n" % len(body) + body
+        requests += (
+            method
+            + b" /feature HTTP/1.1\r\nHost: a\r\nContent-Length: %d\r\n\r\n" % len(body)
+            + body
+        )
     return data, requests
 
 
@@ -183,12 +211,19 @@ def follow_case(draw, kind):
 
 
 def gen_case(draw, kind):
-    count, seed = draw.weighted([(1, 40), (2, 40), (3, 20)]), draw.pick([0, 1, 7, draw.up_to(0, 4294967295)])
+    count, seed = draw.weighted([(1, 40), (2, 40), (3, 20)]), draw.pick(
+        [0, 1, 7, draw.up_to(0, 4294967295)]
+    )
     words = [kind, str(count), str(seed)]
     if draw.chance(0.5):
-        words = draw.pick([[kind, draw.pick(["0", "6001", "-1", "x", "", "1.0"]), "7"],
-                           [kind, "1", draw.pick(["-1", "4294967296", "x", "", "12345678901"])],
-                           [kind, "1"], [kind, "1", "1", "1"]])
+        words = draw.pick(
+            [
+                [kind, draw.pick(["0", "6001", "-1", "x", "", "1.0"]), "7"],
+                [kind, "1", draw.pick(["-1", "4294967296", "x", "", "12345678901"])],
+                [kind, "1"],
+                [kind, "1", "1", "1"],
+            ]
+        )
     return Case(kind, words, is_out_full=draw.chance(0.05))
 
 
@@ -196,22 +231,53 @@ def words_case(draw, kind):
     """Words that are none of the forms, or just about one."""
     command = draw.pick([*FORMS, "", "View", "help", "--help", "--version", "show ", "gaps2"])
     count = FORMS.get(command, 1) + draw.pick([0, 0, -1, 1, 2])
-    words = [command] + [draw.pick(["table", "0", "2", "1", "style", "-5", ""]) for _ in range(max(0, count))]
+    words = [command] + [
+        draw.pick(["table", "0", "2", "1", "style", "-5", ""]) for _ in range(max(0, count))
+    ]
     if draw.chance(0.04):
         words = []
     if draw.chance(0.08) and len(words) > 1:
         words[draw.up_to(1, len(words) - 1)] = b"\xff\xc3"
     if words and words[0] == "serve":
         words[3:] = words[3:][:1]
-    files = {"table": b"A 0 0 0 1 0,0,1,1\n", "style": b"version = 1\n", "0": b"", "2": b"version = 2\n", "1": b"[]"}
+    files = {
+        "table": b"A 0 0 0 1 0,0,1,1\n",
+        "style": b"version = 1\n",
+        "0": b"",
+        "2": b"version = 2\n",
+        "1": b"[]",
+    }
     return Case(kind, words, files, is_out_full=draw.chance(0.03))
 
 
-MAKERS = {"show": table_case, "slots": table_case, "check": check_case, "gaps": table_case, "gapview": table_case,
-          "view": map_case, "zoom": map_case, "pipe": pipe_case, "serve": serve_case, "follow": follow_case,
-          "gen": gen_case, "words": words_case}
-SHARES = [("pipe", 44), ("view", 12), ("zoom", 8), ("slots", 7), ("check", 8), ("show", 5), ("gaps", 5), ("gapview", 4),
-          ("follow", 7), ("words", 2), ("gen", 1), ("serve", 0.8)]
+MAKERS = {
+    "show": table_case,
+    "slots": table_case,
+    "check": check_case,
+    "gaps": table_case,
+    "gapview": table_case,
+    "view": map_case,
+    "zoom": map_case,
+    "pipe": pipe_case,
+    "serve": serve_case,
+    "follow": follow_case,
+    "gen": gen_case,
+    "words": words_case,
+}
+SHARES = [
+    ("pipe", 44),
+    ("view", 12),
+    ("zoom", 8),
+    ("slots", 7),
+    ("check", 8),
+    ("show", 5),
+    ("gaps", 5),
+    ("gapview", 4),
+    ("follow", 7),
+    ("words", 2),
+    ("gen", 1),
+    ("serve", 0.8),
+]
 
 
 def draw_case(kind, seed, place):

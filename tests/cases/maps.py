@@ -1,18 +1,111 @@
 """Features and map files, good and spoilt."""
 
 from cases.draw import spoil_bytes, step_of
+from cases.shapes import draw_places
 from cases.json_text import Number, Pairs, Raw, text_of
 
 FULL = b'{"type":"FeatureCollection","features":[' + b",".join([b'{"type":"Feature"}'] * 32768)
-NAMES = ["ab", "ab", "ab", "i", "ii", "abc", "a b", "Z\u00fcrich", "e\u0301a", "\ud55c\uad6d", "Sihl", "abcdefgh"]
-ODD_NAMES = ["", " ", "   ", "\u0001", " a", "a ", "x" * 64, "x" * 65, "x" * 103, "x" * 130, "\u0085\u007f",
-             "a\ufffeb\uffff", "\ud800", "a\udc00b", "\ud83d\ude00", "&<>\"\\/"]
-CHARACTERS = ["a", "b", "i", " ", "\u00e9", "e", "\u0301", "\u0308", "\u200d", "\U0001f469", "\U0001f467", "\u2764",
-              "\ufe0f", "\U0001f1e8", "\U0001f1ed", "\u1100", "\u1161", "\u11a8", "\uac00", "\uac01", "\u0915",
-              "\u093f", "\u0600", "\r", "\n", "\u200b", "\u00ad", "\u0e33", "&", "<", "\"", "\\", "\u2028", "\U0001f600"]
+NAMES = [
+    "ab",
+    "ab",
+    "ab",
+    "i",
+    "ii",
+    "abc",
+    "a b",
+    "Z\u00fcrich",
+    "e\u0301a",
+    "\ud55c\uad6d",
+    "Sihl",
+    "abcdefgh",
+]
+ODD_NAMES = [
+    "",
+    " ",
+    "   ",
+    "\u0001",
+    " a",
+    "a ",
+    "x" * 64,
+    "x" * 65,
+    "x" * 103,
+    "x" * 130,
+    "\u0085\u007f",
+    "a\ufffeb\uffff",
+    "\ud800",
+    "a\udc00b",
+    "\ud83d\ude00",
+    '&<>"\\/',
+]
+CHARACTERS = [
+    "a",
+    "b",
+    "i",
+    " ",
+    "\u00e9",
+    "e",
+    "\u0301",
+    "\u0308",
+    "\u200d",
+    "\U0001f469",
+    "\U0001f467",
+    "\u2764",
+    "\ufe0f",
+    "\U0001f1e8",
+    "\U0001f1ed",
+    "\u1100",
+    "\u1161",
+    "\u11a8",
+    "\uac00",
+    "\uac01",
+    "\u0915",
+    "\u093f",
+    "\u0600",
+    "\r",
+    "\n",
+    "\u200b",
+    "\u00ad",
+    "\u0e33",
+    "&",
+    "<",
+    '"',
+    "\\",
+    "\u2028",
+    "\U0001f600",
+]
 KEYS = ["place", "pop", "kind", "rank", "title", "a", "\u00e4"]
-IDS = ["A", "B", "C", "D", "a b", "#0", "#1", "##1", "7", "", "\u00e9", "%", "&", "x" * 70, "\ud800", "\x01"]
-WRONG_POSITIONS = [[], [1], 5, None, "x", ["1", 2], [1, "2"], [None, 1], {"x": 1}, [[1, 2], 3], True, [1, [2]]]
+IDS = [
+    "A",
+    "B",
+    "C",
+    "D",
+    "a b",
+    "#0",
+    "#1",
+    "##1",
+    "7",
+    "",
+    "\u00e9",
+    "%",
+    "&",
+    "x" * 70,
+    "\ud800",
+    "\x01",
+]
+WRONG_POSITIONS = [
+    [],
+    [1],
+    5,
+    None,
+    "x",
+    ["1", 2],
+    [1, "2"],
+    [None, 1],
+    {"x": 1},
+    [[1, 2], 3],
+    True,
+    [1, [2]],
+]
 FAR = ["201", "-200.0000001", "1e3", "-1E+400", "200.00000005", "2000000000"]
 NEAR = ["200.00000004", "-200", "2e2", "0e99999999999", "-0", "1e-400", "179.99999995"]
 
@@ -95,7 +188,10 @@ def draw_point(draw, unit):
 def far_point(draw, unit):
     """A point about the edges of the cells that an index of places may have."""
     cell = draw.pick([128, 1024, 1024, 3072]) * 2 ** draw.up_to(0, 17)
-    return [degrees(draw, draw.up_to(-3, 3) * cell + draw.pick([0, 0, 1, -1, 5 * unit])) for _ in range(2)]
+    return [
+        degrees(draw, draw.up_to(-3, 3) * cell + draw.pick([0, 0, 1, -1, 5 * unit]))
+        for _ in range(2)
+    ]
 
 
 def some(draw, make, unit):
@@ -105,8 +201,18 @@ def some(draw, make, unit):
 
 
 def draw_geometry(draw, unit):
-    kind = draw.weighted([("Point", 50), ("MultiPoint", 8), ("LineString", 16), ("MultiLineString", 6),
-                          ("Polygon", 13), ("MultiPolygon", 7), ("none", 3), ("GeometryCollection", 2)])
+    kind = draw.weighted(
+        [
+            ("Point", 50),
+            ("MultiPoint", 8),
+            ("LineString", 16),
+            ("MultiLineString", 6),
+            ("Polygon", 13),
+            ("MultiPolygon", 7),
+            ("none", 3),
+            ("GeometryCollection", 2),
+        ]
+    )
     if kind == "none":
         return None
     if kind == "GeometryCollection":
@@ -130,16 +236,61 @@ def draw_name(draw):
         return "".join(draw.pick(CHARACTERS) for _ in range(draw.up_to(1, 9)))
     if how < 0.92:
         return draw.pick(ODD_NAMES)
-    return draw.pick([None, True, False, [1], {"a": 1}, Number("12"), Number("-1.50"), Number("1e3"), Number("0")])
+    return draw.pick(
+        [
+            None,
+            True,
+            False,
+            [1],
+            {"a": 1},
+            Number("12"),
+            Number("-1.50"),
+            Number("1e3"),
+            Number("0"),
+        ]
+    )
 
 
 def draw_value(draw):
-    return draw.pick(["city", "city", "town", "true", "12", "", True, False, None, Number("12"), Number("1.0"), [1], {}])
+    return draw.pick(
+        [
+            "city",
+            "city",
+            "town",
+            "true",
+            "12",
+            "",
+            True,
+            False,
+            None,
+            Number("12"),
+            Number("1.0"),
+            [1],
+            {},
+        ]
+    )
 
 
 def draw_rank(draw):
-    return draw.pick([Number(text) for text in ["1", "2", "3", "3", "-5", "12.9", "1e400", "9007199254740993",
-                                                "0.99e1", "1e-3", "-0"]] + ["7", None, True])
+    return draw.pick(
+        [
+            Number(text)
+            for text in [
+                "1",
+                "2",
+                "3",
+                "3",
+                "-5",
+                "12.9",
+                "1e400",
+                "9007199254740993",
+                "0.99e1",
+                "1e-3",
+                "-0",
+            ]
+        ]
+        + ["7", None, True]
+    )
 
 
 def draw_properties(draw, keys=("name", "pop")):
@@ -178,7 +329,10 @@ def draw_feature(draw, unit, ident=None, keys=("name", "pop")):
     if draw.chance(0.3):
         draw.shuffle(members)
     if draw.chance(0.05):
-        members.insert(draw.up_to(0, len(members)), draw.pick([("bbox", [0, 0]), ("title", {}), ("type", "Feature")]))
+        members.insert(
+            draw.up_to(0, len(members)),
+            draw.pick([("bbox", [0, 0]), ("title", {}), ("type", "Feature")]),
+        )
     return Pairs(members)
 
 
@@ -207,9 +361,22 @@ def spoilt_geometry(draw, unit):
     """A geometry that refuses its feature; at times with more than one fault."""
     how = draw.up_to(0, 8)
     if how == 0:
-        return draw.pick([5, "x", [], True, {}, {"type": "point", "coordinates": [0, 0]}, {"type": 5},
-                          {"type": "Point"}, {"type": "Point", "coordinates": None}, {"coordinates": [0, 0]},
-                          {"type": "LineString", "coordinates": {}}, {"type": "Polygon", "coordinates": "x"}])
+        return draw.pick(
+            [
+                5,
+                "x",
+                [],
+                True,
+                {},
+                {"type": "point", "coordinates": [0, 0]},
+                {"type": 5},
+                {"type": "Point"},
+                {"type": "Point", "coordinates": None},
+                {"coordinates": [0, 0]},
+                {"type": "LineString", "coordinates": {}},
+                {"type": "Polygon", "coordinates": "x"},
+            ]
+        )
     if how == 1:
         kind = draw.pick(["LineString", "Polygon", "MultiPolygon", "MultiLineString", "MultiPoint"])
         return {"type": kind, "coordinates": [0, 0]}
@@ -219,12 +386,21 @@ def spoilt_geometry(draw, unit):
         kind = draw.pick(["LineString", "MultiPoint"])
         return {"type": kind, "coordinates": spoilt_positions(draw, draw_line(draw, unit))}
     if how == 4:
-        lines = [draw_line(draw, unit), draw.pick([5, None, {}, spoilt_positions(draw, draw_line(draw, unit))])]
+        lines = [
+            draw_line(draw, unit),
+            draw.pick([5, None, {}, spoilt_positions(draw, draw_line(draw, unit))]),
+        ]
         draw.shuffle(lines)
         return {"type": "MultiLineString", "coordinates": lines}
     rings = draw_polygon(draw, unit)
-    wrong = draw.pick([draw_line(draw, unit, draw.up_to(1, 2)), spoilt_positions(draw, draw_line(draw, unit, 5)), 7,
-                       spoilt_positions(draw, draw_line(draw, unit, 2))])
+    wrong = draw.pick(
+        [
+            draw_line(draw, unit, draw.up_to(1, 2)),
+            spoilt_positions(draw, draw_line(draw, unit, 5)),
+            7,
+            spoilt_positions(draw, draw_line(draw, unit, 2)),
+        ]
+    )
     rings.insert(draw.up_to(0, len(rings)), wrong)
     if how <= 6:
         return {"type": "Polygon", "coordinates": rings}
@@ -236,32 +412,58 @@ def spoilt_feature(draw, unit, ident=None):
     """A feature that is refused, for what it is or for its geometry."""
     feature = draw_feature(draw, unit, ident)
     if draw.chance(0.25):
-        return draw.pick([5, None, [], "Feature", {}, replace(feature, "type", "feature"), replace(feature, "type", 5),
-                          Pairs(pair for pair in feature if pair[0] != "type")])
+        return draw.pick(
+            [
+                5,
+                None,
+                [],
+                "Feature",
+                {},
+                replace(feature, "type", "feature"),
+                replace(feature, "type", 5),
+                Pairs(pair for pair in feature if pair[0] != "type"),
+            ]
+        )
     return replace(feature, "geometry", spoilt_geometry(draw, unit))
 
 
 def deep(draw):
     """Brackets and braces within one another, about as deep as may be."""
     depth = draw.pick([3, 62, 63, 64, 65, 66, 70])
-    opening = "".join(draw.pick(["[", "{\"a\":", "[0,"]) for _ in range(depth))
+    opening = "".join(draw.pick(["[", '{"a":', "[0,"]) for _ in range(depth))
     return Raw(opening + draw.pick(["1", "", "x", "]"]))
 
 
 def collection_of(draw, features):
     members = [("type", "FeatureCollection"), ("features", features)]
     while draw.chance(0.15):
-        members.append(draw.pick([("name", "m"), ("crs", {"type": "name", "properties": {}}), ("bbox", [0.5, 1])]))
+        members.append(
+            draw.pick(
+                [("name", "m"), ("crs", {"type": "name", "properties": {}}), ("bbox", [0.5, 1])]
+            )
+        )
     if draw.chance(0.3):
         draw.shuffle(members)
     return Pairs(members)
 
 
 def wrong_collection(draw, features):
-    return draw.pick([features, features[0] if features else 5, 5, {}, {"type": "Topology"}, "x", None,
-                      {"type": "FeatureCollection"}, {"type": "FeatureCollection", "features": {}},
-                      {"type": ["FeatureCollection"], "features": []}, {"type": "Point", "coordinates": [0, 0]},
-                      {"features": features}])
+    return draw.pick(
+        [
+            features,
+            features[0] if features else 5,
+            5,
+            {},
+            {"type": "Topology"},
+            "x",
+            None,
+            {"type": "FeatureCollection"},
+            {"type": "FeatureCollection", "features": {}},
+            {"type": ["FeatureCollection"], "features": []},
+            {"type": "Point", "coordinates": [0, 0]},
+            {"features": features},
+        ]
+    )
 
 
 def bytes_of(draw, value):
@@ -276,28 +478,62 @@ def long_ids_map(draw, unit, keys):
         props = Pairs([(keys[0], "ab"), (keys[1], Number(number))])
         geometry = Pairs([("type", "Point"), ("coordinates", draw_point(draw, unit))])
         ident = draw.pick("abc\u00e9") * draw.pick([1000, 4000, 9000]) + str(number)
-        features.append(Pairs([("type", "Feature"), ("id", ident), ("geometry", geometry), ("properties", props)]))
+        features.append(
+            Pairs(
+                [("type", "Feature"), ("id", ident), ("geometry", geometry), ("properties", props)]
+            )
+        )
     return bytes_of(draw, collection_of(draw, features))
 
 
 def crowded_feature(draw, unit, keys, ident=None):
     """A point that stands in the way of others, mostly on a line with equal steps."""
-    props = Pairs([(keys[0], draw.pick(["ab", "ab", "ab", "i", "abcd"])), (keys[1], Number(draw.up_to(0, 9)))])
+    props = Pairs(
+        [(keys[0], draw.pick(["ab", "ab", "ab", "i", "abcd"])), (keys[1], Number(draw.up_to(0, 9)))]
+    )
     if draw.chance(0.3):
         props.append(("place", draw.pick(["city", "town"])))
     step = 400 * step_of(unit)
     place = position(draw, draw.up_to(-6, 6) * step, draw.pick([0, 0, 0, 1, -1]) * step)
-    members = [("type", "Feature"), ("geometry", Pairs([("type", "Point"), ("coordinates", place)])), ("properties", props)]
+    members = [
+        ("type", "Feature"),
+        ("geometry", Pairs([("type", "Point"), ("coordinates", place)])),
+        ("properties", props),
+    ]
     return Pairs(members if ident is None else [*members, ("id", ident)])
+
+
+def shaped_map(draw, unit, keys):
+    """A good map of points in a row, a column, a lattice or at one anchor, whose ranks mostly fall
+    in their order.
+    """
+    places = draw_places(draw, draw.pick([100, 400, 400, 800]) * step_of(unit))
+    name, falls = draw.pick(["ab", "ab", "i", "abcd"]), draw.chance(0.8)
+    features = []
+    for number, (x, y) in enumerate(places):
+        rank = len(places) - number if falls else draw.up_to(0, 3)
+        props = Pairs([(keys[0], name), (keys[1], Number(rank))])
+        geometry = Pairs([("type", "Point"), ("coordinates", position(draw, x, y))])
+        ident = "ABCDEFG"[number] if number < 7 else f"p{number}"
+        features.append(
+            Pairs(
+                [("type", "Feature"), ("id", ident), ("geometry", geometry), ("properties", props)]
+            )
+        )
+    return bytes_of(draw, collection_of(draw, features))
 
 
 def crowded_map(draw, unit, keys):
     """A good map of many points close together, whose labels stand in one another's way."""
+    if draw.chance(0.3):
+        return shaped_map(draw, unit, keys)
     is_far = draw.chance(0.25)
     features = [crowded_feature(draw, unit, keys) for _ in range(draw.up_to(4, 24))]
     if is_far:
-        features = [replace(feature, "geometry", {"type": "Point", "coordinates": far_point(draw, unit)})
-                    for feature in features]
+        features = [
+            replace(feature, "geometry", {"type": "Point", "coordinates": far_point(draw, unit)})
+            for feature in features
+        ]
     return bytes_of(draw, collection_of(draw, features))
 
 
@@ -307,7 +543,16 @@ def draw_map(draw, unit, refused=0.42, keys=("name", "pop"), most=12):
     features = [draw_feature(draw, unit, keys=keys) for _ in range(min(count, most))]
     if not draw.chance(refused):
         return bytes_of(draw, collection_of(draw, features))
-    fault = draw.weighted([("bytes", 24), ("feature", 40), ("collection", 14), ("deep", 12), ("utf8", 8), ("full", 3.5)])
+    fault = draw.weighted(
+        [
+            ("bytes", 24),
+            ("feature", 40),
+            ("collection", 14),
+            ("deep", 12),
+            ("utf8", 8),
+            ("full", 3.5),
+        ]
+    )
     if fault == "full":
         return FULL + draw.pick([b',{"type":"Feature"}]}', b',{"type":"Feature"}]}', b",5]}"])
     if fault == "bytes":
@@ -317,12 +562,26 @@ def draw_map(draw, unit, refused=0.42, keys=("name", "pop"), most=12):
     if fault == "utf8":
         data = bytes_of(draw, collection_of(draw, features))
         at = data.find(b"name") if draw.chance(0.5) else draw.up_to(0, len(data))
-        odd = draw.pick([b"\xff", b"\xc3", b"\xed\xa0\x80", b"\xf4\x90\x80\x80", b"\xe0\x80\x80", b"\xc0\x80", b"\x80",
-                         b"\xf0\x9f\x98", b"\xef\xbb\xbf", b"\xe2\x82\xac"])
+        odd = draw.pick(
+            [
+                b"\xff",
+                b"\xc3",
+                b"\xed\xa0\x80",
+                b"\xf4\x90\x80\x80",
+                b"\xe0\x80\x80",
+                b"\xc0\x80",
+                b"\x80",
+                b"\xf0\x9f\x98",
+                b"\xef\xbb\xbf",
+                b"\xe2\x82\xac",
+            ]
+        )
         return data[:at] + odd + data[at:]
     wrong = deep(draw) if fault == "deep" else spoilt_feature(draw, unit)
     if fault == "deep" and draw.chance(0.5):
-        wrong = replace(draw_feature(draw, unit), draw.pick(["bbox", "properties", "geometry"]), wrong)
+        wrong = replace(
+            draw_feature(draw, unit), draw.pick(["bbox", "properties", "geometry"]), wrong
+        )
     features.insert(draw.up_to(0, len(features)), wrong)
     if draw.chance(0.15):
         features.append(spoilt_feature(draw, unit))

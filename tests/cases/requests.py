@@ -1,12 +1,32 @@
 """Streams of HTTP requests: views, tiles, edits and styles, good and spoilt."""
 
 from cases.draw import spoil_bytes, step_of
-from cases.maps import (IDS, bytes_of, collection_of, crowded_feature, deep, draw_feature, replace,
-                        spoilt_feature)
+from cases.maps import (
+    IDS,
+    bytes_of,
+    collection_of,
+    crowded_feature,
+    deep,
+    draw_feature,
+    replace,
+    spoilt_feature,
+)
 from cases.styles import draw_style
 
 METHODS = ["GET", "POST", "PUT", "DELETE", "HEAD", "OPTIONS", "PATCH", "get", "GET2", "!"]
-PATHS = ["/", "/x", "/View", "/view/", "//view", "/%76iew", "/feature/A", "/*", "/view;a", "/styles", "/\u00e9"]
+PATHS = [
+    "/",
+    "/x",
+    "/View",
+    "/view/",
+    "//view",
+    "/%76iew",
+    "/feature/A",
+    "/*",
+    "/view;a",
+    "/styles",
+    "/\u00e9",
+]
 FORM_PLAIN = "ABCDEFGHIJKLMNOPQRSTUVWXYZabcdefghijklmnopqrstuvwxyz0123456789-._~"
 OTHER_PAIRS = ["x=1", "", "=", "a", "CX=1", "%", "%zz=%", "\u00e9=\u00e9", "%FF=%80"]
 HOSTS = ["a", "localhost:1", "", "\u00e9 x"]
@@ -25,7 +45,9 @@ class Stream:
     def known_id(self):
         """An id that a feature has, often."""
         draw = self.draw
-        return draw.pick(self.ids) if self.ids and draw.chance(0.8) else draw.pick(["#0", "#1", *IDS])
+        return (
+            draw.pick(self.ids) if self.ids and draw.chance(0.8) else draw.pick(["#0", "#1", *IDS])
+        )
 
     def new_id(self):
         draw = self.draw
@@ -45,7 +67,9 @@ class Stream:
     def revision(self):
         """A revision that is present, often."""
         draw = self.draw
-        return str(draw.weighted([(self.edits, 70), (max(0, self.edits - 1), 15), (draw.up_to(0, 9), 15)]))
+        return str(
+            draw.weighted([(self.edits, 70), (max(0, self.edits - 1), 15), (draw.up_to(0, 9), 15)])
+        )
 
 
 def form_text(draw, text):
@@ -102,8 +126,11 @@ WRONG_VIEW = {
     "h": ["0", "1", "3", "4098", "-2", "767", "x", "2.0"],
     "s": ["0", "0/1", "268435456", "1/0", "-1", "x", "", "1/65537", "1.5", "536870912/2"],
 }
-WRONG_TILE = {"z": ["22", "-1", "x", "", "1.0"], "i": ["x", "", "2000000", "-2000000", "12345678901"],
-              "j": ["x", "", "2000000", "-2000000", "1/1"]}
+WRONG_TILE = {
+    "z": ["22", "-1", "x", "", "1.0"],
+    "i": ["x", "", "2000000", "-2000000", "12345678901"],
+    "j": ["x", "", "2000000", "-2000000", "1/1"],
+}
 
 
 def view_words(draw, unit):
@@ -113,10 +140,15 @@ def view_words(draw, unit):
     else:
         step = draw.pick([100, 400, 1]) * step_of(unit)
         centre = draw.up_to(-4, 4) * step, draw.pick([0, 0, 1, -1]) * step
-    sides = [draw.weighted([(2, 4), (10, 5), (100, 14), (256, 17), (1024, 40), (4096, 20)]) for _ in range(2)]
+    sides = [
+        draw.weighted([(2, 4), (10, 5), (100, 14), (256, 17), (1024, 40), (4096, 20)])
+        for _ in range(2)
+    ]
     scale = draw.near(unit)
     if draw.chance(0.12):
-        scale = draw.pick(["1", "1/3", "999", "1000", "268435455", f"{draw.up_to(1, 2000)}/{draw.up_to(1, 30)}"])
+        scale = draw.pick(
+            ["1", "1/3", "999", "1000", "268435455", f"{draw.up_to(1, 2000)}/{draw.up_to(1, 30)}"]
+        )
     return [draw.spelt(centre[0]), draw.spelt(centre[1]), *map(draw.spelt, sides), scale]
 
 
@@ -163,7 +195,9 @@ def rev_pairs(stream):
 def edit_body(stream, ident):
     """The body of an addition or a replacement."""
     draw = stream.draw
-    how = draw.weighted([("good", 64), ("feature", 20), ("bytes", 7), ("noid", 3), ("deep", 2.5), ("other", 3.5)])
+    how = draw.weighted(
+        [("good", 64), ("feature", 20), ("bytes", 7), ("noid", 3), ("deep", 2.5), ("other", 3.5)]
+    )
     make = crowded_feature if stream.is_crowded and draw.chance(0.8) else draw_feature
     feature = make(draw, stream.unit, keys=stream.keys, ident=ident)
     if how == "feature":
@@ -197,14 +231,27 @@ def edit_request(stream):
         if draw.chance(0.12):
             pairs = spoil_query(draw, pairs, {"id": ["nobody", ""], "rev": WRONG_REVS})
         return method, "/feature?" + query_text(draw, pairs), b""
-    return method, "/feature" + ("?" + query_text(draw, pairs) if pairs else ""), edit_body(stream, ident)
+    return (
+        method,
+        "/feature" + ("?" + query_text(draw, pairs) if pairs else ""),
+        edit_body(stream, ident),
+    )
 
 
 def read_request(stream):
     """Method, target and body of a request that changes nothing."""
     draw = stream.draw
-    what = draw.weighted([("/view", 30), ("/svg", 14), ("/tile", 20), ("/why", 18), ("/map", 6), ("/rev", 6),
-                          ("/state", 50 if stream.is_crowded else 8)])
+    what = draw.weighted(
+        [
+            ("/view", 30),
+            ("/svg", 14),
+            ("/tile", 20),
+            ("/why", 18),
+            ("/map", 6),
+            ("/rev", 6),
+            ("/state", 50 if stream.is_crowded else 8),
+        ]
+    )
     if what in ("/view", "/svg"):
         target = view_target(stream, what)
     elif what == "/tile":
@@ -234,8 +281,19 @@ def draw_fields(draw, body, is_old):
         length = str(len(body)).rjust(draw.pick([1, 1, 1, 10]), "0")
         fields.append((draw.pick(["Content-Length", "content-length"]), length))
     while draw.chance(0.15):
-        fields.append(draw.pick([("Accept", "*/*"), ("Expect", "100-continue"), ("X", ""), ("Connection", "keep-alive"),
-                                 ("Cookie", "a=b; c"), ("Connection", "closed, x"), ("Content-Type", "application/json")]))
+        fields.append(
+            draw.pick(
+                [
+                    ("Accept", "*/*"),
+                    ("Expect", "100-continue"),
+                    ("X", ""),
+                    ("Connection", "keep-alive"),
+                    ("Cookie", "a=b; c"),
+                    ("Connection", "closed, x"),
+                    ("Content-Type", "application/json"),
+                ]
+            )
+        )
     if draw.chance(0.012):
         fields.append(("Connection", draw.pick(CLOSING)))
     draw.shuffle(fields)
@@ -257,8 +315,24 @@ def without(fields, name):
 
 def spoil_length(draw, fields):
     """Fields with a length that is refused."""
-    wrong = draw.pick([["0", "0"], ["1048577"], ["9999999999"], ["1048577"], ["", "-1"], [""], ["-1"], ["+1"],
-                       ["1.0"], ["x"], ["00000000000"], ["1, 1"], ["0x1"], ["1 1"]])
+    wrong = draw.pick(
+        [
+            ["0", "0"],
+            ["1048577"],
+            ["9999999999"],
+            ["1048577"],
+            ["", "-1"],
+            [""],
+            ["-1"],
+            ["+1"],
+            ["1.0"],
+            ["x"],
+            ["00000000000"],
+            ["1, 1"],
+            ["0x1"],
+            ["1 1"],
+        ]
+    )
     name = draw.pick(["Content-Length", "content-LENGTH"])
     return without(fields, "content-length") + [(name, value) for value in wrong]
 
@@ -280,9 +354,26 @@ def spoil_fields(draw, fields):
     if how == 6:
         return fields + [("X", "y" * draw.pick([16300, 16384, 20000]))]
     if how == 7:
-        return fields + [("Transfer-Encoding", "x"), ("Content-Length", "x"), ("Host", "b")][draw.up_to(0, 2):]
-    odd = draw.pick([("A ", "1"), ("", "1"), ("A\x00", "1"), ("B", "a\x00b"), ("B", "a\rb"), ("\u00e9", "1"),
-                     ("A(", "1"), ("B", "1\r\n folded"), ("B", "x\x7fy"), ("B", "\x1f")])
+        return (
+            fields
+            + [("Transfer-Encoding", "x"), ("Content-Length", "x"), ("Host", "b")][
+                draw.up_to(0, 2) :
+            ]
+        )
+    odd = draw.pick(
+        [
+            ("A ", "1"),
+            ("", "1"),
+            ("A\x00", "1"),
+            ("B", "a\x00b"),
+            ("B", "a\rb"),
+            ("\u00e9", "1"),
+            ("A(", "1"),
+            ("B", "1\r\n folded"),
+            ("B", "x\x7fy"),
+            ("B", "\x1f"),
+        ]
+    )
     return [odd, *fields] if draw.chance(0.5) else [*fields, odd]
 
 

@@ -48,7 +48,9 @@ class Runner:
             words = [str(self.port) if word == "PORT" else word for word in case.words]
             return self.run_server([program, *words], case)
         words = [program, *case.words]
-        given, out, err = (os.path.join(self.folder, name) for name in ("stdin", "stdout", "stderr"))
+        given, out, err = (
+            os.path.join(self.folder, name) for name in ("stdin", "stdout", "stderr")
+        )
         if case.stdin is not None:
             write_file(given, case.stdin)
         source = self.files if case.stdin is None else given
@@ -64,8 +66,14 @@ class Runner:
         blocker = listen(self.port) if case.is_port_taken else None
         out, err = (os.path.join(self.folder, name) for name in ("stdout", "stderr"))
         with open(out, "wb") as stdout, open(err, "wb") as stderr:
-            child = subprocess.Popen(words, cwd=self.files, stdin=subprocess.DEVNULL, stdout=stdout,
-                                     stderr=stderr, close_fds=False)
+            child = subprocess.Popen(
+                words,
+                cwd=self.files,
+                stdin=subprocess.DEVNULL,
+                stdout=stdout,
+                stderr=stderr,
+                close_fds=False,
+            )
             try:
                 replies = [talk(self.port, pieces, child) for pieces in case.links]
                 status = child.wait(SECONDS)
@@ -128,7 +136,9 @@ def feed(child, pieces):
 def run_to_end(words, folder, streams, pieces):
     """The exit code; a run that does not end in time is ended."""
     stdin, stdout, stderr = streams
-    child = subprocess.Popen(words, 0, cwd=folder, stdin=stdin, stdout=stdout, stderr=stderr, close_fds=False)
+    child = subprocess.Popen(
+        words, 0, cwd=folder, stdin=stdin, stdout=stdout, stderr=stderr, close_fds=False
+    )
     watch = os.pidfd_open(child.pid)
     try:
         if pieces:

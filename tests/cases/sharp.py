@@ -12,7 +12,11 @@ from cases.wrong_rules import RULES
 
 
 def oracle_modules():
-    return [module for name, module in sys.modules.items() if name.startswith("ml_") or name in ("maplabel", "toml_text")]
+    return [
+        module
+        for name, module in sys.modules.items()
+        if name.startswith("ml_") or name in ("maplabel", "toml_text")
+    ]
 
 
 @contextmanager

@@ -5,15 +5,57 @@ import copy
 from cases.draw import BAD_FRACTIONS, spoil_bytes, step_of
 from ml_ratio import read_fraction
 
-FIELDS = ["geometry", "key", "value", "value", "font", "size", "priority", "ref", "dx", "dx", "dy", "dy", "min", "max",
-          "margin"]
+FIELDS = [
+    "geometry",
+    "key",
+    "value",
+    "value",
+    "font",
+    "size",
+    "priority",
+    "ref",
+    "dx",
+    "dx",
+    "dy",
+    "dy",
+    "min",
+    "max",
+    "margin",
+]
 FONT_NAMES = ["sans", "mono", "a b", "\u00e4"]
-ODD_LINES = ["x", "a = ", "version = 1", "[fonts]", "[class]", "[[fonts]]", "a.b = 1\na = 2", "b = 'x",
-             "d = 1979-05-27", "d = 07:32:00", "d = 24:00", "f = 1e5", "f = 01", "f = inf", "f = 1.",
-             "i = 9223372036854775807", "i = 9223372036854775808", "u = \"\\x41\\e\"", "u = \"\\ud800\"",
-             "u = \"\\q\"", "# \u007f", "# c", "t = {a = 1,\n b = 2}", "t = {a = 1, a = 2}", "[x.y]\n[x]\n",
-             "[x]\n[x.y]\n[x]", "m = \"\"\"a\nb\"\"\"", "m = '''a'''", "\ufeff", "deep = " + "[" * 81 + "]" * 81,
-             "deep = " + "[" * 80 + "]" * 80]
+ODD_LINES = [
+    "x",
+    "a = ",
+    "version = 1",
+    "[fonts]",
+    "[class]",
+    "[[fonts]]",
+    "a.b = 1\na = 2",
+    "b = 'x",
+    "d = 1979-05-27",
+    "d = 07:32:00",
+    "d = 24:00",
+    "f = 1e5",
+    "f = 01",
+    "f = inf",
+    "f = 1.",
+    "i = 9223372036854775807",
+    "i = 9223372036854775808",
+    'u = "\\x41\\e"',
+    'u = "\\ud800"',
+    'u = "\\q"',
+    "# \u007f",
+    "# c",
+    "t = {a = 1,\n b = 2}",
+    "t = {a = 1, a = 2}",
+    "[x.y]\n[x]\n",
+    "[x]\n[x.y]\n[x]",
+    'm = """a\nb"""',
+    "m = '''a'''",
+    "\ufeff",
+    "deep = " + "[" * 81 + "]" * 81,
+    "deep = " + "[" * 80 + "]" * 80,
+]
 WRONG_ADVANCES = [5, [], {"ab": 1}, {"": 1}, {"a": -1}, {"a": 65536}, {"e\u0301": 5}, {"a": "1"}]
 EMPTY_RANGES = [{"min": "5", "max": "5"}, {"min": "10/2", "max": "5"}, {"min": "7", "max": "1/3"}]
 WRONG = {
@@ -33,11 +75,16 @@ WRONG = {
 
 
 def draw_font(draw):
-    font = {"units": draw.pick([1000, 1000, 1, 2048, 65535]), "default": draw.pick([500, 500, 250, 1000])}
+    font = {
+        "units": draw.pick([1000, 1000, 1, 2048, 65535]),
+        "default": draw.pick([500, 500, 250, 1000]),
+    }
     if font["units"] == 1:
         font["default"] = draw.pick([0, 1, 2])
     if draw.chance(0.5):
-        chars = draw.sample(["i", "a", "\u0301", " ", "\u00fc", "\U0001f469", "\"", "\\", "'"], draw.up_to(0, 4))
+        chars = draw.sample(
+            ["i", "a", "\u0301", " ", "\u00fc", "\U0001f469", '"', "\\", "'"], draw.up_to(0, 4)
+        )
         font["advances"] = {char: draw.up_to(0, font["units"]) for char in chars}
     return font
 
@@ -47,7 +94,9 @@ def draw_scales(draw, unit):
         return {"min": "0", "max": str(draw.pick([1000, 2000, 100]) * step_of(unit))}
     is_near = draw.chance(0.7)
     while True:
-        lower, upper = (draw.near(unit), draw.near(unit)) if is_near else (draw.fraction(), draw.fraction())
+        lower, upper = (
+            (draw.near(unit), draw.near(unit)) if is_near else (draw.fraction(), draw.fraction())
+        )
         if read_fraction(lower) < read_fraction(upper) <= 268435456:
             return {"min": lower, "max": upper}
 
@@ -84,8 +133,10 @@ def draw_good(draw, unit, keys=("name", "pop")):
     count = draw.weighted([(0, 2), (1, 8), (3, 30), (5, 30), (8, 15)])
     style["class"] = [draw_class(draw, names, unit) for _ in range(count)]
     if draw.chance(0.75):
-        style["class"] += [dict(draw_class(draw, names, unit), geometry=kind, ref=max(1, unit))
-                           for kind in ("point", "line", "area")]
+        style["class"] += [
+            dict(draw_class(draw, names, unit), geometry=kind, ref=max(1, unit))
+            for kind in ("point", "line", "area")
+        ]
     return style
 
 
@@ -126,8 +177,17 @@ def spoil_font(draw, style):
 def spoil(draw, style):
     """A copy of the style with a fault that keeps it TOML; at times one that is none."""
     style = copy.deepcopy(style)
-    fault = draw.weighted([("version", 10), ("font", 14), ("field", 46), ("class", 8), ("unknown", 9), ("range", 9),
-                           ("other", 5)])
+    fault = draw.weighted(
+        [
+            ("version", 10),
+            ("font", 14),
+            ("field", 46),
+            ("class", 8),
+            ("unknown", 9),
+            ("range", 9),
+            ("other", 5),
+        ]
+    )
     classes = style["class"]
     if fault == "version":
         style["version"] = draw.pick([0, 3, "1", 1.0, True, [1], {"a": 1}])
@@ -151,25 +211,36 @@ def spoil(draw, style):
 
 def string_text(draw, text):
     """A TOML string, basic or literal."""
-    if draw.chance(0.1) and not any(char in text for char in "'\r\n\t") and all(char >= " " for char in text):
+    if (
+        draw.chance(0.1)
+        and not any(char in text for char in "'\r\n\t")
+        and all(char >= " " for char in text)
+    ):
         return f"'{text}'"
     parts = []
     for char in text:
-        if char in "\"\\":
+        if char in '"\\':
             parts.append("\\" + char)
         elif draw.chance(0.03) or char < " ":
-            parts.append(draw.pick([f"\\u{ord(char):04x}", f"\\U{ord(char):08X}"]) if ord(char) < 65536
-                         else f"\\U{ord(char):08X}")
+            parts.append(
+                draw.pick([f"\\u{ord(char):04x}", f"\\U{ord(char):08X}"])
+                if ord(char) < 65536
+                else f"\\U{ord(char):08X}"
+            )
         else:
             parts.append(char)
-    plain = "\"" + "".join(parts) + "\""
-    return "\"\"" + plain + "\"\"" if draw.chance(0.02) and not text.endswith("\"") else plain
+    plain = '"' + "".join(parts) + '"'
+    return '""' + plain + '""' if draw.chance(0.02) and not text.endswith('"') else plain
 
 
 def key_text(draw, key):
     if key.isascii() and key.isalnum() and not draw.chance(0.05):
         return key
-    return string_text(draw, key).replace("\"\"\"", "\"") if "\"" not in key else "\"" + key.replace("\"", "\\\"") + "\""
+    return (
+        string_text(draw, key).replace('"""', '"')
+        if '"' not in key
+        else '"' + key.replace('"', '\\"') + '"'
+    )
 
 
 def number_text(draw, value):
@@ -199,8 +270,11 @@ def value_text(draw, value):
 
 
 def table_lines(draw, pairs):
-    return [f"{key_text(draw, key)} {draw.pick(['=', '= '])} {value_text(draw, item)}{draw.pick(['', '', '', ' # c'])}"
-            for key, item in pairs.items()]
+    return [
+        f"{key_text(draw, key)} {draw.pick(['=', '= '])} {value_text(draw, item)}"
+        f"{draw.pick(['', '', '', ' # c'])}"
+        for key, item in pairs.items()
+    ]
 
 
 def style_text(draw, style):
@@ -212,7 +286,10 @@ def style_text(draw, style):
     blocks = []
     if not inline and fonts is not None:
         if isinstance(fonts, dict) and all(isinstance(font, dict) for font in fonts.values()):
-            blocks += [[f"[fonts.{key_text(draw, name)}]", *table_lines(draw, font)] for name, font in fonts.items()]
+            blocks += [
+                [f"[fonts.{key_text(draw, name)}]", *table_lines(draw, font)]
+                for name, font in fonts.items()
+            ]
         else:
             lines += table_lines(draw, {"fonts": fonts})
     if not inline and classes is not None:
@@ -221,7 +298,9 @@ def style_text(draw, style):
         else:
             lines += table_lines(draw, {"class": classes})
     end = draw.pick(["\n", "\n", "\n", "\r\n"])
-    return end.join(line for block in [lines, *blocks] for line in block) + draw.pick([end, end, ""])
+    return end.join(line for block in [lines, *blocks] for line in block) + draw.pick(
+        [end, end, ""]
+    )
 
 
 def spoil_toml(draw, text):

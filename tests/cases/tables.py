@@ -1,13 +1,32 @@
 """Label tables, slots and states, good and spoilt."""
 
 from cases.draw import BAD_FRACTIONS, spoil_bytes
+from cases.shapes import draw_places
 from ml_follow import state_text
 from ml_pass import Refused, longest_choice, read_table, slots_text
 from ml_ratio import fraction_text, read_fraction
 
 FULL = b"".join(b"n%d 0 0 0 1 0,0,1,1\n" % n for n in range(32768))
 USUAL_BOX = "-10,-5,10,5"
-IDS = ["A", "B", "C", "D", "a1", "~", "!", "--", "-5", "#0", "\"", "\\", "<b>", "A/B", "%41", "{}", "x" * 64]
+IDS = [
+    "A",
+    "B",
+    "C",
+    "D",
+    "a1",
+    "~",
+    "!",
+    "--",
+    "-5",
+    "#0",
+    '"',
+    "\\",
+    "<b>",
+    "A/B",
+    "%41",
+    "{}",
+    "x" * 64,
+]
 
 
 def draw_box(draw):
@@ -45,10 +64,30 @@ def draw_ids(draw, count):
     return ids + [f"n{number}" for number in range(count - len(ids))]
 
 
+def shaped_lines(draw):
+    """The lines of a good table whose labels stand in a row, a column, a lattice or at one anchor;
+    one of them may be far greater than the others.
+    """
+    places = draw_places(draw, draw.pick([10, 100, 400, 1024 * 2 ** draw.up_to(0, 16)]))
+    scales, box, lines = draw_scales(draw), draw_box(draw), []
+    for ident, (x, y) in zip(draw_ids(draw, len(places)), places):
+        words = [ident, str(x), str(y), *scales, box]
+        lines.append(
+            [*words[:3], *draw_scales(draw), draw_box(draw)] if draw.chance(0.1) else words
+        )
+    if draw.chance(0.25):
+        lines[draw.up_to(0, len(lines) - 1)][5] = "-512,-512,512,512"
+    return lines
+
+
 def draw_lines(draw):
     """The lines of a good table, in words."""
+    if draw.chance(0.15):
+        return shaped_lines(draw)
     step = draw.pick([50, 100, 100, 400, 400, 7, 1000000, 1024 * 2 ** draw.up_to(0, 16)])
-    count = draw.weighted([(0, 2), (1, 6), (2, 16), (3, 20), (4, 18), (6, 20), (9, 12), (14, 5), (40, 1), (150, 0.15)])
+    count = draw.weighted(
+        [(0, 2), (1, 6), (2, 16), (3, 20), (4, 18), (6, 20), (9, 12), (14, 5), (40, 1), (150, 0.15)]
+    )
     flat = draw.chance(0.4)
     lines = []
     for ident in draw_ids(draw, count):
@@ -80,7 +119,9 @@ def spoil_line(draw, words):
     elif how == 2:
         words[draw.pick([3, 4])] = draw.pick(BAD_FRACTIONS)
     elif how == 3:
-        words[3], words[4] = draw.pick([("5", "5"), ("10/2", "5"), ("2", "1"), ("0", "268435457"), ("0", "0")])
+        words[3], words[4] = draw.pick(
+            [("5", "5"), ("10/2", "5"), ("2", "1"), ("0", "268435457"), ("0", "0")]
+        )
     elif how <= 5:
         sides = words[5].split(",")
         place = draw.up_to(0, 3)
@@ -89,7 +130,7 @@ def spoil_line(draw, words):
     elif how == 6:
         words[5] = draw.pick(["1,2,3", "1,1,2,2,3", "", "1,1,1,2", "1,1,2,1", "2,1,1,2", "1;1;2;2"])
     elif how == 7:
-        words = words[:draw.up_to(1, 5)]
+        words = words[: draw.up_to(1, 5)]
     elif how == 8:
         words += ["0,0,1,1"] * (65 - (len(words) - 5))
     elif how == 9:
@@ -106,10 +147,15 @@ def draw_table(draw):
     lines = draw_lines(draw)
     fault = draw.weighted([("none", 58), ("line", 22), ("same", 8), ("bytes", 11.5), ("full", 0.7)])
     if fault == "full":
-        return FULL + draw.pick([b"m 0 0 0 1 0,0,1,1\n", b"\nm 0 0 0 1 0,0,1,1", b"n7 0 0 0 1 0,0,1,1\n", b"m 0\n"])
+        return FULL + draw.pick(
+            [b"m 0 0 0 1 0,0,1,1\n", b"\nm 0 0 0 1 0,0,1,1", b"n7 0 0 0 1 0,0,1,1\n", b"m 0\n"]
+        )
     if fault == "line":
         place = draw.up_to(0, len(lines))
-        lines.insert(place, spoil_line(draw, draw.pick(lines) if lines else ["Z", "0", "0", "0", "1", "0,0,1,1"]))
+        lines.insert(
+            place,
+            spoil_line(draw, draw.pick(lines) if lines else ["Z", "0", "0", "0", "1", "0,0,1,1"]),
+        )
     elif fault == "same" and lines:
         twin = [draw.pick(lines)[0], "0", "0", "0", "1", USUAL_BOX]
         lines.insert(draw.up_to(0, len(lines)), twin)
@@ -227,8 +273,29 @@ def break_state(draw, data):
     place = draw.up_to(0, len(words) - 1)
     how = draw.up_to(0, 4)
     if how == 0:
-        words[place] = draw.pick([b"", b"-1", b"x", b"9007199254740993", b"32769", b"65", b"%4A", b"%", b"%41", b"%c3%a9",
-                                  b"%C3%A9", b"%C3", b"007", b"1/0", b"-", b"0", b"00000", b"000000", b"+1"])
+        words[place] = draw.pick(
+            [
+                b"",
+                b"-1",
+                b"x",
+                b"9007199254740993",
+                b"32769",
+                b"65",
+                b"%4A",
+                b"%",
+                b"%41",
+                b"%c3%a9",
+                b"%C3%A9",
+                b"%C3",
+                b"007",
+                b"1/0",
+                b"-",
+                b"0",
+                b"00000",
+                b"000000",
+                b"+1",
+            ]
+        )
     elif how == 1:
         words.insert(place, draw.pick([b"", b"0", b"0,0,1,1"]))
     elif how == 2:
@@ -236,6 +303,8 @@ def break_state(draw, data):
     elif how == 3:
         words[-1] += draw.pick([b"\r", b" ", b"\xff", b"\t"])
     else:
-        return b"\n".join(lines[:at] + lines[at + draw.pick([0, 1]):] + ([lines[at]] if draw.chance(0.5) else []))
+        return b"\n".join(
+            lines[:at] + lines[at + draw.pick([0, 1]) :] + ([lines[at]] if draw.chance(0.5) else [])
+        )
     lines[at] = b" ".join(words)
     return b"\n".join(lines)

@@ -56,13 +56,19 @@ def active_at_end(begin, until, scale):
 
 def last_blocker(labels, ends, place):
     low, end = labels[place], ends[place]
-    found = [before for before in range(place) if end < low.max
-             and ml_conflict.ends_just_there(low, end, labels[before], ends[before])]
+    found = [
+        before
+        for before in range(place)
+        if end < low.max and ml_conflict.ends_just_there(low, end, labels[before], ends[before])
+    ]
     return found[-1] if found else None
 
 
 def strictest_clash(labels, ends, place):
-    limits = [(ml_conflict.limit(labels[place], labels[before], ends[before]), before) for before in range(place)]
+    limits = [
+        (ml_conflict.limit(labels[place], labels[before], ends[before]), before)
+        for before in range(place)
+    ]
     allowed, before = min(limits, default=(ends[place], None))
     return (before, allowed) if allowed < ends[place] else None
 
@@ -139,7 +145,9 @@ def eastern_stretch(kind, parts, right=ml_anchor.area_anchor):
     if bottom == top:
         return right(kind, parts)
     places = ml_anchor.crossings(part, Fraction(bottom + top, 2))
-    west, east = max(reversed(list(zip(places[::2], places[1::2]))), key=lambda pair: pair[1] - pair[0])
+    west, east = max(
+        reversed(list(zip(places[::2], places[1::2]))), key=lambda pair: pair[1] - pair[0]
+    )
     return (west + east) // 2, (bottom + top) // 2
 
 
@@ -162,7 +170,12 @@ def width_rounded_down(font, size, text):
 
 def narrow_clusters(advances, size, units, whole, right=ml_river.sides_of):
     sides = right(advances, size, units, whole)
-    return [(low, high) for low, high in zip([sides[0][0], *(high for _, high in sides)], [high for _, high in sides])]
+    return [
+        (low, high)
+        for low, high in zip(
+            [sides[0][0], *(high for _, high in sides)], [high for _, high in sides]
+        )
+    ]
 
 
 def margin_in_version_1(table, version, right=ml_style.read_class):
@@ -170,7 +183,11 @@ def margin_in_version_1(table, version, right=ml_style.read_class):
 
 
 def fonts_as_they_stand(value):
-    fonts = {name: ml_style.read_font(font) for name, font in value.items()} if isinstance(value, dict) else {}
+    fonts = (
+        {name: ml_style.read_font(font) for name, font in value.items()}
+        if isinstance(value, dict)
+        else {}
+    )
     for name, font in fonts.items():
         if font is None:
             raise Refused(3, "BadFont", name)
@@ -187,7 +204,9 @@ def plus_is_plus(part, right=ml_http.unescaped):
 
 
 def first_of_two(pairs, name, read, is_needed=True, right=ml_http.value_of):
-    return right(list({key: (key, value) for key, value in reversed(pairs)}.values()), name, read, is_needed)
+    return right(
+        list({key: (key, value) for key, value in reversed(pairs)}.values()), name, read, is_needed
+    )
 
 
 def revision_last(state, rev, body, right=ml_editor.replace):
@@ -230,46 +249,158 @@ def equal_revision_adopted(held, rev):
 
 
 RULES = [
-    ("touching overlaps", ml_cone, "hold_at", touching_overlaps,
-     "boxes that touch overlap, and a box that touches a window is in it"),
+    (
+        "touching overlaps",
+        ml_cone,
+        "hold_at",
+        touching_overlaps,
+        "boxes that touch overlap, and a box that touches a window is in it",
+    ),
     ("no margin", ml_cone, "widened", no_margin, "margins widen no box"),
-    ("margin in views", ml_cone, "window_conditions", window_of_widened, "a view is of boxes with their margins"),
-    ("no upper end", ml_conflict, "first_overlap", no_upper_end,
-     "two labels that overlap at a scale overlap at all above it"),
-    ("blocker not active", ml_conflict, "limit", cut_without_blocker, "a label limits others above its own end too"),
+    (
+        "margin in views",
+        ml_cone,
+        "window_conditions",
+        window_of_widened,
+        "a view is of boxes with their margins",
+    ),
+    (
+        "no upper end",
+        ml_conflict,
+        "first_overlap",
+        no_upper_end,
+        "two labels that overlap at a scale overlap at all above it",
+    ),
+    (
+        "blocker not active",
+        ml_conflict,
+        "limit",
+        cut_without_blocker,
+        "a label limits others above its own end too",
+    ),
     ("active at the end", ml_cone, "is_active", active_at_end, "a label is active at its end too"),
     ("last blocker", ml_pass, "blocker_of", last_blocker, "of several blockers the last is named"),
-    ("strictest clash", ml_cert, "first_clash", strictest_clash, "a clash names the label with the least limit"),
+    (
+        "strictest clash",
+        ml_cert,
+        "first_clash",
+        strictest_clash,
+        "a clash names the label with the least limit",
+    ),
     ("empty lines", ml_pass, "lines_of", empty_lines_uncounted, "empty lines are not counted"),
-    ("last CR", ml_pass, "lines_of", last_cr_passed_over, "a CR at the end of a last line without LF is passed over"),
-    ("reduced first", ml_ratio, "read_fraction", reduced_first, "a fraction is judged in lowest terms"),
+    (
+        "last CR",
+        ml_pass,
+        "lines_of",
+        last_cr_passed_over,
+        "a CR at the end of a last line without LF is passed over",
+    ),
+    (
+        "reduced first",
+        ml_ratio,
+        "read_fraction",
+        reduced_first,
+        "a fraction is judged in lowest terms",
+    ),
     ("cut decimals", ml_json, "e7", cut_decimals, "coordinates are cut after seven decimals"),
     ("half upwards", ml_json, "e7", half_upwards, "a half of a coordinate is rounded up"),
-    ("fault at token", ml_json, "first_wrong", fault_at_token, "JSON goes wrong where the token begins that is wrong"),
+    (
+        "fault at token",
+        ml_json,
+        "first_wrong",
+        fault_at_token,
+        "JSON goes wrong where the token begins that is wrong",
+    ),
     ("one deeper", ml_json, "DEEPEST", 65, "65 lists and maps may be open"),
     ("text ids alone", ml_geojson, "read_one", string_ids_alone, "a number is no id"),
     ("sign behind", ml_geojson, "free_id", sign_behind, "a taken id gets its further signs behind"),
     ("open ring", ml_geojson, "read_ring", ring_stays_open, "an open ring is not closed"),
-    ("last part", ml_anchor, "largest_part", last_part_at_tie, "of polygons as large the last counts"),
+    (
+        "last part",
+        ml_anchor,
+        "largest_part",
+        last_part_at_tie,
+        "of polygons as large the last counts",
+    ),
     ("no holes", ml_anchor, "crossings", holes_are_inside, "holes are inside"),
-    ("eastern stretch", ml_anchor, "area_anchor", eastern_stretch, "of stretches as wide the last counts"),
-    ("corners twice", ml_anchor, "crossings", level_edges_count, "a level line through a corner crosses both edges"),
+    (
+        "eastern stretch",
+        ml_anchor,
+        "area_anchor",
+        eastern_stretch,
+        "of stretches as wide the last counts",
+    ),
+    (
+        "corners twice",
+        ml_anchor,
+        "crossings",
+        level_edges_count,
+        "a level line through a corner crosses both edges",
+    ),
     ("characters", ml_text, "clusters", characters_are_clusters, "each character is a cluster"),
     ("width down", ml_text, "width", width_rounded_down, "widths are rounded down"),
-    ("narrow clusters", ml_river, "sides_of", narrow_clusters, "a box begins where that before it ends"),
-    ("margin in version 1", ml_style, "read_class", margin_in_version_1, "margins count in version 1 too"),
-    ("fonts in order", ml_style, "read_fonts", fonts_as_they_stand, "the first wrong font of the file is told"),
+    (
+        "narrow clusters",
+        ml_river,
+        "sides_of",
+        narrow_clusters,
+        "a box begins where that before it ends",
+    ),
+    (
+        "margin in version 1",
+        ml_style,
+        "read_class",
+        margin_in_version_1,
+        "margins count in version 1 too",
+    ),
+    (
+        "fonts in order",
+        ml_style,
+        "read_fonts",
+        fonts_as_they_stand,
+        "the first wrong font of the file is told",
+    ),
     ("moved lines", ml_label, "straight_box", moved_lines, "texts of lines are moved too"),
     ("plus is plus", ml_http, "unescaped", plus_is_plus, "a plus in a query is a plus"),
-    ("first of two", ml_http, "value_of", first_of_two, "of names that stand twice the first counts"),
+    (
+        "first of two",
+        ml_http,
+        "value_of",
+        first_of_two,
+        "of names that stand twice the first counts",
+    ),
     ("revision last", ml_editor, "replace", revision_last, "a moved revision is told last"),
     ("longer head", ml_http, "LONGEST_HEAD", 16385, "a head may have 16,385 bytes"),
     ("one request more", ml_http, "MOST_REQUESTS", 1001, "a connection has 1,001 requests"),
-    ("replaced goes last", ml_editor, "replace", replaced_goes_last, "a feature that replaces one stands last"),
-    ("spans alone", ml_watch, "changes_between", spans_alone, "a label that changes, but not its range, is no change"),
+    (
+        "replaced goes last",
+        ml_editor,
+        "replace",
+        replaced_goes_last,
+        "a feature that replaces one stands last",
+    ),
+    (
+        "spans alone",
+        ml_watch,
+        "changes_between",
+        spans_alone,
+        "a label that changes, but not its range, is no change",
+    ),
     ("rows southwards", ml_tile, "tile_view", rows_southwards, "rows of tiles count southwards"),
-    ("equal revision", ml_follow, "is_stale", equal_revision_adopted, "a state of the revision that is held is judged"),
+    (
+        "equal revision",
+        ml_follow,
+        "is_stale",
+        equal_revision_adopted,
+        "a state of the revision that is held is judged",
+    ),
     ("closed stays", ml_flight, "stays", closed_stays, "a stay above 0 always holds its lower end"),
     ("last gap", ml_gaps, "longer", last_longest_gap, "of free ranges as long the last counts"),
-    ("cost of rivals", ml_editor, "cost", cost_of_rivals_alone, "the label that comes is not counted as evaluated"),
+    (
+        "cost of rivals",
+        ml_editor,
+        "cost",
+        cost_of_rivals_alone,
+        "the label that comes is not counted as evaluated",
+    ),
 ]

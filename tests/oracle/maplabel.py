@@ -57,7 +57,9 @@ class Run:
 
     def map(self):
         style = self.read(self.words[1], "style", read_style, 3)
-        return self.read(self.words[2], "map", lambda data: ml_editor.load(style, read_collection(data)))
+        return self.read(
+            self.words[2], "map", lambda data: ml_editor.load(style, read_collection(data))
+        )
 
     def expect(self, is_form):
         if not is_form:
@@ -102,8 +104,12 @@ def run_slots(run):
 def run_gaps(run):
     run.expect(len(run.words) == 2)
     labels = run.table()
-    run.print("".join(f"{label.id} {fraction_text(begin)} {fraction_text(end)}\n"
-                      for label, (begin, end) in zip(labels, longest_gaps(labels))))
+    run.print(
+        "".join(
+            f"{label.id} {fraction_text(begin)} {fraction_text(end)}\n"
+            for label, (begin, end) in zip(labels, longest_gaps(labels))
+        )
+    )
 
 
 def run_check(run):
@@ -131,8 +137,11 @@ def run_zoom(run):
     window = run.view([*run.words[3:], "1"])
     state = run.map()
     timelines = [stays(label, end, window) for label, (end, _) in zip(state.labels, state.slots)]
-    lines = [" ".join([spelt_id(label.id), *map(stay_text, line)]) + "\n"
-             for label, line in zip(state.labels, timelines) if line]
+    lines = [
+        " ".join([spelt_id(label.id), *map(stay_text, line)]) + "\n"
+        for label, line in zip(state.labels, timelines)
+        if line
+    ]
     count, (where, mark) = peak(timelines)
     run.print("".join(lines) + f"peak {count} {where} {fraction_text(mark)}\n")
 
@@ -185,8 +194,19 @@ def run_gen(run):
     run.print(gen_line(count, seed))
 
 
-COMMANDS = {"show": run_show, "slots": run_slots, "check": run_check, "gaps": run_gaps, "gapview": run_gapview,
-            "view": run_view, "zoom": run_zoom, "pipe": run_pipe, "serve": run_serve, "follow": run_follow, "gen": run_gen}
+COMMANDS = {
+    "show": run_show,
+    "slots": run_slots,
+    "check": run_check,
+    "gaps": run_gaps,
+    "gapview": run_gapview,
+    "view": run_view,
+    "zoom": run_zoom,
+    "pipe": run_pipe,
+    "serve": run_serve,
+    "follow": run_follow,
+    "gen": run_gen,
+}
 
 
 def command_of(words):

@@ -26,8 +26,17 @@ class Label:
 
     def content(self):
         """All that tells two labels of one map apart."""
-        return (self.order, self.id, self.x, self.y, self.boxes, self.pieces,
-                self.min, self.max, self.margin)
+        return (
+            self.order,
+            self.id,
+            self.x,
+            self.y,
+            self.boxes,
+            self.pieces,
+            self.min,
+            self.max,
+            self.margin,
+        )
 
     def text(self):
         return "".join(self.pieces)
@@ -44,16 +53,24 @@ def box_conditions(a, box_a, b, box_b):
     """When the boxes, each widened by its label's margin, overlap."""
     left_a, bottom_a, right_a, top_a = widened(a, box_a)
     left_b, bottom_b, right_b, top_b = widened(b, box_b)
-    return ((a.x - b.x, right_b - left_a), (b.x - a.x, right_a - left_b),
-            (a.y - b.y, top_b - bottom_a), (b.y - a.y, top_a - bottom_b))
+    return (
+        (a.x - b.x, right_b - left_a),
+        (b.x - a.x, right_a - left_b),
+        (a.y - b.y, top_b - bottom_a),
+        (b.y - a.y, top_a - bottom_b),
+    )
 
 
 def window_conditions(label, box, view):
     """When the box, without any margin, meets the view's window."""
     left, bottom, right, top = box
     east, north = 2 * (label.x - view.cx), 2 * (label.y - view.cy)
-    return ((east, view.w - 2 * left), (-east, view.w + 2 * right),
-            (north, view.h - 2 * bottom), (-north, view.h + 2 * top))
+    return (
+        (east, view.w - 2 * left),
+        (-east, view.w + 2 * right),
+        (north, view.h - 2 * bottom),
+        (-north, view.h + 2 * top),
+    )
 
 
 def hold_at(conditions, over, under):

@@ -50,5 +50,7 @@ def ends_just_there(low, end, high, until):
 def are_rivals(a, b):
     """Whether the two overlap at some scale that lies in both selectable ranges."""
     start, stop = max(a.min, b.min), min(a.max, b.max)
-    return start < stop and any(first_overlap(conditions, start, stop) is not None
-                                for conditions in overlap_conditions(a, b))
+    return start < stop and any(
+        first_overlap(conditions, start, stop) is not None
+        for conditions in overlap_conditions(a, b)
+    )

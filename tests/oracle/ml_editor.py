@@ -82,7 +82,9 @@ def remove(state, rev, ident):
     check_revision(state, rev)
     if ident not in state.features:
         raise Refused(4, "Unknown", ident)
-    return next_state(state, state.style, {key: value for key, value in state.features.items() if key != ident})
+    return next_state(
+        state, state.style, {key: value for key, value in state.features.items() if key != ident}
+    )
 
 
 def restyle(state, rev, body):
@@ -92,12 +94,20 @@ def restyle(state, rev, body):
 
 def cost(before, after, ident):
     """How many labels an addition or a removal of the label with this id evaluates."""
-    ends = [{label.id: end for label, (end, _) in zip(state.labels, state.slots)} for state in (before, after)]
+    ends = [
+        {label.id: end for label, (end, _) in zip(state.labels, state.slots)}
+        for state in (before, after)
+    ]
     labels = {label.id: label for state in (before, after) for label in state.labels}
-    moved = [label for label in labels.values()
-             if label.id == ident or ends[0].get(label.id) != ends[1].get(label.id)]
+    moved = [
+        label
+        for label in labels.values()
+        if label.id == ident or ends[0].get(label.id) != ends[1].get(label.id)
+    ]
     touched = {ident} if ident in ends[1] else set()
     for label in after.labels:
-        if label.id != ident and any(high.order < label.order and are_rivals(label, high) for high in moved):
+        if label.id != ident and any(
+            high.order < label.order and are_rivals(label, high) for high in moved
+        ):
             touched.add(label.id)
     return len(touched)

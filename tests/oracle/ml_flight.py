@@ -9,8 +9,10 @@ START = Fraction(0)
 
 def is_shown(label, until, boxes, over, under):
     """Whether the label is active and some box meets the window."""
-    is_active = (label.min.numerator * under <= over * label.min.denominator
-                 and over * until.denominator < until.numerator * under)
+    is_active = (
+        label.min.numerator * under <= over * label.min.denominator
+        and over * until.denominator < until.numerator * under
+    )
     return is_active and any(hold_at(conditions, over, under) for conditions in boxes)
 
 
@@ -42,7 +44,9 @@ def is_in(stay, mark):
 
 def peak(timelines):
     """The greatest number shown at one scale, and the first place that has it."""
-    marks = sorted({START, *(mark for line in timelines for begin, _, end in line for mark in (begin, end))})
+    marks = sorted(
+        {START, *(mark for line in timelines for begin, _, end in line for mark in (begin, end))}
+    )
     best, place = -1, None
     for at, after in zip(marks, [*marks[1:], None]):
         if at > 0:
@@ -50,7 +54,11 @@ def peak(timelines):
             if count > best:
                 best, place = count, ("at", at)
         middle = after if after is None else (at + after) / 2
-        count = 0 if middle is None else sum(any(is_in(stay, middle) for stay in line) for line in timelines)
+        count = (
+            0
+            if middle is None
+            else sum(any(is_in(stay, middle) for stay in line) for line in timelines)
+        )
         if count > best:
             best, place = count, ("after", at)
     return best, place

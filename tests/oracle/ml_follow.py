@@ -17,8 +17,16 @@ def state_text(rev, labels, slots):
     for label, (end, blocker) in zip(labels, slots):
         fractions = fraction_text(label.min), fraction_text(label.max)
         boxes = [",".join(map(str, box)) for box in label.boxes]
-        words = [spelt_id(label.id), label.x, label.y, *fractions, label.margin, fraction_text(end),
-                 "-" if blocker is None else blocker, *boxes]
+        words = [
+            spelt_id(label.id),
+            label.x,
+            label.y,
+            *fractions,
+            label.margin,
+            fraction_text(end),
+            "-" if blocker is None else blocker,
+            *boxes,
+        ]
         lines.append(" ".join(map(str, words)) + "\n")
     return "".join(lines)
 
@@ -74,7 +82,9 @@ def read_head(line):
 
 
 def text_lines(data):
-    """The lines that have their LF, None for one that is no text, and whether bytes stand behind."""
+    """The lines that have their LF, None for one that is no text, and whether bytes stand
+    behind.
+    """
     rows = data.split(b"\n")
     lines = []
     for row in rows[:-1]:
@@ -120,7 +130,9 @@ def read_entries(lines, at, count):
 
 def told_of(labels, slots):
     """What a change compares, by id; the place in the order is no part of it."""
-    return {label.id: (label.content()[1:], (label.min, end)) for label, (end, _) in zip(labels, slots)}
+    return {
+        label.id: (label.content()[1:], (label.min, end)) for label, (end, _) in zip(labels, slots)
+    }
 
 
 def is_stale(held, rev):

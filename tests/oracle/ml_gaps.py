@@ -13,15 +13,21 @@ def longest_gaps(labels):
 
 def is_blocked(rivals, over, under):
     """Whether a label before it is active and overlaps there."""
-    return any(begin.numerator * under <= over * begin.denominator
-               and over * until.denominator < until.numerator * under
-               and any(hold_at(conditions, over, under) for conditions in pairs)
-               for pairs, begin, until in rivals)
+    return any(
+        begin.numerator * under <= over * begin.denominator
+        and over * until.denominator < until.numerator * under
+        and any(hold_at(conditions, over, under) for conditions in pairs)
+        for pairs, begin, until in rivals
+    )
 
 
 def longest_gap(low, before):
     """Of the ranges that are free, the longest, and of several the first."""
-    rivals = [(overlap_conditions(low, high), begin, until) for high, (begin, until) in before if begin < until]
+    rivals = [
+        (overlap_conditions(low, high), begin, until)
+        for high, (begin, until) in before
+        if begin < until
+    ]
     marks = {low.min, low.max}
     for pairs, begin, until in rivals:
         marks |= {begin, until}.union(*map(critical_scales, pairs))
@@ -29,7 +35,9 @@ def longest_gap(low, before):
     best = low.min, low.min
     begin = None
     for at, after in zip(places, [*places[1:], None]):
-        if begin is not None and (after is None or is_blocked(rivals, at.numerator, at.denominator)):
+        if begin is not None and (
+            after is None or is_blocked(rivals, at.numerator, at.denominator)
+        ):
             best, begin = longer(best, (begin, at)), None
         if after is None:
             break

@@ -4,7 +4,14 @@ import ml_json
 from ml_json import Num, e7, write_e7, write_string
 from ml_pass import Refused
 
-DEPTHS = {"Point": 0, "MultiPoint": 1, "LineString": 1, "MultiLineString": 2, "Polygon": 2, "MultiPolygon": 3}
+DEPTHS = {
+    "Point": 0,
+    "MultiPoint": 1,
+    "LineString": 1,
+    "MultiLineString": 2,
+    "Polygon": 2,
+    "MultiPolygon": 3,
+}
 NUMBERS = {"BadGeometry": 5, "OutOfRange": 6, "ShortRing": 7}
 
 
@@ -20,7 +27,11 @@ class Fault(Exception):
 
 
 def read_position(value):
-    if not isinstance(value, list) or len(value) < 2 or not all(isinstance(part, Num) for part in value[:2]):
+    if (
+        not isinstance(value, list)
+        or len(value) < 2
+        or not all(isinstance(part, Num) for part in value[:2])
+    ):
         raise Fault("BadGeometry")
     place = tuple(map(e7, value[:2]))
     if None in place:
@@ -93,7 +104,11 @@ def read_one(value, place):
         name = str(fault)
         raise Refused(NUMBERS[name], name, place) from None
     ident = value.get("id")
-    return str(ident) if isinstance(ident, str) else None, geometry, read_properties(value.get("properties"))
+    return (
+        str(ident) if isinstance(ident, str) else None,
+        geometry,
+        read_properties(value.get("properties")),
+    )
 
 
 def free_id(own, place, taken):
@@ -135,7 +150,11 @@ def scalar_text(value):
     """The canonical text of a property's value."""
     if isinstance(value, Num):
         return str(value)
-    return {None: "null", True: "true", False: "false"}[value] if not isinstance(value, str) else write_string(value)
+    return (
+        {None: "null", True: "true", False: "false"}[value]
+        if not isinstance(value, str)
+        else write_string(value)
+    )
 
 
 def coordinates_text(parts, depth):
@@ -149,9 +168,12 @@ def feature_text(feature):
     if feature.geometry:
         kind, parts = feature.geometry
         geometry = f'{{"type":"{kind}","coordinates":{coordinates_text(parts, DEPTHS[kind])}}}'
-    props = ",".join(f"{write_string(key)}:{scalar_text(feature.props[key])}"
-                     for key in sorted(feature.props, key=str.encode))
-    return f'{{"type":"Feature","id":{write_string(feature.id)},"geometry":{geometry},"properties":{{{props}}}}}'
+    props = ",".join(
+        f"{write_string(key)}:{scalar_text(feature.props[key])}"
+        for key in sorted(feature.props, key=str.encode)
+    )
+    head = f'{{"type":"Feature","id":{write_string(feature.id)},"geometry":{geometry}'
+    return f'{head},"properties":{{{props}}}}}'
 
 
 def collection_text(features):

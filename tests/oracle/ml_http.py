@@ -5,7 +5,16 @@ from collections import namedtuple
 from itertools import islice
 
 import ml_editor
-from ml_answer import (edit_json, fault_json, query_json, reason_json, rev_json, slot_json, svg_text, view_json)
+from ml_answer import (
+    edit_json,
+    fault_json,
+    query_json,
+    reason_json,
+    rev_json,
+    slot_json,
+    svg_text,
+    view_json,
+)
 from ml_follow import state_text
 from ml_geojson import collection_text
 from ml_pass import Refused
@@ -16,14 +25,33 @@ from ml_watch import change_lines
 
 HEAD_END, LONGEST_HEAD, MOST_FIELDS = b"\r\n\r\n", 16384, 64
 LONGEST_BODY, MOST_REQUESTS = 1048576, 1000
-PHRASES = {200: "OK", 400: "Bad Request", 404: "Not Found", 405: "Method Not Allowed", 409: "Conflict",
-           413: "Content Too Large", 422: "Unprocessable Content", 431: "Request Header Fields Too Large",
-           501: "Not Implemented"}
-METHODS = {"/view": ["GET"], "/svg": ["GET"], "/tile": ["GET"], "/why": ["GET"], "/map": ["GET"], "/rev": ["GET"],
-           "/state": ["GET"], "/feature": ["POST", "PUT", "DELETE"], "/style": ["PUT"]}
+PHRASES = {
+    200: "OK",
+    400: "Bad Request",
+    404: "Not Found",
+    405: "Method Not Allowed",
+    409: "Conflict",
+    413: "Content Too Large",
+    422: "Unprocessable Content",
+    431: "Request Header Fields Too Large",
+    501: "Not Implemented",
+}
+METHODS = {
+    "/view": ["GET"],
+    "/svg": ["GET"],
+    "/tile": ["GET"],
+    "/why": ["GET"],
+    "/map": ["GET"],
+    "/rev": ["GET"],
+    "/state": ["GET"],
+    "/feature": ["POST", "PUT", "DELETE"],
+    "/style": ["PUT"],
+}
 JSON = "application/json"
 _TOKEN = rb"[!#$%&'*+\-.^_`|~0-9A-Za-z]+"
-_HEAD = re.compile(rb"(?:\r?\n)*(" + _TOKEN + rb") ([^\x00-\x20\x7f]+) HTTP/1\.([01])\r?\n((?:[^\n]+\n)*?)\r?\n")
+_HEAD = re.compile(
+    rb"(?:\r?\n)*(" + _TOKEN + rb") ([^\x00-\x20\x7f]+) HTTP/1\.([01])\r?\n((?:[^\n]+\n)*?)\r?\n"
+)
 _FIELD = re.compile(rb"(" + _TOKEN + rb"):([^\x00-\x08\x0a-\x1f\x7f]*?)\r?\n")
 
 Event = namedtuple("Event", "method path query body closes")
@@ -65,19 +93,25 @@ def judge_head(data):
     if head is None or not head[1].startswith("/"):
         raise Bad(400, "request")
     method, target, minor, fields = head
-    values = {name: [value for key, value in fields if key == name]
-              for name in (b"host", b"transfer-encoding", b"content-length", b"connection")}
+    values = {
+        name: [value for key, value in fields if key == name]
+        for name in (b"host", b"transfer-encoding", b"content-length", b"connection")
+    }
     hosts = len(values[b"host"])
     if hosts > 1 or (minor == 1 and hosts == 0):
         raise Bad(400, "request")
     if values[b"transfer-encoding"]:
         raise Bad(501, "coding")
-    lengths = [read_digits(value.decode("latin-1"), 10) for value in values[b"content-length"]] or [0]
+    lengths = [read_digits(value.decode("latin-1"), 10) for value in values[b"content-length"]] or [
+        0
+    ]
     if len(lengths) > 1 or lengths[0] is None:
         raise Bad(400, "request")
     if lengths[0] > LONGEST_BODY:
         raise Bad(413, "size")
-    items = [item.strip(b" \t").lower() for value in values[b"connection"] for item in value.split(b",")]
+    items = [
+        item.strip(b" \t").lower() for value in values[b"connection"] for item in value.split(b",")
+    ]
     return method, target, lengths[0], minor == 0 or b"close" in items
 
 
@@ -100,7 +134,7 @@ def events_of(data):
             return
         path, _, query = target.partition("?")
         closes = closes or number == MOST_REQUESTS
-        yield Event(method, path, query, data[end:end + length], closes)
+        yield Event(method, path, query, data[end : end + length], closes)
         if closes:
             return
         at = end + length
@@ -154,11 +188,18 @@ class Map:
     def view_reply(self, view):
         state = self.state
         places = shown(state.labels, state.spans, view)
-        return Reply(200, view_json(view.scale, [(state.labels[place], state.spans[place][1]) for place in places]))
+        return Reply(
+            200,
+            view_json(
+                view.scale, [(state.labels[place], state.spans[place][1]) for place in places]
+            ),
+        )
 
     def svg_reply(self, view):
         places = shown(self.state.labels, self.state.spans, view)
-        return Reply(200, svg_text(view, [self.state.labels[place] for place in places]), "image/svg+xml")
+        return Reply(
+            200, svg_text(view, [self.state.labels[place] for place in places]), "image/svg+xml"
+        )
 
     def why_reply(self, ident):
         state = self.state
@@ -168,7 +209,9 @@ class Map:
         if isinstance(standing, str):
             return Reply(200, reason_json(ident, standing))
         until, blocker = state.slots[state.labels.index(standing)]
-        return Reply(200, slot_json(standing, until, None if blocker is None else state.labels[blocker].id))
+        return Reply(
+            200, slot_json(standing, until, None if blocker is None else state.labels[blocker].id)
+        )
 
     def read_reply(self, path, pairs):
         """The reply to a request that changes nothing."""
@@ -229,8 +272,11 @@ class Map:
 
 def reply_bytes(reply, closes):
     body = reply.body.encode()
-    head = [f"HTTP/1.1 {reply.status} {PHRASES[reply.status]}", f"Content-Type: {reply.kind}",
-            f"Content-Length: {len(body)}"]
+    head = [
+        f"HTTP/1.1 {reply.status} {PHRASES[reply.status]}",
+        f"Content-Type: {reply.kind}",
+        f"Content-Length: {len(body)}",
+    ]
     head += [f"Allow: {reply.allow}"] if reply.allow else []
     head += ["Connection: close"] if closes else []
     return "\r\n".join([*head, "", ""]).encode() + body

@@ -16,12 +16,17 @@ from ml_ratio import WORLD_EDGE
 DEEPEST = 64
 MARK = b"\xef\xbb\xbf"
 MOST_RANK = 2**53
-_TOKEN = re.compile(r"""[ \t\n\r]*(?:
+_TOKEN = re.compile(
+    r"""[ \t\n\r]*(?:
     (?P<mark>[][{},:])
   | (?P<string>"(?:[^"\\\x00-\x1f]|\\(?:["\\/bfnrt]|u[0-9a-fA-F]{4}))*")
   | (?P<number>-?(?:0|[1-9][0-9]*)(?:\.[0-9]+)?(?:[eE][+-]?[0-9]+)?)
-  | (?P<word>true|false|null))""", re.VERBOSE)
-_CUT_STRING = re.compile(r'"(?:[^"\\\x00-\x1f]|\\(?:["\\/bfnrt]|u[0-9a-fA-F]{4}))*(?:\\(?:u[0-9a-fA-F]{0,3})?)?\Z')
+  | (?P<word>true|false|null))""",
+    re.VERBOSE,
+)
+_CUT_STRING = re.compile(
+    r'"(?:[^"\\\x00-\x1f]|\\(?:["\\/bfnrt]|u[0-9a-fA-F]{4}))*(?:\\(?:u[0-9a-fA-F]{0,3})?)?\Z'
+)
 _CUT_NUMBER = re.compile(r"(?:-|-?(?:0|[1-9][0-9]*)(?:\.|(?:\.[0-9]+)?[eE][+-]?))\Z")
 _MARKS = re.compile(rb'"(?:[^"\\]|\\.)*"|[][{}]', re.DOTALL)
 _NUMBER = re.compile(r"(-?)([0-9]+)(?:\.([0-9]*))?(?:[eE]([+-]?[0-9]+))?")
@@ -97,7 +102,7 @@ def is_utf8(data):
 def text_of_beginning(body):
     """The characters of a beginning; one that is cut counts as any beyond ASCII."""
     text = codecs.getincrementaldecoder("utf-8")().decode(body)
-    cut = body[len(text.encode()):]
+    cut = body[len(text.encode()) :]
     if not cut:
         return text
     if not any(is_utf8(cut + fill * more) for fill in (b"\x80", b"\xbf") for more in (1, 2, 3)):
@@ -111,7 +116,7 @@ def read_beginning(data):
     if len(data) < len(MARK) and MARK.startswith(data):
         return state
     try:
-        text = text_of_beginning(data[len(MARK):] if data.startswith(MARK) else data)
+        text = text_of_beginning(data[len(MARK) :] if data.startswith(MARK) else data)
     except UnicodeDecodeError:
         return None
     at = 0
@@ -140,7 +145,7 @@ def first_wrong(data):
 
 def place_in_bytes(data, at):
     """The byte at which the character at a place of the text begins."""
-    body = data[len(MARK):] if data.startswith(MARK) else data
+    body = data[len(MARK) :] if data.startswith(MARK) else data
     text = codecs.getincrementaldecoder("utf-8")().decode(body)
     return len(data) - len(body) + len(text[:at].encode())
 

@@ -17,7 +17,7 @@ def runs_of(line):
         if place == 0 or steps[place - 1] != step:
             begin = place
         if place + 1 == len(steps) or steps[place + 1] != step:
-            found.append(line[begin:place + 2])
+            found.append(line[begin : place + 2])
     return found
 
 

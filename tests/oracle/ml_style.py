@@ -10,8 +10,14 @@ from ml_text import property_text
 Font = namedtuple("Font", "units default advances")
 Class = namedtuple("Class", "kind rule font size priority ref dx dy min max margin")
 Style = namedtuple("Style", "name rank fonts classes")
-KINDS = {"Point": "point", "MultiPoint": "point", "LineString": "line", "MultiLineString": "line",
-         "Polygon": "area", "MultiPolygon": "area"}
+KINDS = {
+    "Point": "point",
+    "MultiPoint": "point",
+    "LineString": "line",
+    "MultiLineString": "line",
+    "Polygon": "area",
+    "MultiPolygon": "area",
+}
 
 
 class Fault(Exception):

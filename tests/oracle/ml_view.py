@@ -34,5 +34,8 @@ def read_view(words):
 
 def shown(labels, spans, view):
     """The places of the labels that a view shows; a span is where a label is active."""
-    return [place for place, (label, (begin, until)) in enumerate(zip(labels, spans))
-            if is_active(begin, until, view.scale) and meets(label, view)]
+    return [
+        place
+        for place, (label, (begin, until)) in enumerate(zip(labels, spans))
+        if is_active(begin, until, view.scale) and meets(label, view)
+    ]

@@ -32,4 +32,6 @@ def changes_between(before, after):
 
 
 def change_lines(changes):
-    return "".join(f"{spelt_id(ident)} {span_words(old)} {span_words(new)}\n" for ident, old, new in changes)
+    return "".join(
+        f"{spelt_id(ident)} {span_words(old)} {span_words(new)}\n" for ident, old, new in changes
+    )

@@ -1,4 +1,6 @@
-"""That cases are drawn alike, that differences are told and kept, and that wrong rules are put in."""
+"""That cases are drawn alike, that differences are told and kept, and that wrong rules are put
+in.
+"""
 
 import os
 import subprocess
@@ -6,14 +8,17 @@ import sys
 import tempfile
 import unittest
 
-HERE = os.path.dirname(os.path.realpath(__file__))
-sys.path[:0] = [HERE, os.path.dirname(HERE)]
+# The oracle's modules stand here, and those of cases one folder above.
+if "cases" not in sys.modules:
+    sys.path[:0] = [os.path.dirname(__file__), os.path.dirname(os.path.dirname(__file__))]
 
-import maplabel  # noqa: E402
-from cases.case import Case  # noqa: E402
-from cases.kinds import MAKERS, draw_case  # noqa: E402
-from cases.sharp import wrong  # noqa: E402
-from cases.wrong_rules import RULES  # noqa: E402
+import maplabel
+from cases.case import Case
+from cases.kinds import MAKERS, draw_case
+from cases.sharp import wrong
+from cases.wrong_rules import RULES
+
+HERE = os.path.dirname(os.path.realpath(__file__))
 
 COMPARE = os.path.join(os.path.dirname(HERE), "compare")
 TWO = b"A 0 0 0 1000 -10,-5,10,5\nB 400 0 0 1000 -10,-5,10,5\n"
@@ -32,7 +37,9 @@ class Cases(unittest.TestCase):
             self.assertEqual(done.returncode, 1)
             self.assertIn(b"3 cases, 3 differ", done.stdout)
             kept = os.path.join(folder, "words-1-0")
-            self.assertTrue({"files", "run", "stdin", "oracle.out", "program.out"} <= set(os.listdir(kept)))
+            self.assertTrue(
+                {"files", "run", "stdin", "oracle.out", "program.out"} <= set(os.listdir(kept))
+            )
 
     def test_a_program_agrees_with_itself(self):
         words = [sys.executable, COMPARE, "slots", "1", "3", "/bin/true", "/bin/true"]
@@ -41,8 +48,14 @@ class Cases(unittest.TestCase):
         self.assertIn(b"3 cases, 0 differ", done.stdout)
 
     def test_wrong_words_are_told(self):
-        for words, status in [(["nokind"], 2), (["all", "1", "0"], 2), (["all", "1", "1", "/nowhere"], 1)]:
-            done = subprocess.run([sys.executable, COMPARE, *words], stderr=subprocess.PIPE, check=False)
+        for words, status in [
+            (["nokind"], 2),
+            (["all", "1", "0"], 2),
+            (["all", "1", "1", "/nowhere"], 1),
+        ]:
+            done = subprocess.run(
+                [sys.executable, COMPARE, *words], stderr=subprocess.PIPE, check=False
+            )
             self.assertEqual(done.returncode, status)
             self.assertNotIn(b"Traceback", done.stderr)
 

@@ -14,14 +14,21 @@ _COMMENT = re.compile(r"#[^\x00-\x08\x0a-\x1f\x7f]*")
 _BARE = re.compile(r"[A-Za-z0-9_-]+")
 _BASIC = re.compile(r'"((?:[^"\\\x00-\x08\x0a-\x1f\x7f]|\\.)*)"')
 _LITERAL = re.compile(r"'([^'\x00-\x08\x0a-\x1f\x7f]*)'")
-_LONG_BASIC = re.compile(r'"""(?:\r?\n)?((?:"{0,2}(?:[^"\\\x00-\x08\x0b-\x1f\x7f]|\r\n|\\[^\r]|\\\r\n))*"{0,2})"""')
-_LONG_LITERAL = re.compile(r"'''(?:\r?\n)?((?:'{0,2}(?:[^'\x00-\x08\x0b-\x1f\x7f]|\r\n))*'{0,2})'''")
+_LONG_BASIC = re.compile(
+    r'"""(?:\r?\n)?((?:"{0,2}(?:[^"\\\x00-\x08\x0b-\x1f\x7f]|\r\n|\\[^\r]|\\\r\n))*"{0,2})"""'
+)
+_LONG_LITERAL = re.compile(
+    r"'''(?:\r?\n)?((?:'{0,2}(?:[^'\x00-\x08\x0b-\x1f\x7f]|\r\n))*'{0,2})'''"
+)
 _ESCAPE = re.compile(r'\\(?:([bfnrte"\\])|x([0-9a-fA-F]{2})|u([0-9a-fA-F]{4})|U([0-9a-fA-F]{8}))')
 _ANY_ESCAPE = re.compile(r"\\(?:[ \t]*\r?\n(?:[ \t]|\r?\n)*|.)")
 _WORD = re.compile(r"[A-Za-z0-9_.:+-]+(?: [0-9][A-Za-z0-9_.:+-]*)?")
 _WHOLE = re.compile(r"[+-]?(?:0|[1-9](?:_?[0-9])*)")
 _OTHER_BASE = re.compile(r"0x[0-9a-fA-F](?:_?[0-9a-fA-F])*|0o[0-7](?:_?[0-7])*|0b[01](?:_?[01])*")
-_FLOAT = re.compile(r"[+-]?(?:inf|nan|(?:0|[1-9](?:_?[0-9])*)(?:\.[0-9](?:_?[0-9])*)?(?:[eE][+-]?[0-9](?:_?[0-9])*)?)")
+_FLOAT = re.compile(
+    r"[+-]?(?:inf|nan|(?:0|[1-9](?:_?[0-9])*)"
+    r"(?:\.[0-9](?:_?[0-9])*)?(?:[eE][+-]?[0-9](?:_?[0-9])*)?)"
+)
 _DATE = re.compile(r"(\d{4})-(\d\d)-(\d\d)", re.ASCII)
 _TIME = re.compile(r"(\d\d):(\d\d)(?::(\d\d)(?:\.\d+)?)?", re.ASCII)
 _OFFSET = re.compile(r"[Zz]|[+-](\d\d):(\d\d)", re.ASCII)
@@ -212,7 +219,11 @@ def unescaped(text):
         found = _ESCAPE.match(text, place)
         if not found:
             raise NotToml
-        code = int(next(filter(None, found.groups()[1:])), 16) if not found[1] else ord(PLAIN[found[1]])
+        code = (
+            int(next(filter(None, found.groups()[1:])), 16)
+            if not found[1]
+            else ord(PLAIN[found[1]])
+        )
         if code > 0x10FFFF or 0xD800 <= code <= 0xDFFF:
             raise NotToml
         parts += [text[at:place], chr(code)]
@@ -258,7 +269,7 @@ def is_time(hour, minute, second):
 def is_date_time(word):
     """Whether it is a date, a time, or both with or without an offset."""
     date = _DATE.match(word)
-    rest = word[date.end():] if date else word
+    rest = word[date.end() :] if date else word
     if date and not is_date(*date.groups()):
         return False
     if date and not rest:
@@ -268,7 +279,7 @@ def is_date_time(word):
     time = _TIME.match(rest, 1 if date else 0)
     if not time or not is_time(*time.groups()):
         return False
-    offset = rest[time.end():]
+    offset = rest[time.end() :]
     if not offset or not date:
         return not offset
     found = _OFFSET.fullmatch(offset)
