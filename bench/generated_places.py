@@ -1,14 +1,27 @@
-#!/usr/bin/env python3
-"""Where the groups of generated maps lie: lines `SEED GROUP => X Y`, worked out apart from the program.
+#!/usr/bin/python3
+"""Where the groups of generated maps lie: lines `SEED GROUP => X Y`, worked out apart from the
+program.
 
 The numbers of a seed are the seed itself and each further one times 6364136223846793005 plus
-1442695040888963407, cut to 64 bits. Group g lies in column g mod 80 and row g div 80, 10,000,000 world
-units apart, and is moved by its own number: eastwards by its upper 32 bits, northwards by the whole,
-each cut to below 100,000.
+1442695040888963407, cut to 64 bits. Group g lies in column g mod 80 and row g div 80, 10,000,000
+world units apart, and is moved by its own number: eastwards by its upper 32 bits, northwards by the
+whole, each cut to below 100,000.
 """
 
+SHOWN = (
+    (0, 0),
+    (7, 0),
+    (7, 1),
+    (7, 79),
+    (7, 80),
+    (7, 161),
+    (4294967295, 0),
+    (4294967295, 5999),
+)
 
-def place(seed, group):
+
+def place(seed: int, group: int) -> tuple[int, int]:
+    """Where a group of a seed lies."""
     number = seed
     for _ in range(group + 1):
         number = (number * 6364136223846793005 + 1442695040888963407) & ((1 << 64) - 1)
@@ -17,6 +30,6 @@ def place(seed, group):
     return east, north
 
 
-for seed, group in [(0, 0), (7, 0), (7, 1), (7, 79), (7, 80), (7, 161), (4294967295, 0), (4294967295, 5999)]:
-    east, north = place(seed, group)
-    print(f"{seed} {group} => {east} {north}")
+if __name__ == "__main__":
+    for one, number in SHOWN:
+        print(f"{one} {number} => {' '.join(map(str, place(one, number)))}")

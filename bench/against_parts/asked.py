@@ -4,21 +4,52 @@ REQUESTS = 1000  # as many as a connection may have
 
 
 def request(method, target, body=""):
-    return f"{method} {target} HTTP/1.1\r\nHost: a\r\nContent-Length: {len(body.encode())}\r\n\r\n{body}"
+    length = f"Content-Length: {len(body.encode())}"
+    return f"{method} {target} HTTP/1.1\r\nHost: a\r\n{length}\r\n\r\n{body}"
 
 
 def edits(draw, count, features):
     """So many edits by twos: a feature is taken out, and the same one put in again."""
     text = []
     for it in draw.choices(features, k=count // 2):
-        text.append(request("DELETE", f"/feature?id={it.ident}") + request("POST", "/feature", it.text))
+        text.append(
+            request("DELETE", f"/feature?id={it.ident}") + request("POST", "/feature", it.text)
+        )
     return "".join(text).encode()
 
 
 def views(draw, places, scales):
-    """The views of a connection: 1024 by 768 pixels at one of the scales, near one of the places."""
+    """The views of a connection: 1024 by 768 pixels at one of the scales, near one of the
+    places.
+    """
     text = []
     for x, y in draw.choices(places, k=REQUESTS):
-        x, y, scale = x + draw.randint(-2000, 2000), y + draw.randint(-2000, 2000), draw.choice(scales)
+        x, y, scale = (
+            x + draw.randint(-2000, 2000),
+            y + draw.randint(-2000, 2000),
+            draw.choice(scales),
+        )
         text.append(request("GET", f"/view?cx={x}&cy={y}&w=1024&h=768&s={scale}"))
+    return "".join(text).encode()
+
+
+def put_in_and_out(count, it):
+    """So many edits by twos: the feature is put in, and taken out again."""
+    return (
+        count
+        // 2
+        * (request("POST", "/feature", it.text) + request("DELETE", f"/feature?id={it.ident}"))
+    ).encode()
+
+
+def made_first(draw, count, features):
+    """So many edits, each of which gives a feature a rank above all others."""
+    text = []
+    for number, it in enumerate(draw.choices(features, k=count)):
+        front, _, behind = it.text.rpartition('"pop":')
+        text.append(
+            request(
+                "PUT", "/feature", f'{front}"pop":{2_000_000 + number}{behind.lstrip("0123456789")}'
+            )
+        )
     return "".join(text).encode()

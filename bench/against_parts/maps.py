@@ -17,19 +17,27 @@ advances = { "i" = 250, "\\u0301" = 0 }
 
 
 def style(*classes):
-    """A style of these classes, of which the first comes first. Their names may be shown from the scale 0 on."""
+    """A style of these classes, of which the first comes first. Their names may be shown from the
+    scale 0 on.
+    """
     text = [HEAD]
     for place, fields in enumerate(classes, 1):
         fields = {**fields, "font": "sans", "priority": place, "min": "0"}
-        text.append("\n[[class]]\n" + "".join(f"{key} = {json.dumps(value)}\n" for key, value in fields.items()))
+        text.append(
+            "\n[[class]]\n"
+            + "".join(f"{key} = {json.dumps(value)}\n" for key, value in fields.items())
+        )
     return "".join(text)
 
 
-# The style of generated maps, as the program has it: names of points end below 1000, those of lines and areas later.
-OF_GROUPS = style({"geometry": "point", "key": "place", "value": "city", "size": 20, "max": "1000"},
-                  {"geometry": "point", "size": 20, "max": "1000"},
-                  {"geometry": "line", "size": 20, "ref": 1000, "max": "2000"},
-                  {"geometry": "area", "size": 20, "max": "100000"})
+# The style of generated maps, as the program has it: names of points end below 1000, those of lines
+# and areas later.
+OF_GROUPS = style(
+    {"geometry": "point", "key": "place", "value": "city", "size": 20, "max": "1000"},
+    {"geometry": "point", "size": 20, "max": "1000"},
+    {"geometry": "line", "size": 20, "ref": 1000, "max": "2000"},
+    {"geometry": "area", "size": 20, "max": "100000"},
+)
 # Towns may be shown at every scale, so nearly all are cut by others.
 OF_TOWNS = style({"geometry": "point", "size": 16, "max": "268435456"})
 # One class, and scales so far out that a name is as wide as several countries.
@@ -51,15 +59,23 @@ def feature(ident, kind, positions, **properties):
     inner = ",".join(texts)
     coordinates = {"Point": inner, "LineString": f"[{inner}]", "Polygon": f"[[{inner}]]"}[kind]
     told = json.dumps(properties, separators=(",", ":"))
-    return Feature(ident, *positions[0], f'{{"type":"Feature","id":"{ident}","geometry":{{"type":"{kind}",'
-                   f'"coordinates":{coordinates}}},"properties":{told}}}')
+    return Feature(
+        ident,
+        *positions[0],
+        f'{{"type":"Feature","id":"{ident}","geometry":{{"type":"{kind}",'
+        f'"coordinates":{coordinates}}},"properties":{told}}}',
+    )
 
 
 def group(number, x, y):
-    """A group at a place: three towns in a row, the first of which has no room for the others, a river and an area."""
+    """A group at a place: three towns in a row, the first of which has no room for the others, a
+    river and an area.
+    """
     at = f"g{number}"
     for letter, pop in ("a", 3), ("b", 2), ("c", 1):
-        yield feature(at + letter, "Point", [(x + 400 * (3 - pop), y)], name="ab", place="city", pop=pop)
+        yield feature(
+            at + letter, "Point", [(x + 400 * (3 - pop), y)], name="ab", place="city", pop=pop
+        )
     bends = [(x, y + 4_000_000), (x + 1_000_000, y + 4_100_000), (x + 2_000_000, y + 4_000_000)]
     yield feature(at + "r", "LineString", bends, name="river")
     west, east, south, north = x, x + 1_000_000, y + 7_000_000, y + 8_000_000
@@ -68,12 +84,18 @@ def group(number, x, y):
 
 
 def groups(count, seed):
-    """The map that `gen` makes of so many groups: in 80 columns, a degree apart, each moved by a number of its own."""
+    """The map that `gen` makes of so many groups: in 80 columns, a degree apart, each moved by a
+    number of its own.
+    """
     number = seed
     for place in range(count):
         number = (number * 6364136223846793005 + 1442695040888963407) % 2**64
         row, column = divmod(place, 80)
-        yield from group(place, (column - 40) * DEGREE + (number >> 32) % 100_000, (row - 40) * DEGREE + number % 100_000)
+        yield from group(
+            place,
+            (column - 40) * DEGREE + (number >> 32) % 100_000,
+            (row - 40) * DEGREE + number % 100_000,
+        )
 
 
 def point(draw, ident, x, y, **more):
@@ -85,29 +107,41 @@ def point(draw, ident, x, y, **more):
 def points(draw, count):
     """Cities anywhere in the world, but for the poles."""
     east, north = 180 * DEGREE, 85 * DEGREE
-    return [point(draw, f"p{number}", draw.randint(-east, east), draw.randint(-north, north), place="city")
-            for number in range(count)]
+    return [
+        point(
+            draw, f"p{number}", draw.randint(-east, east), draw.randint(-north, north), place="city"
+        )
+        for number in range(count)
+    ]
 
 
 def towns(draw, count):
     """Points in 60 clumps over 20 by 20 degrees, some of them narrow and some wide."""
     reach = 10 * DEGREE
-    clumps = [(draw.uniform(-reach, reach), draw.uniform(-reach, reach), draw.uniform(200_000, 8_000_000))
-              for _ in range(60)]
+    clumps = [
+        (draw.uniform(-reach, reach), draw.uniform(-reach, reach), draw.uniform(200_000, 8_000_000))
+        for _ in range(60)
+    ]
     made = []
     for number in range(count):
         x, y, spread = draw.choice(clumps)
-        made.append(point(draw, f"t{number}", int(draw.gauss(x, spread)), int(draw.gauss(y, spread))))
+        made.append(
+            point(draw, f"t{number}", int(draw.gauss(x, spread)), int(draw.gauss(y, spread)))
+        )
     return made
 
 
 def collection(features):
     """The text of a map."""
-    return '{"type":"FeatureCollection","features":[' + ",\n".join(it.text for it in features) + "]}"
+    return (
+        '{"type":"FeatureCollection","features":[' + ",\n".join(it.text for it in features) + "]}"
+    )
 
 
 def table(draw, count):
-    """Labels 10 to 80 pixels wide at all scales, whose places are normally distributed about the middle of the world."""
+    """Labels 10 to 80 pixels wide at all scales, whose places are normally distributed about the
+    middle of the world.
+    """
     lines = []
     for number in range(count):
         width = draw.randint(10, 80)

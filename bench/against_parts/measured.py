@@ -9,13 +9,16 @@ from against_parts.works import Work
 HEAD = """| Workload | Seconds | Seconds of OTHER | Ratio | MiB | MiB of OTHER | Owed |
 |---|---|---|---|---|---|---|"""
 LEAST = 0.001  # seconds: what takes less counts as this much in a ratio
-# A processor may be slower for seconds on end: so a short workload is timed until OTHER has run for so many seconds in
+# A processor may be slower for seconds on end: so a short workload is timed until OTHER has run for
+# so many seconds in
 # all, but not more often than this.
 ENOUGH, MOST = 1.0, 20
 
 
 class Taken:
-    """What a program took for a workload: the least seconds, the least of what is taken off, and the most memory."""
+    """What a program took for a workload: the least seconds, the least of what is taken off, and
+    the most memory.
+    """
 
     def __init__(self):
         self.seconds, self.less, self.kib = float("inf"), float("inf"), 0
@@ -44,16 +47,24 @@ class Measured(NamedTuple):
         if not owed.is_kept(work.title, ratio, seconds[0]):
             due += " **missed**"
         title = work.title + (f" **{self.fault}**" if self.fault else "")
-        cells = [title, *times, f"{ratio:.2f}", *(f"{it.kib / 1024:.0f}" for it in self.taken), due or "-"]
+        cells = [
+            title,
+            *times,
+            f"{ratio:.2f}",
+            *(f"{it.kib / 1024:.0f}" for it in self.taken),
+            due or "-",
+        ]
         return f"| {' | '.join(cells)} |"
 
 
 def measure(programs, work, folder, times):
-    """Runs both programs in turn, so many times at least. The first run of each is not timed; there standard error is
-    compared too."""
+    """Runs the program and each way of OTHER in turn, so many times at least; the way that takes
+    least is what OTHER takes. The first run of each is not timed; there standard error is compared
+    too.
+    """
     taken, first, fault = tuple(Taken() for _ in programs), None, ""
     notes = folder / "notes"
-    for name, program in zip(("the program", "OTHER"), programs):
+    for name, program in zip(("the program", *["OTHER"] * (len(programs) - 1)), programs):
         with notes.open("wb") as sink:
             ended = end_of(program, work.run, folder, sink)
         seen = ended.status, ended.out, notes.read_bytes()
@@ -73,4 +84,4 @@ def measure(programs, work, folder, times):
             if (ended.status, ended.out) != first[:2]:
                 fault = fault or "outputs differ"
         spent += ended.seconds  # (OTHER ran last)
-    return Measured(work, taken, fault)
+    return Measured(work, (taken[0], min(taken[1:], key=lambda it: it.left(work))), fault)

@@ -1,6 +1,16 @@
-"""What is owed: how many times the time or memory of OTHER a workload may take, and how many seconds."""
+"""What is owed: how many times the time or memory of OTHER a workload may take, and how many
+seconds.
+"""
 
-# By the titles of rows, so for maps of these sizes alone: the ratio at the most, and the seconds at the most that the
+DEAR_TABLES = (
+    "32768 labels in one column",
+    "32768 labels in one row",
+    "10000 labels at one anchor",
+    "32768 labels, one of them great",
+)
+
+# By the titles of rows, so for maps of these sizes alone: the ratio at the most, and the seconds at
+# the most that the
 # row tells, of a run or of one edit. The ratio of a row of memory is that of memory.
 OWED = {
     "load of 10000 points": (3, None),
@@ -30,15 +40,37 @@ OWED = {
     "show of 32768 labels": (3, 2),
     "check of 32768 labels": (3, 2),
     "gaps of 32768 labels": (3, 2),
+    **{
+        f"one edit in front of a chain of {count} points": (3, 0.2)
+        for count in (4000, 10000, 30000)
+    },
+    "one edit at the corner of a lattice of 100 by 100 points": (3, 0.2),
+    **{
+        f"one edit that puts first one of {count} crowded towns": (3, 0.2)
+        for count in (10000, 32768)
+    },
+    "one edit of the last of 4000 points at one anchor": (3, 0.2),
+    "load of 32768 points on one meridian": (3, None),
+    "load of 32768 points at one anchor": (3, None),
+    **{
+        f"{what} of {labels}": (3, None)
+        for what in ("slots", "check", "gaps")
+        for labels in DEAR_TABLES
+    },
+    "follow of 5000 states of two labels": (3, None),
     "gen 2000 7": (6, None),
     "gen 6000 7": (6, None),
 }
 
 
 def is_kept(title, ratio, seconds):
-    """Whether the row of this title keeps what is owed, to the hundredth that is told of a ratio."""
+    """Whether the row of this title keeps what is owed, to the hundredth that is told of a
+    ratio.
+    """
     most_ratio, most_seconds = OWED.get(title, (None, None))
-    return (most_ratio is None or round(ratio, 2) <= most_ratio) and (most_seconds is None or seconds <= most_seconds)
+    return (most_ratio is None or round(ratio, 2) <= most_ratio) and (
+        most_seconds is None or seconds <= most_seconds
+    )
 
 
 def told(title):

@@ -21,9 +21,20 @@ class Refused(Exception):
     """What cannot be measured, in a sentence."""
 
 
+class Program(NamedTuple):
+    """A program, and what its environment has besides that of this process."""
+
+    path: str
+    also: tuple = ()
+
+    def environment(self):
+        return {**os.environ, **dict(self.also)}
+
+
 class Run(NamedTuple):
-    """Words of a program with its standard input; or words of `serve`, PORT and COUNT left out, with what is sent
-    over each connection."""
+    """Words of a program with its standard input; or words of `serve`, PORT and COUNT left out,
+    with what is sent over each connection.
+    """
 
     words: tuple
     put: bytes = b""
@@ -34,8 +45,9 @@ class Run(NamedTuple):
 
 
 class Ended(NamedTuple):
-    """How a run ended: the exit code, standard output with the replies behind it, processor seconds, which of `serve`
-    are those from `ready` on, and the greatest memory in KiB."""
+    """How a run ended: the exit code, standard output with the replies behind it, processor
+    seconds, which of `serve` are those from `ready` on, and the greatest memory in KiB.
+    """
 
     status: int
     out: bytes
@@ -51,12 +63,29 @@ class Started:
     """A program that runs. What is left of it goes with the block in which it was started."""
 
     def __init__(self, program, words, source, sink, notes):
-        self.name = f"{program} {words[0]}"
+        self.name = f"{program.path} {words[0]}"
         told, tell = os.pipe()
         self.told = open(told, encoding="ascii")
-        command = [sys.executable, "-I", "-S", "-B", STARTER, str(tell), str(PROCESSOR), program, *words]
-        self.process = subprocess.Popen(command, stdin=source, stdout=sink, stderr=notes, pass_fds=[tell],
-                                        start_new_session=True)
+        command = [
+            sys.executable,
+            "-I",
+            "-S",
+            "-B",
+            STARTER,
+            str(tell),
+            str(PROCESSOR),
+            program.path,
+            *words,
+        ]
+        self.process = subprocess.Popen(
+            command,
+            stdin=source,
+            stdout=sink,
+            stderr=notes,
+            pass_fds=[tell],
+            start_new_session=True,
+            env=program.environment(),
+        )
         os.close(tell)
 
     def __enter__(self):
@@ -73,7 +102,9 @@ class Started:
     def spent(self):
         """Processor seconds until now. To be asked once."""
         child = int(self.told.readline())
-        return time.clock_gettime(~child << 3 | 2)  # the clock's number is that of clock_getcpuclockid
+        return time.clock_gettime(
+            ~child << 3 | 2
+        )  # the clock's number is that of clock_getcpuclockid
 
     def end(self):
         """Waits for its end: the exit code, seconds and KiB."""
@@ -88,7 +119,9 @@ def piped(program, run, folder, notes):
     """The end of a run over standard input and output, which are files of the folder."""
     source, sink = folder / "in", folder / "out"
     source.write_bytes(run.put)
-    with source.open("rb") as put, sink.open("wb") as out, Started(program, run.words, put, out, notes) as started:
+    with source.open("rb") as put, sink.open("wb") as out, Started(
+        program, run.words, put, out, notes
+    ) as started:
         status, seconds, kib = started.end()
     return Ended(status, sink.read_bytes(), seconds, kib)
 
@@ -100,7 +133,9 @@ def free_port():
 
 
 def talk(port, text):
-    """All that a connection is answered. What is sent goes as the server takes it, while replies are read."""
+    """All that a connection is answered. What is sent goes as the server takes it, while replies
+    are read.
+    """
     got, left, is_open = [], memoryview(text), True
     with socket.create_connection(("127.0.0.1", port), PATIENCE) as link:
         link.setblocking(False)
@@ -112,7 +147,7 @@ def talk(port, text):
             if not readable and not writable:
                 raise TimeoutError(f"silent for {PATIENCE} seconds")
             if writable:
-                left = left[link.send(left):]
+                left = left[link.send(left) :]
             if readable:
                 piece = link.recv(1 << 20)
                 if not piece:
@@ -127,7 +162,9 @@ def served(program, run, notes):
     with Started(program, words, subprocess.DEVNULL, subprocess.PIPE, notes) as started:
         first = started.process.stdout.readline()
         if first != b"ready\n":
-            raise Refused(f"{started.name} is not ready but prints `{first.decode(errors='replace').strip()}`")
+            raise Refused(
+                f"{started.name} is not ready but prints `{first.decode(errors='replace').strip()}`"
+            )
         loaded = started.spent()
         try:
             replies = [talk(port, text) for text in run.links]
@@ -152,5 +189,5 @@ def printed(program, run, folder):
     """What a run prints that must end well."""
     ended = end_of(program, run, folder)
     if ended.has_failed(run):
-        raise Refused(f"{program} {' '.join(run.words)} ended with {ended.status}")
+        raise Refused(f"{program.path} {' '.join(run.words)} ended with {ended.status}")
     return ended.out
