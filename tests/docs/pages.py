@@ -1,9 +1,12 @@
-"""The pages: their lines, the text between code, what stands in backticks, tables, links and printed examples."""
-
+"""The pages: their lines, the text between code, what stands in backticks, tables, links and
+printed examples.
+"""
 import glob
 import os
 import re
+from collections.abc import Iterator
 from dataclasses import dataclass
+from typing import Any
 
 FENCE = re.compile(r"^\s*(`{3,})\s*(\w*)")
 SPAN = re.compile(r"(?<!`)`([^`\n]+)`(?!`)")
@@ -14,23 +17,25 @@ COMMENT = re.compile(r"<!--.*?-->", re.DOTALL)
 @dataclass(frozen=True)
 class Fault:
     """What is wrong, and where."""
+
     page: str
     line: int
     text: str
 
-    def __str__(self):
+    def __str__(self) -> Any:
         return f"{self.page}:{self.line}: {self.text}"
 
 
 @dataclass(frozen=True)
 class Block:
     """A block of code: its kind, the line of its fence, and its lines."""
+
     kind: str
     line: int
-    lines: tuple
+    lines: tuple[str, ...]
 
 
-def blank(match):
+def blank(match: re.Match[str]) -> str:
     """As many line ends as a match has."""
     return "\n" * match.group(0).count("\n")
 
@@ -38,16 +43,20 @@ def blank(match):
 class Page:
     """A page with its name, as from the top folder."""
 
-    def __init__(self, root, name):
+    def __init__(self, root: str, name: str) -> None:
         self.root, self.name = root, name
         with open(os.path.join(root, name), encoding="utf-8") as stream:
             self.text = stream.read()
-        self.prose, self.blocks = [], []
+        self.prose: list[str] = []
+        self.blocks: list[Block] = []
         self.read(COMMENT.sub(blank, self.text).split("\n"))
 
-    def read(self, lines):
-        """Parts the lines into prose and blocks of code; a line of a block is an empty line of the prose."""
-        fence, start, held = None, 0, []
+    def read(self, lines: list[str]) -> None:
+        """Parts the lines into prose and blocks of code; a line of a block is an empty line of the
+        prose.
+        """
+        fence, start = None, 0
+        held: list[str] = []
         for number, line in enumerate(lines, 1):
             mark = FENCE.match(line)
             if fence is None and mark:
@@ -62,24 +71,26 @@ class Page:
                 continue
             self.prose.append("")
 
-    def fault(self, line, text):
+    def fault(self, line: Any, text: Any) -> Any:
         """A fault of this page."""
         return Fault(self.name, line, text)
 
-    def spans(self):
+    def spans(self) -> Iterator[tuple[int, str, str]]:
         """What stands in backticks, with the line and the text of that line."""
         for number, line in enumerate(self.prose, 1):
             for found in SPAN.finditer(line):
                 yield number, found.group(1), line
 
-    def links(self):
+    def links(self) -> Iterator[tuple[int, str]]:
         """The targets of links and pictures, with their lines."""
         for number, line in enumerate(self.prose, 1):
             for found in LINK.finditer(SPAN.sub("", line)):
                 yield number, found.group(1)
 
-    def rows(self, *head):
-        """The rows of the tables with this head, as lists of cells, with their lines and the section that they are in."""
+    def rows(self, *head: str) -> Iterator[tuple[int, list[str], str]]:
+        """The rows of the tables with this head, as lists of cells, with their lines and the
+        section that they are in.
+        """
         inside, section = False, ""
         for number, line in enumerate(self.prose, 1):
             if line.startswith("#"):
@@ -92,9 +103,12 @@ class Page:
             elif inside and set("".join(cells)) - set("-: "):
                 yield number, cells, section
 
-    def paragraphs(self):
-        """The paragraphs, each with its first line; a list item and a row of a table are paragraphs of their own."""
-        held, start = [], 0
+    def paragraphs(self) -> Iterator[tuple[int, str]]:
+        """The paragraphs, each with its first line; a list item and a row of a table are paragraphs
+        of their own.
+        """
+        held: list[str] = []
+        start = 0
         for number, line in enumerate([*self.prose, ""], 1):
             if held and (not line.strip() or re.match(r"\s*(?:[-*|#]|\d+\.) ?", line)):
                 yield start, " ".join(held)
@@ -104,13 +118,15 @@ class Page:
                 held.append(line.strip())
 
 
-def pages_in(root):
+def pages_in(root: str) -> list[Page]:
     """The pages that are checked: README, CONTRIBUTING and those of docs."""
     names = ["README.md", "CONTRIBUTING.md"]
-    names += sorted(os.path.relpath(path, root) for path in glob.glob(os.path.join(root, "docs", "*.md")))
+    names += sorted(
+        os.path.relpath(path, root) for path in glob.glob(os.path.join(root, "docs", "*.md"))
+    )
     return [Page(root, name) for name in names if os.path.exists(os.path.join(root, name))]
 
 
-def names_in(cell):
+def names_in(cell: str) -> list[str]:
     """The names in backticks of a cell of a table."""
     return SPAN.findall(cell)
