@@ -1,0 +1,60 @@
+"""Whether a turned letter's ink keeps within the boxes of its name: exact, column by column."""
+
+from collections.abc import Sequence
+
+from maplabel_kit.along.curve import Box, Point
+
+Span = tuple[float, float]
+
+
+def clipped(shape: Sequence[Point], low: float, high: float) -> Span | None:
+    """The least and the greatest y of a convex shape between two x, none where it is not there."""
+    ys = [y for x, y in shape if low <= x <= high]
+    for k, (ax, ay) in enumerate(shape):
+        bx, by = shape[(k + 1) % len(shape)]
+        for x in (low, high):
+            if (ax - x) * (bx - x) < 0:
+                ys.append(ay + (by - ay) * (x - ax) / (bx - ax))
+    return (min(ys), max(ys)) if ys else None
+
+
+def joined(spans: Sequence[Span]) -> list[Span]:
+    """Spans that touch or cover one another, as one."""
+    found: list[Span] = []
+    for bottom, top in sorted(spans):
+        if found and bottom <= found[-1][1]:
+            found[-1] = found[-1][0], max(found[-1][1], top)
+        else:
+            found.append((bottom, top))
+    return found
+
+
+class Room:
+    """The union of boxes as columns: from each left side to the next one, the spans that boxes
+    fill.
+    """
+
+    def __init__(self, boxes: Sequence[Box]) -> None:
+        edges = sorted({x for box in boxes for x in (box[0], box[2])})
+        self.left, self.right = edges[0], edges[-1]
+        self.columns = [
+            (
+                low,
+                high,
+                joined([(box[1], box[3]) for box in boxes if box[0] <= low and high <= box[2]]),
+            )
+            for low, high in zip(edges, edges[1:])
+        ]
+
+    def lack(self, shape: Sequence[Point]) -> float:
+        """By how many pixels a convex shape reaches out of the union; 0 is within."""
+        least, most = min(x for x, _ in shape), max(x for x, _ in shape)
+        out = max(0.0, self.left - least, most - self.right)
+        for low, high, spans in self.columns:
+            if high <= least or low >= most:
+                continue
+            part = clipped(shape, max(low, least), min(high, most))
+            if part is not None:
+                reaches = (max(0.0, bottom - part[0], part[1] - top) for bottom, top in spans)
+                out = max(out, min(reaches, default=part[1] - part[0]))
+        return out
