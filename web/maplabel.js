@@ -837,7 +837,9 @@ return { readState, levelOf, reaches, leftOut, folded, matches }
 })()
 const facts_ = (() => {
 const { leftOut, readState } = labels_
+const { stateOf } = request_
 
+const AGAIN = 1000
 const PATIENCE = 1500
 const ALWAYS = ['line_height', 'line_spacing', 'line_label']
 const KINDS = { Point: 'point', MultiPoint: 'point', LineString: 'line', MultiLineString: 'line', Polygon: 'area', MultiPolygon: 'area' }
@@ -905,7 +907,7 @@ class ServerFacts {
     this.asked ??= typeof style === 'string' ? styleAt(style) : Promise.resolve(style ?? null)
     this.style = await this.asked
     const rev = this.source.rev === null ? '' : `?rev=${this.source.rev}`
-    const features = (await this.source.json('/map' + rev)).features
+    const features = (await this.patient('/map' + rev)).features
     const name = property ?? this.style?.name ?? 'name'
     this.titles = new Map(features.map(one => [one.id, textOf(one.properties?.[name]) ?? one.id]))
     this.known = new Map(features.map(one => {
@@ -914,6 +916,14 @@ class ServerFacts {
     }))
     this.changed()
     return features
+  }
+
+  async patient(path) {
+    try { return await this.source.json(path) } catch (fault) {
+      if (stateOf(fault) !== 'many' || this.source.hasEnded) throw fault
+      await new Promise(done => setTimeout(done, AGAIN))
+      return this.patient(path)
+    }
   }
 
   of(id) { return this.known?.get(id) }
@@ -2216,6 +2226,7 @@ class Viewer {
     this.map = map
     this.options = options
     this.breaker = new AbortController()
+    this.hasStarted = false
     this.shapes = null
     this.chosen = null
     this.settled = () => {}
@@ -2282,6 +2293,7 @@ class Viewer {
       if (this.source.reason) this.notice.stay(this.source.reason)
     }
     if (this.breaker.signal.aborted) return
+    this.hasStarted = true
     this.see()
     if (this.hasOutlines) this.outline()
     if (!(this.source instanceof Server)) this.checkNames()
@@ -2344,7 +2356,7 @@ class Viewer {
 
   see(frame = this.map.frame()) {
     this.draw()
-    this.names.see(frame, ...this.map.size())
+    if (this.hasStarted) this.names.see(frame, ...this.map.size())
     this.settled()
   }
 

@@ -23,6 +23,8 @@ IN_FLIGHT = 3
 MOST_TOLD = 20
 PATIENCE = 10
 ENDING = 10
+# What Dask raises where the scheduler is gone, and where an answer from there comes too late.
+LOST = CancelledError, OSError, TimeoutError
 ANY_PORT = "127.0.0.1:0"
 
 
@@ -112,7 +114,10 @@ class Cluster:
 
     def size(self) -> int:
         """How many calls are made at once."""
-        cores: dict[str, int] = self._client.ncores()
+        try:
+            cores: dict[str, int] = self._client.ncores()
+        except LOST:
+            raise self._lost() from None
         return max(1, sum(cores.values()))
 
     def start(self, name: str, call: Callable[[], Any]) -> None:
@@ -120,7 +125,10 @@ class Cluster:
         all.
         """
         self._number += 1
-        future = self._client.submit(call, key=f"{name}-{self._number}", pure=False)
+        try:
+            future = self._client.submit(call, key=f"{name}-{self._number}", pure=False)
+        except LOST:
+            raise self._lost() from None
         self._started[future.key] = name, future, call
         future.add_done_callback(self._done.put)
 
@@ -135,7 +143,7 @@ class Cluster:
                 raise self._lost()
             try:
                 value = future.result() if future.status == "finished" else None
-            except (CancelledError, OSError):
+            except LOST:
                 raise self._lost() from None
             future.release()
             if value is not None:
@@ -165,7 +173,7 @@ class Cluster:
         end with this process."""
         for one in (self._client, self._local):
             if one is not None:
-                with contextlib.suppress(TimeoutError, OSError, CancelledError):
+                with contextlib.suppress(*LOST):
                     one.close(timeout=ENDING)
 
 

@@ -17,8 +17,8 @@ class Keeper:
     """One run of a server: the process, its files and its port, and which revision the file of
     the map has.
 
-    `put` is called with each revision that is saved and its text; `on_wait` while the server is
-    waited for.
+    `put` is called with each revision that is saved while others are served, and its text;
+    `on_wait` while the server is waited for.
     """
 
     process: int
@@ -41,7 +41,6 @@ class Keeper:
         rev, text = moved
         snapshot.keep(text, self.program, self.style, self.path, self.on_wait)
         self.rev = rev
-        self.put(rev, text)
 
     def save(self, seconds: float) -> int | None:
         """Brings the file to the present revision; the server may be waited for so long. Which
@@ -52,6 +51,7 @@ class Keeper:
             if moved is None:
                 return None
             self.keep(moved)
+        self.put(*moved)
         return self.rev
 
     @contextmanager

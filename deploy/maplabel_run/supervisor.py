@@ -277,9 +277,10 @@ class Supervisor:
     def _publish_first(self) -> None:
         """Publishes the map that the server began with, while it is served."""
         if self.words.publish:
-            with contextlib.suppress(Fault), Link(self.words.port, PATIENCE, self.wait_on) as link:
-                rev, text = int(link.json("/rev")["rev"]), link.read("/map")
-                self._publish(rev, text)
+            with contextlib.suppress(Fault):
+                with Link(self.words.port, PATIENCE, self.wait_on) as link:
+                    rev, text = int(link.json("/rev")["rev"]), link.read("/map")
+                self._publish(rev, text)  # the server is free while this is compressed
 
     def start_again(self) -> None:
         """The server ended, and nobody had planned it."""

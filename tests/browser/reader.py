@@ -307,7 +307,7 @@ def frames(pages: Pages, folder: str) -> None:
         points(towns, 20000)
         style(kinds)
         with Engine(pages.engine.program, None, kinds, towns) as engine, Pages(engine) as own:
-            opened(browser, own, "mercator.html#lat=20&lng=20&z=4.4")
+            opened(browser, own, "mercator.html#lat=20&lng=20&z=5.3")
             settled(browser)
             must(browser.tell(REST) == 0, "a map at rest is drawn anew")
             browser.call("Emulation.setCPUThrottlingRate", rate=2)

@@ -97,16 +97,19 @@ class Nginx(Pages):
         self.folder = tempfile.TemporaryDirectory(prefix="maplabel-nginx-")
         at = Path(self.folder.name)
         at.chmod(0o711)  # nginx's workers are others
-        text = (TOP / "deploy" / "nginx.conf").read_text(encoding="utf-8")
-        for here, there in (
-            ("/opt/maplabel", str(TOP)),
-            ("8080", str(self.port)),
-            ("47101", str(free_port())),
-            ("47100", str(engine.port)),
-            ("/var/lib/nginx/maplabel", f"{at}/cache"),
-        ):
-            text = text.replace(here, there)
-        (at / "site.conf").write_text(text, encoding="utf-8")
+        changes = {
+            "/opt/maplabel/deploy/": f"{at}/",
+            "/opt/maplabel": str(TOP),
+            "8080": str(self.port),
+            "47101": str(free_port()),
+            "47100": str(engine.port),
+            "/var/lib/nginx/maplabel": f"{at}/cache",
+        }
+        for source in (TOP / "deploy" / "nginx.conf", *(TOP / "deploy").glob("nginx-*.inc")):
+            text = source.read_text(encoding="utf-8")
+            for here, there in changes.items():
+                text = text.replace(here, there)
+            (at / source.name.replace("nginx.conf", "site.conf")).write_text(text, encoding="utf-8")
         kinds = ("client_body", "proxy", "fastcgi", "uwsgi", "scgi")
         folders = " ".join(f"{kind}_temp_path {at}/{kind};" for kind in kinds)
         (at / "nginx.conf").write_text(

@@ -5,7 +5,7 @@ import psycopg
 from database import Database
 from maplabel_kit.faults import Fault
 from served import expect
-from stage import Stage, staged, until
+from followed import Stage, staged, until
 from trials import trial
 
 

@@ -9,7 +9,7 @@ from pathlib import Path
 from maplabel_kit.faults import Fault
 from maplabel_kit.server import Child
 from served import Served, write
-from stage import Settings, Stage, staged, until
+from followed import Settings, Stage, staged, until
 from trials import trial
 from writers import Writers
 

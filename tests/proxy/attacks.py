@@ -140,6 +140,12 @@ def is_open(link: socket.socket) -> bool:
         return False
 
 
+def bound(seconds: float) -> float:
+    """How long another client may wait at most: so many seconds, and more on a machine that is busy
+    with other work, as far as that is seen before the attack."""
+    return seconds + 10 * slowest(2)
+
+
 def slowest(seconds: float, port: int = PROXY, pause: float = 0.05) -> float:
     """The longest time until a read of another client is answered well, over so many seconds."""
     longest, begin, last = 0.0, time.monotonic(), time.monotonic()
@@ -184,6 +190,7 @@ def nginx_costly() -> None:
 def nginx_unfinished() -> None:
     """1,600 heads that do not end, again and again: others are answered all the while."""
     with NGINX.served():
+        most = bound(6)
         with attacked(unfinished, 4):
             time.sleep(1)
             longest = slowest(12)
@@ -191,7 +198,7 @@ def nginx_unfinished() -> None:
             f"nginx beside 1,600 heads that do not end: another client waited {longest:.1f} s at"
             " most"
         )
-        if longest > 6:
+        if longest > most:
             raise fail("heads that do not end keep others out")
 
 
@@ -199,7 +206,8 @@ def nginx_unfinished() -> None:
 def nginx_slow_readers() -> None:
     """160 slow readers of the map: what they do not read stands in no file of nginx."""
     with NGINX.served("--save", "3600", towns=TOWNS) as run:
-        at = Path(run.map).parent
+        at, most = Path(run.map).parent, bound(2)
+        wait_for((at / "published" / "map.0.geojson.gz").exists, "the first map is not published")
         with attacked(
             lambda attack, address: slow_reader(attack, address, PROXY, "/map?rev=0"), 20
         ):
@@ -209,7 +217,7 @@ def nginx_slow_readers() -> None:
             f"nginx beside 160 slow readers of the map of {TOWNS} towns: {size / 1e6:.1f} MB in"
             f" files; another client waited {longest:.1f} s at most"
         )
-        if size > 40_000_000 or longest > 2:
+        if size > 40_000_000 or longest > most:
             raise fail("slow readers fill the disk, or keep others waiting")
 
 
@@ -267,14 +275,16 @@ def healthz() -> None:
 def read_with_body() -> None:
     """A read with a body is refused at once, however slowly the body comes."""
     for front in (HAPROXY, NGINX):
-        with front.served(), attacked(slow_body, 2):
-            time.sleep(0.5)
-            longest = slowest(8)
+        with front.served():
+            most = bound(2)
+            with attacked(slow_body, 2):
+                time.sleep(0.5)
+                longest = slowest(8)
             say(
                 f"{front.name} beside 16 reads with slow bodies: others waited {longest:.2f} s at"
                 " most"
             )
-            if longest > 2:
+            if longest > most:
                 raise fail(f"{front.name}: a read with a slow body holds the server")
     with HAPROXY.served():
         for text in (
@@ -294,6 +304,7 @@ def slow_edit() -> None:
     """The body of an edit that comes slowly, behind more bytes than HAProxy keeps by itself:
     others are answered, and it is given up after five seconds."""
     with HAPROXY.served():
+        most = bound(2)
         with connect(HOST, PROXY) as link:
             link.sendall(b"POST /feature" + HEAD + b"X-Edit: 1\r\nContent-Length: 1000000\r\n\r\n")
             link.sendall(b"x" * 40_000)
@@ -305,7 +316,7 @@ def slow_edit() -> None:
             f"HAProxy: an edit that stops in its body gets {got[9:12].decode()} after"
             f" {seconds:.1f} s, and others waited {longest:.2f} s at most"
         )
-        if longest > 2 or not got.startswith(b"HTTP/1.1 408 ") or seconds > 10:
+        if longest > most or not got.startswith(b"HTTP/1.1 408 ") or seconds > 10:
             raise fail("HAProxy: a slow edit holds the server")
 
 
@@ -338,11 +349,12 @@ def costly_reads() -> None:
         act: Callable[[Attack, str], None] = lambda attack, address: slow_reader(
             attack, address, PROXY, view
         )
+        most = bound(2)
         with attacked(act, 4):
             time.sleep(1)
             longest = slowest(6)
         say(f"HAProxy beside 32 slow readers of a view: others waited {longest:.2f} s at most")
-        if longest > 2:
+        if longest > most:
             raise fail("HAProxy: a slow reader of a view holds the server")
 
 

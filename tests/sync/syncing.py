@@ -48,7 +48,7 @@ def sync(*words: object, status: int = 0, more: tuple[str, ...] = PLAIN) -> str:
     """What deploy/sync prints; it must end with the status."""
     got, said = run_script(SYNC, *words, *more)
     expect(got, status, f"the status of sync {' '.join(map(str, words))}, which says {said}")
-    return said
+    return str(said)
 
 
 def towns(numbers: Iterable[int], pop: int = 0) -> list[str]:

@@ -11,7 +11,6 @@ import math
 import os
 import resource
 import subprocess
-import time
 import tomllib
 import unittest
 from collections import Counter, defaultdict
@@ -524,26 +523,17 @@ class Report(unittest.TestCase):
             self.assertTrue(all("for good" in one for one in told))
 
 
-def slowness() -> float:
-    """How many times slower a core is than one that nothing else uses, by a loop that takes such a
-    one a quarter of a second.
-    """
-    start, found = time.process_time(), 0
-    for k in range(3_000_000):
-        found += k * k % 7
-    return max(1.0, (time.process_time() - start) / 0.25)
-
-
 class Large(unittest.TestCase):
     def test_800_streets_take_less_than_20_seconds(self) -> None:
         """A town of 800 streets with some 3,500 names, in seconds of one core."""
+        load = os.getloadavg()[0] / (os.cpu_count() or 1)
+        if load > 2:
+            self.skipTest(f"the machine is too busy to measure: {load:.1f} processes a core")
         with files.folder() as folder:
             words = ("--zooms", "14-18", "--side", "on", "--spacing", "75")
-            before = slowness()
             made = Made(folder, line_maps.streets(800), line_maps.style(), *words)
             self.assertGreater(len(made.names()), 3500)
-            slower = (before + slowness()) / 2
-            self.assertLess(made.seconds / slower, 20, f"the machine is {slower:.1f} times slower")
+            self.assertLess(made.seconds, 20)
             print(f"{len(made.names())} features in {made.seconds:.1f} s of one core", end=" ")
 
 

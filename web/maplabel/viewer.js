@@ -74,6 +74,7 @@ export class Viewer {
     this.map = map
     this.options = options
     this.breaker = new AbortController()
+    this.hasStarted = false
     /** @type {Shape[] | null} */
     this.shapes = null
     /** @type {[number, number] | null} */
@@ -150,6 +151,7 @@ export class Viewer {
       if (this.source.reason) this.notice.stay(this.source.reason)
     }
     if (this.breaker.signal.aborted) return
+    this.hasStarted = true
     this.see()
     if (this.hasOutlines) this.outline()
     if (!(this.source instanceof Server)) this.checkNames()
@@ -226,7 +228,7 @@ export class Viewer {
    * @param {Frame} [frame] where it goes, if it is on its way */
   see(frame = this.map.frame()) {
     this.draw()
-    this.names.see(frame, ...this.map.size())
+    if (this.hasStarted) this.names.see(frame, ...this.map.size())
     this.settled()
   }
 

@@ -6,7 +6,7 @@ import psycopg
 
 from maplabel_kit.faults import Fault
 from rows import refuses
-from stage import Stage, staged, until
+from followed import Stage, staged, until
 from trials import trial
 
 EVIL = """

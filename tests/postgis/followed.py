@@ -67,7 +67,8 @@ class Stage:
 
     def follow_once(self, *words: object) -> tuple[int, str]:
         """The status and the words of a follower that is to give up by itself."""
-        return run_script(FOLLOW, *words, seconds=60)
+        status, said = run_script(FOLLOW, *words, seconds=60)
+        return status, said
 
     def start_follower(self, *options: object) -> None:
         """Has the server follow the table."""
