@@ -20,6 +20,9 @@ from maplabel_kit.server import Child
 from names import Names
 from pages import Block, Page
 
+# The examples run with a program that is built, which does what the quick one does.
+LAUNCHER = "./maplabel "
+QUICK = "./maplabel --quick "
 SHOWN_PORT = "47100"
 SECONDS = 120
 ANY = "[..]"
@@ -81,7 +84,7 @@ class Stage:
         """What is wrong with one step, or nothing."""
         if self.makes(command, lines):
             return None
-        words = command.replace(SHOWN_PORT, self.port)
+        words = command.replace(SHOWN_PORT, self.port).replace(QUICK, LAUNCHER)
         if words.endswith("&"):
             return self.start(words[:-1])
         printed = self.printed(words)

@@ -102,7 +102,7 @@ class Handler(http.server.BaseHTTPRequestHandler):
         """Whether the request is to this server by a name of its own; else a page of elsewhere may
         stand behind it.
         """
-        hosts = self.headers.get_all("Host", [])
+        hosts: list[str] = self.headers.get_all("Host", [])
         if len(hosts) == 1 and hosts[0].lower() in self.server.hosts:
             return True
         self.close_connection = True

@@ -192,9 +192,9 @@ def _outlines(
         places = _thinned(geometry["coordinates"])
         own = made.style.class_of(feature)
         keyed = [one for one in style["classes"] if "key" in one]
-        keys = [one["key"] for one in keyed if one["geometry"] == feature.kind]
+        keys: list[str] = [one["key"] for one in keyed if one["geometry"] == feature.kind]
         keys += [one["key"] for one in keyed]
-        key = own.key if own and own.key else next(iter(keys), None)
+        key = own.key if own and own.key else (keys[0] if keys else None)
         known: dict[str, Any] = {
             "kind": feature.kind,
             "value": feature.text(key),
