@@ -1,5 +1,5 @@
 -- Features by their ids as entries of a map in order: what the edits of entries are as edits of features.
-use Rattle.std.proofs.Common.{◌≡◌, ℕ, zero, suc, ◌<◌, Bool, true, false, cond, not, List, [], ◌∷◌, ◌++◌, length, filter, map, Option, Some, None, MatchOption, Contains, IsSome, refl, sym, ap, subst, ◌∙◌, get_or, arith}
+use Rattle.std.proofs.Common.{◌≡◌, ℕ, zero, suc, ◌<◌, Bool, true, false, cond, not, List, [], ◌∷◌, length, filter, map, Option, Some, None, MatchOption, Contains, IsSome, refl, sym, ap, subst, ◌∙◌, get_or, arith}
 use Rattle.std.specs.List.{IsDistinct, AllByRecursion}
 use Rattle.std.specs.Map.{keys_of, values_of, lookup, remove_entry, set_value}
 use Rattle.std.specs.Str.{bytes_eq}
@@ -8,7 +8,6 @@ use Rattle.std.proofs.lemmas.Cmp.{nat_list_eq_equiv}
 use Rattle.std.proofs.lemmas.Slice.Eq.{bytes_eq-Decides}
 use Rattle.ml_ratio.specs.declared.feature.Feature.{Feature}
 use Rattle.ml_geojson.specs.Map.{ids}
-use Rattle.indexmap.specs.IndexMap.{insert_entry}
 use Rattle.ml_editor.specs.State.{HasFeature, in_place}
 
 -- an entry: a feature by an id
@@ -91,10 +90,6 @@ replaced_is f (e ∷ es) own differ =
 
 -- ---- what a look-up finds
 
--- a feature with the id is among some, and one more
-pub more_features : (g : Feature) (fs : List Feature) (id : List ℕ) → HasFeature fs id → HasFeature (g ∷ fs) id
-more_features g fs id there = (there.0, (suc there.1.0, omega arith, there.1.2), there.2)
-
 -- the first feature of some has the id, or one of the others
 first_or_later : (g : Feature) (fs : List Feature) (id : List ℕ) (f : Feature) (k : ℕ) → k < length (g ∷ fs) → get_or (g ∷ fs) k f ≡ f → f.id ≡ id → (g.id ≡ id → ⊥) → HasFeature fs id
 first_or_later g fs id f zero lt is same other = absurd (other (ap (λ (h : Feature). h.id) is ∙ same))
@@ -129,40 +124,3 @@ finds_some fs id (Some f) h there = refl
 
 pub found_some : (id : List ℕ) (es : List Entry) → keys_of es ≡ ids (values_of es) → HasFeature (values_of es) id → IsSome (lookup (bytes_eq id) es)
 found_some id es own there = finds_some (values_of es) id (lookup (bytes_eq id) es) (finds id es own) there
-
--- ---- the keys stay the ids
-
-pub own_after_add : (es : List Entry) (key : List ℕ) (f : Feature) → key ≡ f.id → keys_of es ≡ ids (values_of es) → keys_of (es ++ (key, f) ∷ []) ≡ ids (values_of (es ++ (key, f) ∷ []))
-own_after_add [] key f same own = ap (λ k. k ∷ []) same
-own_after_add (e ∷ es) key f same own = (λ i. front_is own i ∷ own_after_add es key f same (rest_is own) i)
-
-pub values_after_add : (es : List Entry) (key : List ℕ) (f : Feature) → values_of (es ++ (key, f) ∷ []) ≡ values_of es ++ f ∷ []
-values_after_add [] key f = refl
-values_after_add (e ∷ es) key f = ap (λ fs. e.1 ∷ fs) (values_after_add es key f)
-
-own_removed : (e : Entry) (es rest : List Entry) (b : Bool) → e.0 ≡ e.1.id → keys_of es ≡ ids (values_of es) → keys_of rest ≡ ids (values_of rest) → keys_of (cond b es (e ∷ rest)) ≡ ids (values_of (cond b es (e ∷ rest)))
-own_removed e es rest true same own others = own
-own_removed e es rest false same own others = (λ i. same i ∷ others i)
-
-pub own_after_remove : (id : List ℕ) (es : List Entry) → keys_of es ≡ ids (values_of es) → keys_of (remove_entry (bytes_eq id) es) ≡ ids (values_of (remove_entry (bytes_eq id) es))
-own_after_remove id [] own = refl
-own_after_remove id (e ∷ es) own = own_removed e es (remove_entry (bytes_eq id) es) (bytes_eq id e.0) (front_is own) (rest_is own) (own_after_remove id es (rest_is own))
-
-own_replaced : (e : Entry) (f : Feature) (es rest : List Entry) (b : Bool) → bytes_eq f.id e.0 ≡ b → e.0 ≡ e.1.id → keys_of es ≡ ids (values_of es) → keys_of rest ≡ ids (values_of rest) → keys_of (cond b ((e.0, f) ∷ es) (e ∷ rest)) ≡ ids (values_of (cond b ((e.0, f) ∷ es) (e ∷ rest)))
-own_replaced e f es rest true test same own others = (λ i. sym ((bytes_eq-Decides f.id e.0).0 test) i ∷ own i)
-own_replaced e f es rest false test same own others = (λ i. same i ∷ others i)
-
-pub own_after_replace : (f : Feature) (es : List Entry) → keys_of es ≡ ids (values_of es) → keys_of (set_value (bytes_eq f.id) es f) ≡ ids (values_of (set_value (bytes_eq f.id) es f))
-own_after_replace f [] own = refl
-own_after_replace f (e ∷ es) own = own_replaced e f es (set_value (bytes_eq f.id) es f) (bytes_eq f.id e.0) refl (front_is own) (rest_is own) (own_after_replace f es (rest_is own))
-
--- ---- an insert at a key that is there
-
-taken : {X Y : Type 0} (b : Bool) (x : X) (o : Option X) (p q r : Y) → (IsSome o → q ≡ r) → IsSome (cond b (Some x) o) → cond b p q ≡ cond b p r
-taken true x o p q r f h = refl
-taken false x o p q r f h = f h
-
-pub insert_there : {X : Type 0} (es : List (List ℕ × X)) (key : List ℕ) (x : X) → IsSome (lookup (bytes_eq key) es) → insert_entry bytes_eq es key x ≡ set_value (bytes_eq key) es x
-insert_there [] key x h = absurd (false≢true h)
-insert_there (e ∷ es) key x h =
-    taken (bytes_eq key e.0) e.1 (lookup (bytes_eq key) es) ((e.0, x) ∷ es) (e ∷ insert_entry bytes_eq es key x) (e ∷ set_value (bytes_eq key) es x) (λ there. ap (λ xs. e ∷ xs) (insert_there es key x there)) h

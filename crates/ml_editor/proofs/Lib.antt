@@ -1,5 +1,6 @@
 mod Entries
-mod Places
+mod Numbers
+mod Numbered
 mod Same
 mod After
 mod States

@@ -1,9 +1,8 @@
 //! The features of a map.
-ghost use Rattle.std.specs.Prelude.{◌≡◌, ◌++◌, ◌∷◌, [], ◌<◌, ◌≤◌, ◌+◌, ◌^◌, length, filter, is_some, None, OnOk, IfOk, MatchOption, Contains};
+ghost use Rattle.std.specs.Prelude.{◌≡◌, [], ℕ, ◌<◌, ◌≤◌, length, filter, All, is_some, nat_eq, OnOk, IfOk, MatchOption, Contains};
 ghost use Rattle.std.specs.Option.{option_copied};
 ghost use Rattle.std.specs.List.{IsDistinct};
-ghost use Rattle.std.specs.Map.{keys_of, lookup, set_value};
-ghost use Rattle.std.specs.Str.{bytes_eq};
+ghost use Rattle.std.specs.Map.{keys_of, set_value};
 ghost use Rattle.indexmap.specs.IndexMap.{spare};
 ghost use Rattle.ml_geojson.specs.Map.{HaveDifferentIds};
 ghost use Rattle.ml_editor.specs.Features.{standing};
@@ -15,21 +14,21 @@ use ml_ratio::{Feature, Seq, Text};
 use std::alloc::{AllocError, Global};
 use std::marker::Model;
 
-// So many places are closed up one by one. All of them at once cost as much as some of these.
-const FEW_LEFT: usize = 4;
-
 /// The features of a map in order, each found by its id.
 ///
-/// The table hashes by the default hasher, whose seed is fixed, so whoever chooses the ids may make
+/// Each feature has a number: `names` finds the number by the feature's id, and `places` finds the feature by
+/// the number. Numbers count up from zero and are never given again, so the places stand in the order in which
+/// the features came. A feature that goes leaves its place empty, so that no other feature has to move, and its
+/// name goes with it. Where fewer than half of the places are taken, the empty ones are closed up at once.
+///
+/// The tables hash by the default hasher, whose seed is fixed, so whoever chooses the ids may make
 /// them collide. A map has at most 32,768 features, so that even then a look-up compares no more
 /// than so many ids, and no source of random numbers is needed to load a map.
-///
-/// A feature that goes leaves its place, with its id, so that no other feature has to move. Where fewer
-/// than half of the places are taken, those that were left are closed up at once; and where a feature
-/// comes with the id of one that was left, this one is closed up, with all others where there are many.
 #[derive(Drop)]
 pub struct Features {
-    places: IndexMap<Text, Option<Feature>>,
+    places: IndexMap<u64, Option<Feature>>,
+    names: IndexMap<Text, u64>,
+    next: u64,
     taken: usize,
 }
 
@@ -38,15 +37,15 @@ impl Model for Features {
     ghost use Rattle.indexmap.specs.IndexMap.{spare};
     ghost use Rattle.std.specs.Coded.{codes};
     ghost use Rattle.ml_ratio.specs.contracts.feature.Feature as feature;
-    ghost use Rattle.ml_editor.specs.Features.{Kept, AreById, standing};
+    ghost use Rattle.ml_editor.specs.Features.{Kept, AreNumbered, standing, room_left};
 
     ghost Value = { Kept };
 
     ghost coded = { Prim.hlevel (codes, feature.the_row.coded) };
 
-    ghost view = { λ a. record { list = values_of (standing a.places.entries); room = spare a.places } };
+    ghost view = { λ a. record { list = values_of (standing a.places.entries); room = room_left (spare a.places) (spare a.names) a.next } };
 
-    ghost invariant = { λ a. AreById a.places.entries a.taken };
+    ghost invariant = { λ a. AreNumbered a.places.entries a.names.entries a.next a.taken };
 }
 
 impl Features {
@@ -56,6 +55,8 @@ impl Features {
     {
         Features {
             places: IndexMap::new(alloc),
+            names: IndexMap::new(alloc),
+            next: 0,
             taken: 0,
         }
     }
@@ -85,7 +86,7 @@ impl Features {
         ensures { IfOk result (λ features. features ≡ self.now.list) }
     {
         let mut features = Seq::new(alloc);
-        for (_id, place) in self.places.iter() {
+        for (_number, place) in self.places.iter() {
             if let Some(feature) = place {
                 features.push(feature.copy()?)?;
             }
@@ -104,8 +105,11 @@ impl Features {
     pub fn get(&self, id: &Text) -> Option<&Feature>
         ensures { MatchOption (option_copied result) (¬ (HasFeature self.now.list id.now)) (λ f. Contains self.now.list f × (f.id ≡ id.now)) }
     {
-        match self.places.get(id) {
-            Some(place) => place.as_ref(),
+        match self.names.get(id) {
+            Some(number) => match self.places.get(number) {
+                Some(place) => place.as_ref(),
+                None => None,
+            },
             None => None,
         }
     }
@@ -113,12 +117,16 @@ impl Features {
     /// Takes the room for one more.
     ///
     /// # Errors
-    /// Want of memory.
+    /// Want of memory; also where all numbers were given.
     pub fn reserve(&mut self) -> Result<(), AllocError>
         ensures ok { OnOk result (0 < self.new.room) }
         ensures same { self.new.list ≡ self.old.list }
         ensures room { self.old.room ≤ self.new.room }
     {
+        if self.next == u64::MAX {
+            return Err(AllocError);
+        }
+        self.names.reserve(1)?;
         self.places.reserve(1)
     }
 
@@ -130,11 +138,17 @@ impl Features {
         requires new_id { ¬ (HasFeature self.old.list feature.id) }
         ensures { self.new.list ≡ features_after self.old.list (add_edit feature) }
     {
-        free_place(&mut self.places, self.taken, &key);
-        match self.places.insert(key, Some(feature)) {
+        let number = self.next;
+        let _held = self.places.len();
+        match self.names.insert(key, number) {
             Ok(_) => {}
             Err(_) => unreachable!(),
         }
+        match self.places.insert(number, Some(feature)) {
+            Ok(_) => {}
+            Err(_) => unreachable!(),
+        }
+        self.next += 1;
         self.taken += 1;
     }
 
@@ -144,9 +158,9 @@ impl Features {
         requires known { HasFeature self.old.list feature.id }
         ensures { self.new.list ≡ features_after self.old.list (replace_edit feature) }
     {
-        match self.places.insert(key, Some(feature)) {
-            Ok(_) => {}
-            Err(_) => unreachable!(),
+        match self.names.get(&key) {
+            Some(number) => set_place(&mut self.places, *number, Some(feature)),
+            None => unreachable!(),
         }
     }
 
@@ -155,32 +169,37 @@ impl Features {
         ensures list { self.new.list ≡ features_after self.old.list (remove_edit id.now) }
         ensures room { self.old.room ≤ self.new.room }
     {
-        self.taken -= leave_place(&mut self.places, id);
-        close_few(&mut self.places, self.taken);
+        match self.names.swap_remove(id) {
+            Some(number) => {
+                let _held = self.places.len();
+                set_place(&mut self.places, number, None);
+                self.taken -= 1;
+                close_few(&mut self.places, self.taken);
+            }
+            None => {}
+        }
     }
 }
 
-/// Takes the feature with this id out of its place, and gives how many go: one, or none where no feature
-/// has the id.
-fn leave_place(places: &mut IndexMap<Text, Option<Feature>>, id: &Text) -> usize
-    ensures entries { places.new.entries ≡ set_value (bytes_eq id.now) places.old.entries None }
-    ensures gone { result + length (standing places.new.entries) ≡ length (standing places.old.entries) }
-    ensures differ { IsDistinct bytes_eq (keys_of places.new.entries) }
+/// Puts this in the place with the number, if there is one. It takes no memory.
+fn set_place(places: &mut IndexMap<u64, Option<Feature>>, number: u64, feature: Option<Feature>)
+    ensures entries { places.new.entries ≡ set_value (nat_eq number) places.old.entries feature }
+    ensures keys { keys_of places.new.entries ≡ keys_of places.old.entries }
+    ensures differ { IsDistinct nat_eq (keys_of places.new.entries) }
     ensures room { spare places.old ≤ spare places.new }
 {
-    match places.get_mut(id) {
-        Some(place) => match place.take() {
-            Some(_) => 1,
-            None => 0,
-        },
-        None => 0,
+    match places.get_mut(&number) {
+        Some(place) => *place = feature,
+        None => {}
     }
 }
 
 /// Closes up where fewer than half of the places are taken, which are so many. It takes no memory.
-fn close_few(places: &mut IndexMap<Text, Option<Feature>>, taken: usize)
+fn close_few(places: &mut IndexMap<u64, Option<Feature>>, taken: usize)
+    requires { IsDistinct nat_eq (keys_of places.old.entries) }
     ensures standing { standing places.new.entries ≡ standing places.old.entries }
-    ensures differ { IsDistinct bytes_eq (keys_of places.new.entries) }
+    ensures low { (next : ℕ) → All (λ n. n < next) (keys_of places.old.entries) → All (λ n. n < next) (keys_of places.new.entries) }
+    ensures differ { IsDistinct nat_eq (keys_of places.new.entries) }
     ensures room { spare places.old ≤ spare places.new }
 {
     if places.len() / 2 > taken {
@@ -189,35 +208,14 @@ fn close_few(places: &mut IndexMap<Text, Option<Feature>>, taken: usize)
 }
 
 /// Closes up the places that are left. It takes no memory.
-fn close_up(places: &mut IndexMap<Text, Option<Feature>>)
+fn close_up(places: &mut IndexMap<u64, Option<Feature>>)
     ensures entries { places.new.entries ≡ filter (λ e. is_some e.1) places.old.entries }
-    ensures differ { IsDistinct bytes_eq (keys_of places.new.entries) }
+    ensures differ { IsDistinct nat_eq (keys_of places.new.entries) }
     ensures room { spare places.old ≤ spare places.new }
 {
     places.retain(
-        |_id: &Text, place: &mut Option<Feature>| -> bool
+        |_number: &u64, place: &mut Option<Feature>| -> bool
             ensures { (result ≡ is_some place.old) × (place.new ≡ place.old) }
         { place.is_some() },
     );
-}
-
-/// Sees to it that no place is left with an id that no feature has, so that one that comes with it goes
-/// behind all others. So many places are taken. It takes no memory.
-fn free_place(places: &mut IndexMap<Text, Option<Feature>>, taken: usize, id: &Text)
-    requires counted { taken ≡ length (standing places.old.entries) }
-    requires new_id { lookup (bytes_eq id.now) (standing places.old.entries) ≡ None }
-    ensures few { taken < 2 ^ 63 }
-    ensures standing { standing places.new.entries ≡ standing places.old.entries }
-    ensures free { lookup (bytes_eq id.now) places.new.entries ≡ None }
-    ensures room { spare places.old ≤ spare places.new }
-{
-    let held = places.len();
-    if held <= taken || !places.contains_key(id) {
-        return;
-    }
-    if held - taken > FEW_LEFT {
-        close_up(places);
-    } else {
-        let _left = places.shift_remove(id);
-    }
 }

@@ -1,43 +1,30 @@
-use Rattle.std.proofs.Common.{◌≡◌, ℕ, ◌∙◌, ap, subst, sym, arith, List, length, ◌++◌, ◌∷◌, [], Some}
-use Rattle.std.specs.Map.{values_of, keys_of}
+use Rattle.std.proofs.Common.{ℕ, ◌∙◌, ap, subst, sym, arith, cond, nat_eq, List, ◌++◌, ◌∷◌, [], Some}
+use Rattle.std.specs.Map.{lookup}
 use Rattle.std.specs.Str.{bytes_eq}
 use Rattle.ml_ratio.specs.declared.feature.Feature.{Feature}
 use Rattle.indexmap.proofs.CallerLemmas.{insert_entry-new}
-use Rattle.ml_geojson.specs.Map.{ids}
 use Rattle.ml_editor.specs.State.{HasFeature}
-use Rattle.ml_editor.specs.Features.{standing}
-use Rattle.ml_editor.proofs.Entries.{Entry, found_none, own_after_add, values_after_add}
-use Rattle.ml_editor.proofs.Places.{Place, standing_behind, one_more}
+use Rattle.ml_editor.proofs.Numbers.{standing_few, number_free}
+use Rattle.ml_editor.proofs.Numbered.{list_behind, are_behind}
 use Rattle.ml_editor.proofs.features.Features.add.Goals as goal
 
-pub free_place-requires-clause-new_id : goal.free_place-requires-clause-new_id
-free_place-requires-clause-new_id c =
-    let list = ap (λ s. s.list) c.self.view_is in
-    let es = c.self.inside.places.entries in
-    let P : List Feature → Type 0 = λ fs. ¬ (HasFeature fs c.args.feature.id) in
-    let Q : List ℕ → Type 0 = λ k. ¬ (HasFeature (values_of (standing es)) k) in
-    found_none c.args.key (standing es) c.self.invariant.own (subst Q (sym c.requires.key) (subst P (sym list) c.requires.new_id))
-
--- the entries behind those that stood
-behind : (new es old : List Place) (key : List ℕ) (f : Feature) → new ≡ es ++ (key, Some f) ∷ [] → standing es ≡ standing old → standing new ≡ standing old ++ (key, f) ∷ []
-behind new es old key f is same = ap standing is ∙ standing_behind es key f ∙ ap (λ xs. xs ++ (key, f) ∷ []) same
+pub overflow_add-self-2 : goal.overflow_add-self-2
+overflow_add-self-2 c = omega (arith, c.self.invariant.counted, standing_few c.self.inside.places.entries, c.len-held.ensures.len, c.len-held.ensures.small)
 
 pub invariant_of-self : goal.invariant_of-self
 invariant_of-self c =
-    let es = c.self.inside.places.entries in
-    let is = c.in-Ok.ensures.entries ∙ insert_entry-new bytes_eq c.free_place.new.places c.args.key (Some c.args.feature) c.free_place.ensures.free in
-    let stands = behind _ c.free_place.new.places.entries es c.args.key c.args.feature is c.free_place.ensures.standing in
-    let P : List Entry → Type 0 = λ entries. keys_of entries ≡ ids (values_of entries) in
-    record {
-      own = subst P (sym stands) (own_after_add (standing es) c.args.key c.args.feature c.requires.key c.self.invariant.own);
-      differ = c.in-Ok.ensures.unique;
-      counted = omega (arith, c.self.invariant.counted, ap length stands, one_more (standing es) (c.args.key, c.args.feature));
-    }
+    let list = ap (λ s. s.list) c.self.view_is in
+    let is = c.in-Ok-insert.ensures.entries ∙ insert_entry-new nat_eq c.self.inside.places c.self.inside.next (Some c.args.feature) (number_free c.self.inside.next c.self.inside.places.entries c.self.invariant.low) in
+    let P : List Feature → Type 0 = λ fs. ¬ (HasFeature fs c.args.feature.id) in
+    are_behind c.self.inside.places.entries c.self.inside.names.entries c.self.inside.next c.self.inside.taken c.self.invariant
+    c.insert-2.new.self.entries c.args.feature is c.insert.new.self.entries
+    (subst P (sym list) c.requires.new_id)
+    c.in-Ok-insert.ensures.unique
+    (λ q. c.in-Ok.ensures.updates.0 q ∙ ap (λ (k : List ℕ). cond (bytes_eq k q) (Some c.self.inside.next) (lookup (bytes_eq q) c.self.inside.names.entries)) c.requires.key)
 
 pub returns : goal.returns
 returns c =
     let list = ap (λ s. s.list) c.self.view_is in
-    let es = c.self.inside.places.entries in
-    let is = c.in-Ok.ensures.entries ∙ insert_entry-new bytes_eq c.free_place.new.places c.args.key (Some c.args.feature) c.free_place.ensures.free in
-    let stands = behind _ c.free_place.new.places.entries es c.args.key c.args.feature is c.free_place.ensures.standing in
-    ap values_of stands ∙ values_after_add (standing es) c.args.key c.args.feature ∙ ap (λ fs. fs ++ c.args.feature ∷ []) list
+    let is = c.in-Ok-insert.ensures.entries ∙ insert_entry-new nat_eq c.self.inside.places c.self.inside.next (Some c.args.feature) (number_free c.self.inside.next c.self.inside.places.entries c.self.invariant.low) in
+    list_behind c.self.inside.places.entries c.self.inside.names.entries c.self.inside.next c.self.inside.taken c.self.invariant
+    c.insert-2.new.self.entries c.args.feature is ∙ ap (λ fs. fs ++ c.args.feature ∷ []) list
