@@ -15,7 +15,7 @@ use Rattle.ml_editor.specs.Editing.{IsLabelWith}
 use Rattle.ml_tile.specs.Cache.{Cache, HeldTile, ShowsIn, Loses}
 use Rattle.ml_tile.specs.declared.key.TileKey.{TileKey}
 use Rattle.ml_http.specs.TileWork.{Drops, IsForgotten, ShowsId, ShowsChange, ShowsChanges}
-use Rattle.ml_http.proofs.SameLists.{here, later, cases, none_in_none}
+use Rattle.ml_label.proofs.lemmas.SameLists.{here, later, cases, none_in_none}
 use Rattle.ml_http.proofs.HeldTiles.{OneAnId}
 
 -- what goes by the same rule in other words

@@ -23,8 +23,8 @@ use Rattle.ml_tile.specs.declared.key.TileKey.{TileKey}
 use Rattle.ml_answer.specs.MapView.{AreRowsOf, AreShownRows, shown_of}
 use Rattle.ml_http.specs.Step.{IsTileText}
 use Rattle.ml_http.specs.TileWork.{ShowsId, ShowsChanges}
-use Rattle.ml_http.proofs.SameLabels.{same_labels}
-use Rattle.ml_http.proofs.SameLists.{here, later}
+use Rattle.ml_label.proofs.lemmas.SameLabels.{same_labels}
+use Rattle.ml_label.proofs.lemmas.SameLists.{here, later}
 use Rattle.ml_http.proofs.SameReplies.{OneLabel}
 use Rattle.ml_http.proofs.SameViews.{OneLongest, same_untils}
 use Rattle.ml_http.proofs.ShownRows.{ShowsRow, AreJustShown, just_shown, rows_shown}

@@ -2,9 +2,7 @@ mod ConnectionLemmas
 mod EmptyWord
 mod LinkLemmas
 mod OneAsked
-mod SameLists
 mod SameReplies
-mod SameLabels
 mod SameViews
 mod StepLemmas
 mod ShownRows
@@ -19,4 +17,4 @@ mod Levels
 mod OneRead
 mod OneAccount
 mod OneReply
-mod SameChanges
+pub mod lemmas

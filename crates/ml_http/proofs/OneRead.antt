@@ -33,7 +33,7 @@ use Rattle.ml_http.specs.Reply.{reply_text}
 use Rattle.ml_http.specs.Routes.{id_in}
 use Rattle.ml_http.specs.StateReply.{IsStateText, IsStateReply}
 use Rattle.ml_http.specs.Step.{Query, IsIdOf, IsSlotText, IsStandingReply, IsWhyReply, IsRevReply, IsRead}
-use Rattle.ml_http.proofs.SameLabels.{same_labels, its_feature}
+use Rattle.ml_label.proofs.lemmas.SameLabels.{same_labels, its_feature}
 use Rattle.ml_http.proofs.SameReplies.{OneLabel, json_made, svg_made, same_view_reply}
 use Rattle.ml_http.proofs.SameViews.{KnownChoice, row_of, same_untils}
 

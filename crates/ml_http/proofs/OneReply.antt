@@ -34,7 +34,7 @@ use Rattle.ml_http.specs.declared.route.Route.{Route}
 use Rattle.ml_http.specs.declared.route.Route.TheVariants as routes
 use Rattle.ml_http.proofs.OneRead.{labels_again, one_read}
 use Rattle.ml_http.proofs.OneTile.{one_reply as one_tile_reply}
-use Rattle.ml_http.proofs.SameChanges.{SameEnds, changes_moved}
+use Rattle.ml_http.proofs.lemmas.SameChanges.{SameEnds, changes_moved}
 use Rattle.ml_http.proofs.SameReplies.{OneLabel}
 use Rattle.ml_http.proofs.SameViews.{KnownChoice, same_untils}
 

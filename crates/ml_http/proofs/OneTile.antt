@@ -16,8 +16,7 @@ use Rattle.ml_http.specs.Alike.{LookAlike}
 use Rattle.ml_http.specs.Replies.{json_reply}
 use Rattle.ml_http.specs.Routes.{IsTileAsked}
 use Rattle.ml_http.specs.Step.{LinkAnswer, Query, IsTileText, IsTileFor, IsTileAnswer}
-use Rattle.ml_http.proofs.OneAsked.{same_view, one_whole, one_side}
-use Rattle.ml_http.proofs.SameLabels.{same_ratio}
+use Rattle.ml_view.proofs.lemmas.OneView.{same_ratio, same_view, one_whole, one_side}
 use Rattle.ml_http.proofs.SameReplies.{OneLabel, json_made, same_text}
 use Rattle.ml_http.proofs.SameViews.{OneLongest}
 

@@ -15,8 +15,9 @@ use Rattle.ml_store.specs.declared.row.Row.{Row}
 use Rattle.ml_repair.specs.Settled.{IsSettled}
 use Rattle.ml_answer.specs.View.{Shown}
 use Rattle.ml_answer.specs.MapView.{AreShownRows, shown_of}
-use Rattle.ml_http.proofs.SameLists.{one_list, here, later}
-use Rattle.ml_http.proofs.SameLabels.{same_ratio}
+use Rattle.ml_label.proofs.lemmas.SameLists.{here, later}
+use Rattle.ml_label.proofs.lemmas.SamePlaces.{same_listed, place_in}
+use Rattle.ml_view.proofs.lemmas.OneView.{same_ratio}
 
 -- one longest choice
 abbrev pub OneLongest : Type 0
@@ -49,33 +50,10 @@ module _ (longest : OneLongest) (one other : List Row) (settled_one : IsSettled 
       subst (λ ls. IsShown ls (ends (slots_in other)) view p) labels
       (shown.0, λ d. subst (λ e. IsShownUntil (get_or (labels_in one) p d) view (λ k. e) p) (same_ends p shown.0) (shown.1 d))
 
--- the elements of a list of places, read with 0 past its end
-place_in : (places : List ℕ) (p : ℕ) → Contains places p → (k : ℕ) × (k < length places) × (get_or places k 0 ≡ p)
-place_in places p there = (there.0, there.1, get_or_default places there.0 0 p there.1 ∙ there.2)
-
-no_less : (a b : ℕ) → a < b → b < a → ⊥
-no_less a b lt gt = omega (arith, lt, gt)
-
-ascending : (places : List ℕ) → ((k m : ℕ) → k < m → m < length places → get_or places k 0 < get_or places m 0) → (j i : ℕ) (d : ℕ) → j < i → i < length places → get_or places j d < get_or places i d
-ascending places up j i d lt within =
-    let before : j < length places = omega (arith, lt, within) in
-    let at_j : get_or places j d ≡ get_or places j 0 = get_or_default places j d 0 before in
-    let at_i : get_or places i d ≡ get_or places i 0 = get_or_default places i d 0 within in
-    let less = up j i lt within in
-    omega (arith, less, at_j, at_i)
-
 -- what one shows, the other shows: their places are the same
 same_places : (us vs : List Label) (c d : Choice) (view : View) (ps qs : List ℕ) → AreShown us c view ps → AreShown vs d view qs → ((p : ℕ) → IsShown us c view p → IsShown vs d view p) → ((p : ℕ) → IsShown vs d view p → IsShown us c view p) → ps ≡ qs
 same_places us vs c d view ps qs first second there back =
-    one_list (λ a b. a < b) no_less ps qs (ascending ps first.ascending) (ascending qs second.ascending)
-    (λ p in_ps.
-    let at = place_in ps p in_ps in
-    let whole = second.whole p (there p (subst (λ n. IsShown us c view n) at.2 (first.sound at.0 at.1))) in
-    (whole.0, whole.1, get_or_default qs whole.0 p 0 whole.1 ∙ whole.2))
-    (λ q in_qs.
-    let at = place_in qs q in_qs in
-    let whole = first.whole q (back q (subst (λ n. IsShown vs d view n) at.2 (second.sound at.0 at.1))) in
-    (whole.0, whole.1, get_or_default ps whole.0 q 0 whole.1 ∙ whole.2))
+    same_listed (IsShown us c view) (IsShown vs d view) ps qs first.ascending second.ascending first.sound second.sound first.whole second.whole there back
 
 -- rows are told apart by their numbers
 pub row_of : (rows : List Row) (row : Row) (p : ℕ) → HaveOwnNumbers rows → Contains rows row → p < length rows → row.number ≡ number_at rows p → get_or rows p row ≡ row

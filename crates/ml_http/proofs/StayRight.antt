@@ -24,7 +24,7 @@ use Rattle.ml_http.specs.Routes.{path_of, query_of, query_pairs, route_of, named
 use Rattle.ml_http.specs.Step.{LinkAnswer, Query, Stays, IsTileText, IsTileFor, IsCarriedOut, IsEditAnswered, ForRevision, IsEditReply, IsRouted, MapStep}
 use Rattle.ml_http.specs.Link.{AreTexts}
 use Rattle.ml_http.specs.TileWork.{Changed, Remade, IsAsked, IsDoneTo}
-use Rattle.ml_http.proofs.SameLists.{here, later, cases, none_in_none}
+use Rattle.ml_label.proofs.lemmas.SameLists.{here, later, cases, none_in_none}
 use Rattle.ml_http.proofs.SameReplies.{OneLabel}
 use Rattle.ml_http.proofs.SameViews.{OneLongest}
 use Rattle.ml_http.proofs.HeldTiles.{StaysAfter, StaysBefore, OneAnId, text_stays}

@@ -1,6 +1,7 @@
 mod Along
 mod Classes
 mod LabelsLemmas
+pub mod lemmas
 mod Names
 mod Setting
 mod Widths

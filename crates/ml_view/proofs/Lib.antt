@@ -2,3 +2,4 @@ mod Showing
 mod Scales
 mod LawLemmas
 mod Stretching
+pub mod lemmas

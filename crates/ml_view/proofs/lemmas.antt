@@ -1,0 +1,2 @@
+-- What proofs of other crates may cite: words write one number, one ratio and one view.
+pub mod OneView
