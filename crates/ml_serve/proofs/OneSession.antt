@@ -1,15 +1,18 @@
--- Two sessions over the same links write the same and leave states that are alike.
+-- Two sessions over the same links write the same, tell the same changes and leave states that are alike.
 use Rattle.std.proofs.Common.{◌≡◌, ℕ, List, [], ◌∷◌, ◌++◌, length, map, Option, Some, refl, sym, ap, subst, ◌∙◌, arith}
+use Rattle.std.specs.Prelude.{flat_map}
 use Rattle.ml_io.specs.Calls.{LinkEnds, Passed}
 use Rattle.ml_io.specs.Takes.{Takes}
 use Rattle.ml_io.specs.declared.link.Link.{Link}
 use Rattle.ml_watch.specs.Hearing.{Hearing}
+use Rattle.ml_watch.specs.declared.change.Change.{Change}
 use Rattle.ml_editor.specs.State.{IsState}
 use Rattle.ml_http.specs.Link.{LinkState, IsLinkServed}
 use Rattle.ml_http.specs.Once.{AreLikeStates, EndsWell}
 use Rattle.ml_http.specs.Step.{LinkAnswer}
 use Rattle.ml_http.specs.declared.connection_end.ConnEnd.{ConnEnd}
-use Rattle.ml_serve.specs.Headline.{Headline}
+use Rattle.ml_http.specs.Connection.{Exchange}
+use Rattle.ml_serve.specs.Headline.{Headline, changes_in}
 use Rattle.ml_serve.specs.Once.{AreTold, AllEndWell}
 use Rattle.ml_serve.specs.Session.{Follow, Visit}
 use Rattle.ml_serve.specs.Visit.{IsVisit}
@@ -28,6 +31,22 @@ abbrev pub OneStates : Type 0 → Type 0
 OneStates W = (hearing : W → Hearing) (old older one other : LinkState W) (bytes : List ℕ) (left rest written first writing second : Option (List ℕ)) (end ending : ConnEnd) →
     IsState old.map_state → AreLikeStates old older → EndsWell end → EndsWell ending →
     IsLinkServed hearing old one (Some bytes) left written first end → IsLinkServed hearing older other (Some bytes) rest writing second ending → AreLikeStates one other
+
+-- the changes that a connection was told to make
+abbrev pub changes_of : Exchange LinkAnswer → List Change
+changes_of exchange = flat_map (λ (a : LinkAnswer). a.changes) exchange.answers
+
+abbrev pub OneTold : Type 0 → Type 0
+OneTold W = (hearing : W → Hearing) (old older one other : LinkState W) (bytes : List ℕ) (left rest written first writing second : Option (List ℕ)) (end ending : ConnEnd) →
+    IsState old.map_state → AreLikeStates old older → EndsWell end → EndsWell ending →
+    (x : IsLinkServed hearing old one (Some bytes) left written first end) → (y : IsLinkServed hearing older other (Some bytes) rest writing second ending) →
+    changes_of x.served.exchange ≡ changes_of y.served.exchange
+
+-- what holds of a connection that brought told bytes holds where its source told them
+pub from_told : {W : Type 0} (hearing : W → Hearing) (old new : LinkState W) (source : Option (List ℕ)) (bytes : List ℕ) (left written after : Option (List ℕ)) (end : ConnEnd) (changes : List Change) → source ≡ Some bytes
+    → (x : IsLinkServed hearing old new source left written after end) → ((y : IsLinkServed hearing old new (Some bytes) left written after end) → changes_of y.served.exchange ≡ changes) → changes_of x.served.exchange ≡ changes
+from_told hearing old new source bytes left written after end changes is x each =
+    subst (λ (s : Option (List ℕ)). (z : IsLinkServed hearing old new s left written after end) → changes_of z.served.exchange ≡ changes) (sym is) each x
 
 pub follow_state : {W I O : Type 0} (stays : StaysReached W) (hearing : W → Hearing) (ends : LinkEnds I O) (old new : LinkState W) (visits : List (Visit I O LinkAnswer)) → IsState old.map_state → Follow (IsVisit hearing ends) old visits new → IsState new.map_state
 follow_state {W} stays hearing ends old new [] is e = subst (λ (s : LinkState W). IsState s.map_state) (sym e) is
@@ -59,7 +78,7 @@ same_links {W} {I} {O} hearing ends first older last other door again visits oth
     let two : Takes (Some links) again.coming_after (map f others) = subst (λ (coming : Option (List (Link I O))). Takes coming again.coming_after (map f others)) also y.came in
     same_front (map f visits) (map f others) one.0 two.0 (same_length f visits ∙ many ∙ sym (same_length f others)) (sym one.2 ∙ two.2)
 
-module _ {W I O : Type 0} (stays : StaysReached W) (writes : OneWritten W) (leaves : OneStates W) (hearing : W → Hearing) (ends : LinkEnds I O) where
+module _ {W I O : Type 0} (stays : StaysReached W) (writes : OneWritten W) (leaves : OneStates W) (tells : OneTold W) (hearing : W → Hearing) (ends : LinkEnds I O) where
   abbrev written : List (Visit I O LinkAnswer) → List (Option (List ℕ))
   written visits = map (λ (v : Visit I O LinkAnswer). ends.written v.gone.sink) visits
 
@@ -68,12 +87,22 @@ module _ {W I O : Type 0} (stays : StaysReached W) (writes : OneWritten W) (leav
 
   record AreOne (visits others : List (Visit I O LinkAnswer)) (p q : LinkState W) : Type 0 where
     replies : written visits ≡ written others
+    told : flat_map changes_in visits ≡ flat_map changes_in others
     states : AreLikeStates p q
+
+  -- one connection was told the same changes in both
+  same_told : (visit other : Visit I O LinkAnswer) (u v p q : LinkState W) (bytes : List ℕ) → IsState u.map_state → AreLikeStates u v → EndsWell visit.end → EndsWell other.end
+      → ends.left visit.came.source ≡ Some bytes → ends.left other.came.source ≡ Some bytes → IsVisit hearing ends u visit p → IsVisit hearing ends v other q → changes_in visit ≡ changes_in other
+  same_told visit other u v p q bytes is like good fine brought taken x y =
+      let one = from_told hearing u p _ bytes _ _ _ visit.end (changes_of y.served.served.exchange) brought x.served
+      (λ a. sym (from_told hearing v q _ bytes _ _ _ other.end (changes_of a.served.exchange) taken y.served (λ b. sym (tells hearing u v p q bytes _ _ _ _ _ _ visit.end other.end is like good fine a b)))) in
+      ap changes_of x.exchange ∙ one ∙ sym (ap changes_of y.exchange)
 
   sessions : (visits others : List (Visit I O LinkAnswer)) (u v p q : LinkState W) → IsState u.map_state → AreLikeStates u v → links_of visits ≡ links_of others → AreTold ends visits → AllEndWell visits → AllEndWell others
       → Follow (IsVisit hearing ends) u visits p → Follow (IsVisit hearing ends) v others q → AreOne visits others p q
   sessions [] [] u v p q is like same told good fine x y = record {
     replies = refl;
+    told = refl;
     states = record {
       map_state = ap (λ (s : LinkState W). s.map_state) x ∙ like.map_state ∙ sym (ap (λ (s : LinkState W). s.map_state) y);
       spent = ap (λ (s : LinkState W). s.spent) x ∙ like.spent ∙ sym (ap (λ (s : LinkState W). s.spent) y);
@@ -97,7 +126,9 @@ module _ {W I O : Type 0} (stays : StaysReached W) (writes : OneWritten W) (leav
       let left = leaves hearing u v x.0 y.0 bytes _ _ before _ before _ visit.end w.end is like good.0 fine.0 first second in
       let mid = stays hearing u x.0 _ _ _ _ visit.end is x.1.served in
       let later = sessions visits others x.0 y.0 p q mid left rest told.1 good.1 fine.1 x.2 y.2 in
+      let tale = same_told visit w u v x.0 y.0 bytes is like good.0 fine.0 told.0.1 brought x.1 y.1 in
       record {
+        told = ap (λ (cs : List Change). cs ++ flat_map changes_in visits) tale ∙ ap (λ (cs : List Change). changes_in w ++ cs) later.told;
         replies = ap (λ (o : Option (List ℕ)). o ∷ written visits) wrote ∙ ap (λ (os : List (Option (List ℕ))). ends.written w.gone.sink ∷ os) later.replies;
         states = later.states;
       }
@@ -109,3 +140,7 @@ module _ {W I O : Type 0} (stays : StaysReached W) (writes : OneWritten W) (leav
   pub one_states : (visits others : List (Visit I O LinkAnswer)) (u v p q : LinkState W) → IsState u.map_state → AreLikeStates u v → links_of visits ≡ links_of others → AreTold ends visits → AllEndWell visits → AllEndWell others
       → Follow (IsVisit hearing ends) u visits p → Follow (IsVisit hearing ends) v others q → AreLikeStates p q
   one_states visits others u v p q is like same told good fine x y = (sessions visits others u v p q is like same told good fine x y).states
+
+  pub one_told : (visits others : List (Visit I O LinkAnswer)) (u v p q : LinkState W) → IsState u.map_state → AreLikeStates u v → links_of visits ≡ links_of others → AreTold ends visits → AllEndWell visits → AllEndWell others
+      → Follow (IsVisit hearing ends) u visits p → Follow (IsVisit hearing ends) v others q → flat_map changes_in visits ≡ flat_map changes_in others
+  one_told visits others u v p q is like same told good fine x y = (sessions visits others u v p q is like same told good fine x y).told
