@@ -7,6 +7,7 @@ pub mod Inputs
 pub mod Loading
 pub mod MapInputs
 pub mod Offering
+pub mod Once
 pub mod VerdictText
 pub mod ViewLine
 pub mod Words

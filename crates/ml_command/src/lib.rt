@@ -4,6 +4,7 @@
 //!   window or a number;
 //! - [`table`], [`map`], [`judging`]: what is asked of a table and of a map, and the verdict on slots;
 //! - [`loading`]: the map that connections are served over;
+//! - [`laws`]: that each command has one answer;
 //! - [`following`]: states of a map that are followed; `follow_lines`: the lines that say what became
 //!   of them;
 //! - `choice`: the longest choice of any labels; `gap_lines`: their longest free gaps; `zoom`: their
@@ -20,6 +21,7 @@ pub mod following;
 mod gap_lines;
 pub mod inputs;
 pub mod judging;
+pub mod laws;
 pub mod loading;
 pub mod map;
 pub mod map_inputs;

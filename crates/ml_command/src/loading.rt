@@ -50,9 +50,22 @@ fn site_of(alloc: Global, classes: Style, features: Seq<Feature>) -> Result<Site
     ensures state { IfOk result (λ p. p.0.state ≡ first_state classes features) }
     ensures none { IfOk result (λ p. p.1 ≡ no_tiles) }
 {
-    match Editor::load(alloc, classes, features) {
-        Ok(editor) => with_tiles(alloc, editor),
-        // there are no more features than there may be
+    let editor = loaded(alloc, classes, features)?;
+    with_tiles(alloc, editor)
+}
+
+// The map of these features under a style, at its first revision. There are no more features than there may be.
+pub(crate) fn loaded(
+    alloc: Global,
+    style: Style,
+    features: Seq<Feature>,
+) -> Result<Editor, AllocError>
+    requires differ { HaveDifferentIds features }
+    requires few { length features ≤ most_labels }
+    ensures { IfOk result (λ editor. editor.state ≡ first_state style features) }
+{
+    match Editor::load(alloc, style, features) {
+        Ok(editor) => Ok(editor),
         Err(LoadRefused::Full) => unreachable!(),
         Err(LoadRefused::Memory) => Err(AllocError),
     }

@@ -1,13 +1,12 @@
 //! The line of a view of a map.
-ghost use Rattle.std.specs.Prelude.{◌≡◌, ◌≤◌, IfOk, length};
+ghost use Rattle.std.specs.Prelude.{◌≤◌, IfOk, length};
 ghost use Rattle.ml_ratio.specs.Limits.{most_labels};
 ghost use Rattle.ml_geojson.specs.Map.{HaveDifferentIds};
-ghost use Rattle.ml_editor.specs.State.{first_state};
 ghost use Rattle.ml_command.specs.Answers.{IsMapView};
 
+use crate::loading::loaded;
 use ml_answer::view_json;
 use ml_cone::View;
-use ml_editor::{Editor, LoadRefused};
 use ml_ratio::{Feature, Seq};
 use ml_repair::laws::one_label_a_number;
 use ml_style::Style;
@@ -36,17 +35,4 @@ pub fn map_line(
     // The run ends here, and the system takes back all memory at once.
     forget(editor);
     Ok(line)
-}
-
-// The map of these features under a style, at its first revision.
-fn loaded(alloc: Global, style: Style, features: Seq<Feature>) -> Result<Editor, AllocError>
-    requires differ { HaveDifferentIds features }
-    requires few { length features ≤ most_labels }
-    ensures { IfOk result (λ editor. editor.state ≡ first_state style features) }
-{
-    match Editor::load(alloc, style, features) {
-        Ok(editor) => Ok(editor),
-        Err(LoadRefused::Full) => unreachable!(),
-        Err(LoadRefused::Memory) => Err(AllocError),
-    }
 }
