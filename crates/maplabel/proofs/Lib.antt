@@ -2,3 +2,5 @@ mod Accepted
 mod Completeness
 mod Makings
 mod RunLemmas
+mod OneMaking
+mod OneRun

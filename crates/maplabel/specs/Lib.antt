@@ -1,5 +1,6 @@
 pub mod Codes
 pub mod Making
+pub mod Once
 pub mod Outcome
 pub mod Program
 pub mod Ready

@@ -1,5 +1,5 @@
 //! The program, over the objects that it works on.
-ghost use Rattle.std.specs.Prelude.{◌≡◌, ◌≤◌, None, false, drop, map, string_bytes, IfOk};
+ghost use Rattle.std.specs.Prelude.{◌≡◌, ◌≤◌, None, false, true, drop, map, string_bytes, IfOk, OnErr};
 ghost use Rattle.std.specs.Process.{exit_status};
 ghost use Rattle.ml_io.specs.Files.{seen};
 ghost use Rattle.ml_io.specs.Calls.{put, taken, passed, link_ends};
@@ -61,13 +61,14 @@ pub fn program<F: Files, S: Source, K: Sink, D: Door, W: Watcher>(
 /// that tells; else nobody.
 ///
 /// # Errors
-/// Want of memory.
+/// Want of memory, where the words ask for a command that tells.
 pub fn watchers_of<E: Sink + Drop>(
     alloc: Global,
     words: &[String],
     errors: E,
 ) -> Result<Crowd<LineWatcher<E>>, AllocError>
-    ensures { IfOk result (AreWatchers (map string_bytes words.now) errors) }
+    ensures ok { IfOk result (AreWatchers (map string_bytes words.now) errors) }
+    ensures err { OnErr result (IsTelling (map string_bytes words.now) true) }
 {
     let mut watchers = Vec::new(alloc);
     if are_told(words) {

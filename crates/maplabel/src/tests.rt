@@ -2,13 +2,16 @@
 //! `input => answer`: what the files hold and the words, and the exit code with what is printed.
 ghost use Rattle.std.specs.Prelude.{◌≡◌, None, false};
 
+use crate::program::{self, watchers_of};
 use crate::run::run;
+use crate::start::start;
 use crate::status::Status;
 use ml_io::{CalmFiles, CalmSink, Door, Files, MemDoor, MemFiles, MemSink, MemSource, Sink};
 use ml_ratio::Text;
 use ml_watch::{Crowd, MemWatcher};
 use std::alloc::Global;
-use std::process::Abort;
+use std::io;
+use std::process::{Abort, ExitCode};
 
 /// What a table of cases is about.
 pub(crate) trait Subject {
@@ -258,6 +261,62 @@ fn words_of_no_form_are_told_so(rt: HostRuntime) {
         let told = run_told(&rt, rt.alloc(), &[("t", TWO)], line);
         assert!(rt; told.as_str() == USAGE, "{line}");
     }
+}
+
+/// The code of a program that is started with these values over the table `t`, and what it prints.
+fn started(rt: &impl Abort, alloc: Global, values: io::Result<Vec<String>>) -> (ExitCode, MemSink) {
+    let outside = outside_of(rt, alloc, &[("t", TWO)]);
+    let Outside {
+        mut files,
+        mut input,
+        mut out,
+        crowd: _,
+    } = outside;
+    let errors = MemSink::new(alloc, 64, Vec::new(alloc)).expect(rt, "memory");
+    let mut door = MemDoor::new(alloc, Vec::new(alloc), Vec::new(alloc)).expect(rt, "memory");
+    let code = start(
+        alloc, values, errors, &mut files, &mut input, &mut out, &mut door,
+    );
+    (code, out)
+}
+
+#[test]
+fn a_program_runs_the_words_behind_its_name(rt: HostRuntime) {
+    let values = words_of(&rt, rt.alloc(), "maplabel slots t");
+    let (code, out) = started(&rt, rt.alloc(), Ok(values));
+    assert!(rt; code == ExitCode::from(0));
+    assert!(rt; out.bytes() == b"A 1000/1 -\nB 20/1 A\n".as_slice());
+}
+
+#[test]
+fn values_that_are_no_text_are_no_words(rt: HostRuntime) {
+    let error = io::Error::from(io::ErrorKind::InvalidData);
+    let (code, out) = started(&rt, rt.alloc(), Err(error));
+    assert!(rt; code == ExitCode::from(2));
+    assert!(rt; out.bytes().starts_with(b"usage: "));
+}
+
+#[test]
+fn words_stand_behind_the_name(rt: HostRuntime) {
+    let values = words_of(&rt, rt.alloc(), "maplabel slots t");
+    assert!(rt; program::words_of(&values).len() == 2);
+    assert!(rt; program::words_of(&[]).is_empty());
+}
+
+/// Whether somebody is told what the words of the line change.
+fn is_watched(rt: &impl Abort, alloc: Global, line: &str) -> bool {
+    let words = words_of(rt, alloc, line);
+    let errors = MemSink::new(alloc, 64, Vec::new(alloc)).expect(rt, "memory");
+    let crowd = watchers_of(alloc, &words, errors).expect(rt, "memory");
+    crowd.heard(0).is_some()
+}
+
+#[test]
+fn commands_that_change_maps_are_watched(rt: HostRuntime) {
+    assert!(rt; is_watched(&rt, rt.alloc(), "follow s"));
+    assert!(rt; is_watched(&rt, rt.alloc(), "pipe s m"));
+    assert!(rt; !is_watched(&rt, rt.alloc(), "slots t"));
+    assert!(rt; !is_watched(&rt, rt.alloc(), "follow"));
 }
 
 /// A table of one label more than a table may hold.

@@ -1,0 +1,485 @@
+-- Two runs of the same words that find the same print the same.
+use Rattle.std.proofs.Common.{◌≡◌, ℕ, ◌≤◌, List, [], ◌∷◌, ◌++◌, length, map, Option, Some, None, ◌⊎◌, inl, inr, refl, sym, ap, subst, ◌∙◌, arith}
+use Rattle.std.specs.Prelude.{codes, flat_map}
+use Rattle.ml_io.specs.Causes.{Appends}
+use Rattle.ml_io.specs.Files.{FileSet}
+use Rattle.ml_io.specs.Takes.{HasRunOut, Takes}
+use Rattle.ml_io.specs.Calls.{LinkEnds, Passed, Put}
+use Rattle.ml_io.specs.declared.link.Link.{Link}
+use Rattle.ml_cert.specs.declared.verdict.Verdict.{Verdict}
+use Rattle.ml_cert.specs.declared.verdict.Verdict.TheVariants.{Best, BadEnd, Clash, Uncovered, BadBlocker}
+use Rattle.ml_follow.specs.declared.state.State as follow
+use Rattle.ml_watch.specs.Hearing.{AllHear, Hearing}
+use Rattle.ml_watch.specs.declared.change.Change.{Change}
+use Rattle.ml_editor.specs.State.{IsState, State}
+use Rattle.ml_http.specs.Connection.{Exchange}
+use Rattle.ml_http.specs.Link.{IsLinkServed, LinkState}
+use Rattle.ml_http.specs.Once.{AreLikeStates, EndsWell}
+use Rattle.ml_http.specs.Step.{LinkAnswer}
+use Rattle.ml_http.specs.declared.connection_end.ConnEnd.{ConnEnd}
+use Rattle.ml_http.specs.declared.connection_end.ConnEnd.TheVariants as ends
+use Rattle.ml_serve.specs.Headline.{Headline, changes_in}
+use Rattle.ml_serve.specs.Once.{AllEndWell, AreTold}
+use Rattle.ml_serve.specs.Printed.{AreDone, IsEndOfServing, served_line}
+use Rattle.ml_serve.specs.Session.{Visit}
+use Rattle.ml_serve.specs.declared.serve_end.ServeEnd.{ServeEnd}
+use Rattle.ml_serve.specs.declared.serve_end.ServeEnd.TheVariants as serving
+use Rattle.ml_command.specs.Answers.{IsMapAnswer, IsTableAnswer}
+use Rattle.ml_command.specs.Commands.{Ask, IsForm}
+use Rattle.ml_command.specs.Following.{AllAdopted, Following, HasStates, IsEndOfFollowing, IsFollowed, IsPrintedWhole, Offered, changes_of, joined, lines_of}
+use Rattle.ml_command.specs.FollowLines.{held_line}
+use Rattle.ml_command.specs.Loading.{IsFirstState}
+use Rattle.ml_command.specs.Once.{plain}
+use Rattle.ml_command.specs.VerdictText.{verdict_line}
+use Rattle.ml_command.specs.declared.command.Command.{Command}
+use Rattle.ml_command.specs.declared.command.Command.TheVariants.{OnTable, Judge, OnMap, Live, Make, Follow}
+use Rattle.ml_command.specs.declared.command.LiveTask.TheVariants.{Pipe, Serve}
+use Rattle.ml_command.specs.declared.command.MapTask.{MapTask}
+use Rattle.ml_command.specs.declared.command.TableTask.{TableTask}
+use Rattle.ml_command.specs.declared.following.FollowEnd.{FollowEnd}
+use Rattle.ml_command.specs.declared.following.FollowEnd.TheVariants as follow_end
+use Rattle.ml_command.specs.declared.stop.Stop.{Stop}
+use Rattle.ml_command.specs.declared.stop.Stop.TheVariants as stop
+use Rattle.maplabel.specs.Making.{IsTotalsOf}
+use Rattle.maplabel.specs.Once.{DoAlike, FindAlike, ServeAlike, TellAlike, TellBytes}
+use Rattle.maplabel.specs.Outcome.{IsCheckAnswer, IsPrinted, IsStopLine, IsStopPrinted, status_of, usage_line}
+use Rattle.maplabel.specs.Run.{AreFollowed, Call, IsDone, IsRun, IsSiteServed, IsStopped, IsTextEnd, IsTold, status_of_following}
+use Rattle.maplabel.specs.Serving.{IsAllServed, IsPiped, at_first, status_of_link, status_of_serving}
+use Rattle.maplabel.specs.declared.status.Status.{Status}
+use Rattle.maplabel.specs.declared.status.Status.TheVariants.{Done, NotBest, Usage, StyleRefused, InputRefused, FileFault, WriteFault, Memory, TooLong}
+
+-- ---- what is printed
+
+-- the same text at the end of the same is the same
+appended : (w v a b : Option (List ℕ)) (text words : List ℕ) → w ≡ v → text ≡ words → Appends w a text → Appends v b words → a ≡ b
+appended w v a b text words same alike x y = again v a b words (subst (λ (t : List ℕ). Appends v a t) alike (subst (λ (o : Option (List ℕ)). Appends o a text) same x)) y
+  where
+    again : (o a b : Option (List ℕ)) (t : List ℕ) → Appends o a t → Appends o b t → a ≡ b
+    again None a b t x y = x ∙ sym y
+    again (Some xs) a b t x y = x ∙ sym y
+
+-- where a run is done, its text was printed whole
+whole : (text : List ℕ) (now : Status) (out : Put) → IsPrinted text now out Done → (now ≡ Done) × Appends out.written out.written_after text
+whole text now out (inl (is, wrote, calm)) = (sym is, wrote)
+whole text now out (inr (is, part, failed)) = absurd (cc (is))
+
+-- no stop is done
+no_stop : (s : Stop) (out : Put) → IsStopPrinted s out Done → ⊥
+no_stop s out (now, text, line, printed) = by_line s (whole text now out printed).0 line
+  where
+    by_line : (s : Stop) → now ≡ Done → IsStopLine s now text → ⊥
+    by_line (stop.StyleRefused l) e x = (let f : Done ≡ StyleRefused = sym e ∙ x.0 in cc (f))
+    by_line (stop.InputRefused l) e x = (let f : Done ≡ InputRefused = sym e ∙ x.0 in cc (f))
+    by_line stop.FileFault e x = (let f : Done ≡ FileFault = sym e ∙ x.0 in cc (f))
+    by_line stop.TooLong e x = (let f : Done ≡ TooLong = sym e ∙ x.0 in cc (f))
+    by_line stop.Memory e x = (let f : Done ≡ Memory = sym e ∙ x.0 in cc (f))
+
+-- the text that was due where a run is done
+due_text : {S D I O W : Type 0} (r : Call S D I O W) (due : Status → List ℕ → Type 0) (stops : Stop → Type 0) → IsTextEnd r due stops Done → (text : List ℕ) × due Done text × Appends r.out.written r.out.written_after text
+due_text r due stops (inl (now, text, is, kept, printed), same) =
+    let done = whole text now r.out printed in
+    (text, subst (λ (s : Status). due s text) done.0 is, done.1)
+due_text r due stops (inr (s, why, kept, printed), same) = absurd (no_stop s r.out printed)
+
+-- texts that are due are one
+one_text : {S D I O W : Type 0} (r o : Call S D I O W) (due given : Status → List ℕ → Type 0) (stops ceases : Stop → Type 0) → r.out.written ≡ o.out.written → ((a b : List ℕ) → due Done a → given Done b → a ≡ b)
+    → IsTextEnd r due stops Done → IsTextEnd o given ceases Done → r.out.written_after ≡ o.out.written_after
+one_text r o due given stops ceases same one x y =
+    let a = due_text r due stops x in
+    let b = due_text o given ceases y in
+    appended r.out.written o.out.written r.out.written_after o.out.written_after a.0 b.0 same (one a.0 b.0 a.1 b.1) a.2 b.2
+
+-- the verdict of a run that is done is that the slots are best
+best_line : (verdict : Verdict) (ids : List (List ℕ)) → Done ≡ status_of verdict → verdict_line ids verdict ≡ codes "Best\n"
+best_line Best ids is = refl
+best_line (BadEnd i) ids is = absurd (cc (is))
+best_line (Clash i j limit) ids is = absurd (cc (is))
+best_line (Uncovered i) ids is = absurd (cc (is))
+best_line (BadBlocker i) ids is = absurd (cc (is))
+
+check_text : (told : Option FileSet) (table slots text : List ℕ) → IsCheckAnswer told table slots Done text → text ≡ codes "Best\n"
+check_text told table slots text (verdict, is, done) = is.line ∙ best_line verdict _ done
+
+-- ---- ends
+
+adopted : (end : FollowEnd) → Done ≡ status_of_following end → end ≡ follow_end.Adopted
+adopted follow_end.Adopted is = refl
+adopted follow_end.NotAdopted is = absurd (cc (is))
+adopted follow_end.WriteFault is = absurd (cc (is))
+adopted follow_end.Memory is = absurd (cc (is))
+
+ended_well : (end : ConnEnd) → Done ≡ status_of_link end → EndsWell end
+ended_well ends.Shut is = tt
+ended_well ends.Starved is = absurd (cc (is))
+ended_well ends.Closed is = tt
+ended_well ends.ReadFault is = absurd (cc (is))
+ended_well ends.WriteFault is = absurd (cc (is))
+
+served_all : (end : ServeEnd) → Done ≡ status_of_serving end → end ≡ serving.Done
+served_all serving.Done is = refl
+served_all serving.WriteFault is = absurd (cc (is))
+served_all serving.DoorFault is = absurd (cc (is))
+
+-- what a stopped run is not
+not_stopped : {S D I O W : Type 0} (r : Call S D I O W) (stops : Stop → Type 0) → IsStopped r.files r.out stops Done → ⊥
+not_stopped r stops (s, why, kept, printed) = no_stop s r.out printed
+
+-- ---- the links of a door
+
+-- links at the front of links that tell their bytes tell theirs
+front_tells : {I O : Type 0} (ends : LinkEnds I O) (visits : List (Visit I O LinkAnswer)) (links rest : List (Link I O)) → links ≡ map (λ (v : Visit I O LinkAnswer). v.came) visits ++ rest → TellBytes ends links → AreTold ends visits
+front_tells ends [] links rest is tell = tt
+front_tells ends (visit ∷ visits) [] rest is tell = absurd (cc (is))
+front_tells {I} {O} ends (visit ∷ visits) (link ∷ links) rest is tell =
+    let head : link ≡ visit.came = cc (is) in
+    let tail : links ≡ map (λ (v : Visit I O LinkAnswer). v.came) visits ++ rest = cc (is) in
+    ((tell.0.0, ap (λ (l : Link I O). ends.left l.source) (sym head) ∙ tell.0.1), front_tells ends visits links rest tail tell.1)
+
+-- as many links were served in both
+same_count : (count m n total : ℕ) → m ≤ count → n ≤ count → m ≤ total → n ≤ total → (m ≡ count) ⊎ (m ≡ total) → (n ≡ count) ⊎ (n ≡ total) → m ≡ n
+same_count count m n total a b c d (inl e) (inl f) = omega (arith, e, f)
+same_count count m n total a b c d (inl e) (inr f) = omega (arith, b, c, e, f)
+same_count count m n total a b c d (inr e) (inl f) = omega (arith, a, d, e, f)
+same_count count m n total a b c d (inr e) (inr f) = omega (arith, e, f)
+
+size_of : {A B : Type 0} (f : A → B) (xs : List A) (rest all : List B) → all ≡ map f xs ++ rest → (length xs ≤ length all) × (rest ≡ [] → length xs ≡ length all)
+size_of f [] rest all is = (omega arith, λ none. sym (ap (λ (ys : List _). length ys) (is ∙ none)))
+size_of f (x ∷ xs) rest [] is = absurd (cc (is))
+size_of {A} {B} f (x ∷ xs) rest (y ∷ all) is =
+    let tail : all ≡ map f xs ++ rest = cc (is) in
+    let later = size_of f xs rest all tail in
+    ((let low = later.0 in omega (arith, low)), λ none. (let same = later.1 none in omega (arith, same)))
+
+-- how many were served: as many as were asked for, or as there were
+how_many : {I O : Type 0} (count : ℕ) (links : List (Link I O)) (coming after : Option (List (Link I O))) (visits : List (Visit I O LinkAnswer)) (lines : List (List ℕ)) → coming ≡ Some links
+    → Takes coming after (map (λ (v : Visit I O LinkAnswer). v.came) visits) → AreDone count (length visits) after lines → (length visits ≤ length links) × ((length visits ≡ count) ⊎ (length visits ≡ length links))
+how_many {I} {O} count links coming after visits lines is takes done =
+    let f : Visit I O LinkAnswer → Link I O = λ (v : Visit I O LinkAnswer). v.came in
+    let told : Takes (Some links) after (map f visits) = subst (λ (c : Option (List (Link I O))). Takes c after (map f visits)) is takes in
+    let sizes = size_of f visits told.0 links told.2 in (
+      sizes.0,
+      elim done.enough [
+        | inl all ↦ inl all
+        | inr out ↦ inr (sizes.1 (subst (λ (c : Option (List (Link I O))). HasRunOut c) told.1 out))
+      ],
+    )
+
+-- ---- one run
+
+-- what is known of commands, connections and sessions
+pub record KnownRuns (W I O : Type 0) : Type 0 where
+  pub one_command : (words : List (List ℕ)) (one other : Command) → Ask words one → Ask words other → plain one ≡ plain other
+  pub table : (files : FileSet) (table : List ℕ) (task : TableTask) (one other : List ℕ) → IsTableAnswer (Some files) table task one → IsTableAnswer (Some files) table task other → one ≡ other
+  pub map_text : (files : FileSet) (style name : List ℕ) (task : MapTask) (one other : List ℕ) → IsMapAnswer (Some files) style name task one → IsMapAnswer (Some files) style name task other → one ≡ other
+  pub totals : (groups seed : ℕ) (one other : List ℕ) → IsTotalsOf groups seed one → IsTotalsOf groups seed other → one ≡ other
+  pub first : (files : FileSet) (style name : List ℕ) (one other : State) → IsFirstState (Some files) style name one → IsFirstState (Some files) style name other → one ≡ other
+  pub reached : (told : Option FileSet) (style name : List ℕ) (first : State) → IsFirstState told style name first → IsState first
+  pub states : (files : FileSet) (name : List ℕ) (states others : List follow.State) → HasStates (Some files) name states → HasStates (Some files) name others → states ≡ others
+  pub answers : (states : List follow.State) (one other : Following states) → one.rest ≡ [] → other.rest ≡ [] → AllAdopted one.answers → AllAdopted other.answers → one.answers ≡ other.answers
+  pub held : (states : List follow.State) (one other : Following states) → one.rest ≡ [] → other.rest ≡ [] → AllAdopted one.answers → AllAdopted other.answers → one.held ≡ other.held
+  pub written : (hearing : W → Hearing) (old older one other : LinkState W) (bytes : List ℕ) (left rest written first second : Option (List ℕ)) (end ending : ConnEnd) →
+      IsState old.map_state → AreLikeStates old older → EndsWell end → EndsWell ending →
+      IsLinkServed hearing old one (Some bytes) left written first end → IsLinkServed hearing older other (Some bytes) rest written second ending → first ≡ second
+  pub told : (hearing : W → Hearing) (old older one other : LinkState W) (bytes : List ℕ) (left rest written first writing second : Option (List ℕ)) (end ending : ConnEnd) →
+      IsState old.map_state → AreLikeStates old older → EndsWell end → EndsWell ending →
+      (x : IsLinkServed hearing old one (Some bytes) left written first end) → (y : IsLinkServed hearing older other (Some bytes) rest writing second ending) →
+      flat_map (λ (a : LinkAnswer). a.changes) x.served.exchange.answers ≡ flat_map (λ (a : LinkAnswer). a.changes) y.served.exchange.answers
+  pub replies : (hearing : W → Hearing) (ends : LinkEnds I O) (first older last other : LinkState W) (door again : Passed I O) (visits others : List (Visit I O LinkAnswer)) (links : List (Link I O)) →
+      IsState first.map_state → AreLikeStates first older → door.coming ≡ Some links → again.coming ≡ Some links → length visits ≡ length others →
+      Headline hearing ends first last door visits → Headline hearing ends older other again others →
+      AreTold ends visits → AllEndWell visits → AllEndWell others →
+      map (λ (v : Visit I O LinkAnswer). ends.written v.gone.sink) visits ≡ map (λ (v : Visit I O LinkAnswer). ends.written v.gone.sink) others
+  pub session_told : (hearing : W → Hearing) (ends : LinkEnds I O) (first older last other : LinkState W) (door again : Passed I O) (visits others : List (Visit I O LinkAnswer)) (links : List (Link I O)) →
+      IsState first.map_state → AreLikeStates first older → door.coming ≡ Some links → again.coming ≡ Some links → length visits ≡ length others →
+      Headline hearing ends first last door visits → Headline hearing ends older other again others →
+      AreTold ends visits → AllEndWell visits → AllEndWell others → flat_map changes_in visits ≡ flat_map changes_in others
+
+-- lists that stand at the front of one, and are as long, are one
+same_front : {A : Type 0} (xs ys r t : List A) → length xs ≡ length ys → xs ++ r ≡ ys ++ t → xs ≡ ys
+same_front [] [] r t n e = refl
+same_front [] (y ∷ ys) r t n e = absurd (omega (arith, n))
+same_front (x ∷ xs) [] r t n e = absurd (omega (arith, n))
+same_front (x ∷ xs) (y ∷ ys) r t n e =
+    let head : x ≡ y = cc (e) in
+    let behind : xs ++ r ≡ ys ++ t = cc (e) in
+    let tail : xs ≡ ys = same_front xs ys r t (omega (arith, n)) behind in
+    cc (head, tail)
+
+same_length : {A B : Type 0} (f : A → B) (xs : List A) → length (map f xs) ≡ length xs
+same_length f [] = refl
+same_length f (x ∷ xs) = let h = same_length f xs in omega (arith, h)
+
+-- where its names stand in memory is nothing to what a command does
+done_plain : {S D I O W : Type 0} (r : Call S D I O W) (c : Command) → IsDone r c Done → IsDone r (plain c) Done
+done_plain r (OnTable table task) x = x
+done_plain r (Judge table slots) x = x
+done_plain r (OnMap style map task) x = x
+done_plain r (Live style map Pipe) x = x
+done_plain r (Live style map (Serve port count)) x = x
+done_plain r (Make groups seed) x = x
+done_plain r (Follow states) x = x
+
+alike_plain : {S D I O W : Type 0} (r o : Call S D I O W) (c : Command) → DoAlike r o (plain c) → DoAlike r o c
+alike_plain r o (OnTable table task) x = x
+alike_plain r o (Judge table slots) x = x
+alike_plain r o (OnMap style map task) x = x
+alike_plain r o (Live style map Pipe) x = x
+alike_plain r o (Live style map (Serve port count)) x = x
+alike_plain r o (Make groups seed) x = x
+alike_plain r o (Follow states) x = x
+
+-- words that a run did are no words of another form
+no_usage : {S D I O W : Type 0} (r : Call S D I O W) → IsPrinted usage_line Usage r.out Done → ⊥
+no_usage r printed = let e = (whole usage_line Usage r.out printed).0 in cc (e)
+
+-- what was followed to the end, where a run is done
+record Followed {W : Type 0} (hearing : W → Hearing) (states : List follow.State) (crowd after : List W) (out : Put) : Type 0 where
+  following : Following states
+  printed : IsPrintedWhole following out
+  adopts : AllAdopted following.answers
+  hears : AllHear hearing (changes_of following.answers) crowd after
+
+followed : {W : Type 0} (hearing : W → Hearing) (states : List follow.State) (crowd after : List W) (out : Put) → AreFollowed hearing states crowd after out Done → Followed hearing states crowd after out
+followed hearing states crowd after out (end, is, status) =
+    let ended : IsEndOfFollowing is.following out follow_end.Adopted = subst (λ (e : FollowEnd). IsEndOfFollowing is.following out e) (adopted end status) is.ended in
+    record { following = is.following; printed = ended.0; adopts = ended.1; hears = is.hears }
+
+-- what a session printed, where a run is done
+served_lines : {W I O : Type 0} (hearing : W → Hearing) (ends : LinkEnds I O) (first : State) (crowd after : List W) (port count : ℕ) (door : Passed I O) (out : Put) → (x : IsAllServed hearing ends first crowd after port count door out Done)
+    → (lines : List (List ℕ)) × AreDone count (length x.visits) door.coming_after lines × Appends out.written out.written_after (flat_map (λ (line : List ℕ). line) lines)
+served_lines hearing ends first crowd after port count door out x =
+    let printed = subst (λ (e : ServeEnd). IsEndOfServing count (length x.visits) (record { listens = door.listens; coming_after = door.coming_after; faults = door.faults; faults_after = door.faults_after }) out.written out.written_after e) (served_all x.end x.status_is) x.printed in
+    (printed.0, printed.1, printed.3)
+
+like_first : {W : Type 0} (first : State) (crowd others : List W) → AreLikeStates (at_first first crowd) (at_first first others)
+like_first first crowd others = record { map_state = refl; spent = refl }
+
+module _ {S D I O W : Type 0} (known : KnownRuns W I O) (r o : Call S D I O W) (found : FindAlike r o) where
+  -- what is told of files, in both
+  of_r : (P : Option FileSet → Type 0) → P r.files.told → P (Some found.files)
+  of_r P is = subst P found.files_are.0 is
+
+  of_o : (P : Option FileSet → Type 0) → P o.files.told → P (Some found.files)
+  of_o P is = subst P found.files_are.1 is
+
+  same_first : (style name : List ℕ) (first start : State) → IsFirstState r.files.told style name first → IsFirstState o.files.told style name start → start ≡ first
+  same_first style name first start x y =
+      known.first found.files style name start first (of_o (λ t. IsFirstState t style name start) y) (of_r (λ t. IsFirstState t style name first) x)
+
+  -- ---- one connection
+
+  record Piped (first : State) : Type 0 where
+    last : LinkState W
+    again : LinkState W
+    end : ConnEnd
+    ending : ConnEnd
+    well : EndsWell end
+    fine : EndsWell ending
+    one : IsLinkServed r.hearing (at_first first r.old.crowd) last (Some found.bytes) r.input.left_after r.out.written r.out.written_after end
+    other : IsLinkServed r.hearing (at_first first o.old.crowd) again (Some found.bytes) o.input.left_after o.out.written o.out.written_after ending
+    crowd : last.crowd ≡ r.new.crowd
+    crowd_too : again.crowd ≡ o.new.crowd
+
+  piped : (first start : State) → start ≡ first → IsPiped r.hearing first r.old.crowd r.new.crowd r.input r.out Done → IsPiped o.hearing start o.old.crowd o.new.crowd o.input o.out Done → Piped first
+  piped first start same x y =
+      let moved : IsLinkServed o.hearing (at_first first o.old.crowd) y.last o.input.left o.input.left_after o.out.written o.out.written_after y.end =
+      subst (λ (s : State). IsLinkServed o.hearing (at_first s o.old.crowd) y.last o.input.left o.input.left_after o.out.written o.out.written_after y.end) same y.served in
+      let heard : IsLinkServed r.hearing (at_first first o.old.crowd) y.last o.input.left o.input.left_after o.out.written o.out.written_after y.end =
+      subst (λ (h : W → Hearing). IsLinkServed h (at_first first o.old.crowd) y.last o.input.left o.input.left_after o.out.written o.out.written_after y.end) found.hearing_is moved in
+      record {
+        last = x.last;
+        again = y.last;
+        end = x.end;
+        ending = y.end;
+        well = ended_well x.end x.status_is;
+        fine = ended_well y.end y.status_is;
+        one = subst (λ (s : Option (List ℕ)). IsLinkServed r.hearing (at_first first r.old.crowd) x.last s r.input.left_after r.out.written r.out.written_after x.end) found.input_is.0 x.served;
+        other = subst (λ (s : Option (List ℕ)). IsLinkServed r.hearing (at_first first o.old.crowd) y.last s o.input.left_after o.out.written o.out.written_after y.end) found.input_is.1 heard;
+        crowd = x.crowd_is;
+        crowd_too = y.crowd_is;
+      }
+
+  piped_printed : (first : State) → IsState first → r.out.written ≡ o.out.written → Piped first → r.out.written_after ≡ o.out.written_after
+  piped_printed first is same p =
+      let other : IsLinkServed r.hearing (at_first first o.old.crowd) p.again (Some found.bytes) o.input.left_after r.out.written o.out.written_after p.ending =
+      subst (λ (w : Option (List ℕ)). IsLinkServed r.hearing (at_first first o.old.crowd) p.again (Some found.bytes) o.input.left_after w o.out.written_after p.ending) (sym same) p.other in
+      known.written r.hearing (at_first first r.old.crowd) (at_first first o.old.crowd) p.last p.again found.bytes r.input.left_after o.input.left_after r.out.written r.out.written_after o.out.written_after p.end p.ending
+      is (like_first first r.old.crowd o.old.crowd) p.well p.fine p.one other
+
+  piped_told : (first : State) → IsState first → Piped first → TellAlike r o
+  piped_told first is p =
+      let changes = flat_map (λ (a : LinkAnswer). a.changes) p.one.served.exchange.answers in
+      let others = flat_map (λ (a : LinkAnswer). a.changes) p.other.served.exchange.answers in
+      let same : changes ≡ others =
+      known.told r.hearing (at_first first r.old.crowd) (at_first first o.old.crowd) p.last p.again found.bytes r.input.left_after o.input.left_after r.out.written r.out.written_after o.out.written o.out.written_after p.end p.ending
+      is (like_first first r.old.crowd o.old.crowd) p.well p.fine p.one p.other in
+      let second : AllHear r.hearing changes o.old.crowd p.again.crowd = subst (λ (cs : List Change). AllHear r.hearing cs o.old.crowd p.again.crowd) (sym same) p.other.hears in (
+        changes,
+        subst (λ (c : List W). AllHear r.hearing changes r.old.crowd c) p.crowd p.one.hears,
+        subst (λ (h : W → Hearing). AllHear h changes o.old.crowd o.new.crowd) (sym found.hearing_is) (subst (λ (c : List W). AllHear r.hearing changes o.old.crowd c) p.crowd_too second),
+      )
+
+  -- ---- the connections of a door
+
+  record Served (first : State) : Type 0 where
+    last : LinkState W
+    again : LinkState W
+    visits : List (Visit I O LinkAnswer)
+    others : List (Visit I O LinkAnswer)
+    one : Headline r.hearing r.ends (at_first first r.old.crowd) last r.door visits
+    other : Headline r.hearing r.ends (at_first first o.old.crowd) again o.door others
+    many : length visits ≡ length others
+    lines : (List (List ℕ))
+    lines_too : (List (List ℕ))
+    same_lines : lines ≡ lines_too
+    wrote : Appends r.out.written r.out.written_after (flat_map (λ (line : List ℕ). line) lines)
+    wrote_too : Appends o.out.written o.out.written_after (flat_map (λ (line : List ℕ). line) lines_too)
+    crowd : last.crowd ≡ r.new.crowd
+    crowd_too : again.crowd ≡ o.new.crowd
+
+  served : (first start : State) (port count : ℕ) → start ≡ first → IsAllServed r.hearing r.ends first r.old.crowd r.new.crowd port count r.door r.out Done → IsAllServed o.hearing o.ends start o.old.crowd o.new.crowd port count o.door o.out Done → Served first
+  served first start port count same x y =
+      let moved : Headline o.hearing o.ends (at_first first o.old.crowd) y.last o.door y.visits = subst (λ (s : State). Headline o.hearing o.ends (at_first s o.old.crowd) y.last o.door y.visits) same y.headline in
+      let heard : Headline r.hearing o.ends (at_first first o.old.crowd) y.last o.door y.visits = subst (λ (h : W → Hearing). Headline h o.ends (at_first first o.old.crowd) y.last o.door y.visits) found.hearing_is moved in
+      let ended : Headline r.hearing r.ends (at_first first o.old.crowd) y.last o.door y.visits = subst (λ (e : LinkEnds I O). Headline r.hearing e (at_first first o.old.crowd) y.last o.door y.visits) found.ends_are heard in
+      let p = served_lines r.hearing r.ends first r.old.crowd r.new.crowd port count r.door r.out x in
+      let q = served_lines o.hearing o.ends start o.old.crowd o.new.crowd port count o.door o.out y in
+      let m = how_many count found.links r.door.coming r.door.coming_after x.visits p.0 found.door_is.0 x.headline.came p.1 in
+      let n = how_many count found.links o.door.coming o.door.coming_after y.visits q.0 found.door_is.1 ended.came q.1 in
+      let many = same_count count (length x.visits) (length y.visits) (length found.links) p.1.few q.1.few m.0 n.0 m.1 n.1 in
+      record {
+        last = x.last;
+        again = y.last;
+        visits = x.visits;
+        others = y.visits;
+        one = x.headline;
+        other = ended;
+        many = many;
+        lines = p.0;
+        lines_too = q.0;
+        same_lines = p.1.due ∙ ap (λ (k : ℕ). codes "ready\n" ∷ served_line k ∷ []) many ∙ sym q.1.due;
+        wrote = p.2;
+        wrote_too = q.2;
+        crowd = x.crowd_is;
+        crowd_too = y.crowd_is;
+      }
+
+  served_printed : (first : State) → r.out.written ≡ o.out.written → Served first → r.out.written_after ≡ o.out.written_after
+  served_printed first same p =
+      appended r.out.written o.out.written r.out.written_after o.out.written_after (flat_map (λ (line : List ℕ). line) p.lines) (flat_map (λ (line : List ℕ). line) p.lines_too)
+      same (ap (λ (ls : List (List ℕ)). flat_map (λ (line : List ℕ). line) ls) p.same_lines) p.wrote p.wrote_too
+
+  served_alike : (first : State) → IsState first → Served first → ServeAlike r o
+  served_alike first is p =
+      let f : Visit I O LinkAnswer → Link I O = λ (v : Visit I O LinkAnswer). v.came in
+      let one : Takes (Some found.links) r.door.coming_after (map f p.visits) = subst (λ (c : Option (List (Link I O))). Takes c r.door.coming_after (map f p.visits)) found.door_is.0 p.one.came in
+      let two : Takes (Some found.links) o.door.coming_after (map f p.others) = subst (λ (c : Option (List (Link I O))). Takes c o.door.coming_after (map f p.others)) found.door_is.1 p.other.came in
+      let told : AreTold r.ends p.visits = front_tells r.ends p.visits found.links one.0 one.2 found.links_tell in
+      record {
+        visits = p.visits;
+        others = p.others;
+        came = same_front (map f p.visits) (map f p.others) one.0 two.0 (same_length f p.visits ∙ p.many ∙ sym (same_length f p.others)) (sym one.2 ∙ two.2);
+        gone = p.one.gone;
+        gone_too = p.other.gone;
+        hears = subst (λ (c : List W). AllHear r.hearing (flat_map changes_in p.visits) r.old.crowd c) p.crowd p.one.hears;
+        hears_too = subst (λ (h : W → Hearing). AllHear h (flat_map changes_in p.others) o.old.crowd o.new.crowd) (sym found.hearing_is)
+            (subst (λ (c : List W). AllHear r.hearing (flat_map changes_in p.others) o.old.crowd c) p.crowd_too p.other.hears);
+        replies = λ well fine. known.replies r.hearing r.ends (at_first first r.old.crowd) (at_first first o.old.crowd) p.last p.again r.door o.door p.visits p.others found.links is (like_first first r.old.crowd o.old.crowd)
+            found.door_is.0 found.door_is.1 p.many p.one p.other told well fine;
+        told = λ well fine. known.session_told r.hearing r.ends (at_first first r.old.crowd) (at_first first o.old.crowd) p.last p.again r.door o.door p.visits p.others found.links is (like_first first r.old.crowd o.old.crowd)
+            found.door_is.0 found.door_is.1 p.many p.one p.other told well fine;
+      }
+
+  -- ---- states that are followed
+
+  record BothFollowed : Type 0 where
+    states : List follow.State
+    one : Followed r.hearing states r.old.crowd r.new.crowd r.out
+    other : Followed o.hearing states o.old.crowd o.new.crowd o.out
+    answers : one.following.answers ≡ other.following.answers
+    held : one.following.held ≡ other.following.held
+
+  both_followed : (name : List ℕ) (states others : List follow.State) → HasStates r.files.told name states → HasStates o.files.told name others
+      → AreFollowed r.hearing states r.old.crowd r.new.crowd r.out Done → AreFollowed o.hearing others o.old.crowd o.new.crowd o.out Done → BothFollowed
+  both_followed name states others has had x y =
+      let same : others ≡ states = known.states found.files name others states (of_o (λ t. HasStates t name others) had) (of_r (λ t. HasStates t name states) has) in
+      let one = followed r.hearing states r.old.crowd r.new.crowd r.out x in
+      let other = subst (λ (ss : List follow.State). Followed o.hearing ss o.old.crowd o.new.crowd o.out) same (followed o.hearing others o.old.crowd o.new.crowd o.out y) in
+      record {
+        states = states;
+        one = one;
+        other = other;
+        answers = known.answers states one.following other.following one.printed.all other.printed.all one.adopts other.adopts;
+        held = known.held states one.following other.following one.printed.all other.printed.all one.adopts other.adopts;
+      }
+
+  followed_printed : r.out.written ≡ o.out.written → BothFollowed → r.out.written_after ≡ o.out.written_after
+  followed_printed same p =
+      appended r.out.written o.out.written r.out.written_after o.out.written_after _ _ same
+      (ap (λ (all : List Offered). joined (lines_of all) ++ held_line p.one.following.held) p.answers ∙ ap (λ (h : Option follow.State). joined (lines_of p.other.following.answers) ++ held_line h) p.held)
+      p.one.printed.wrote p.other.printed.wrote
+
+  followed_told : BothFollowed → TellAlike r o
+  followed_told p =
+      (changes_of p.one.following.answers, p.one.hears, subst (λ (cs : List Change). AllHear o.hearing cs o.old.crowd o.new.crowd) (sym (ap changes_of p.answers)) p.other.hears)
+
+  -- ---- any command
+
+  printed_by : r.out.written ≡ o.out.written → (c : Command) → IsDone r c Done → IsDone o c Done → r.out.written_after ≡ o.out.written_after
+  printed_by same (OnTable table task) x y =
+      one_text r o _ _ _ _ same (λ a b p q. known.table found.files table.now task a b (of_r (λ t. IsTableAnswer t table.now task a) p.0) (of_o (λ t. IsTableAnswer t table.now task b) q.0)) x y
+  printed_by same (Judge table slots) x y = one_text r o _ _ _ _ same (λ a b p q. check_text r.files.told table.now slots.now a p ∙ sym (check_text o.files.told table.now slots.now b q)) x y
+  printed_by same (OnMap style map task) x y =
+      one_text r o _ _ _ _ same (λ a b p q. known.map_text found.files style.now map.now task a b (of_r (λ t. IsMapAnswer t style.now map.now task a) p.0) (of_o (λ t. IsMapAnswer t style.now map.now task b) q.0)) x y
+  printed_by same (Make groups seed) x y = one_text r o _ _ _ _ same (λ a b p q. known.totals groups seed a b p.0 q.0) x y
+  printed_by same (Live style map Pipe) (inl x) y = absurd (not_stopped r _ x.0)
+  printed_by same (Live style map Pipe) (inr x) (inl y) = absurd (not_stopped o _ y.0)
+  printed_by same (Live style map Pipe) (inr (first, is, kept, x)) (inr (start, was, still, y)) =
+      piped_printed first (known.reached r.files.told style.now map.now first is) same (piped first start (same_first style.now map.now first start is was) x.0 y.0)
+  printed_by same (Live style map (Serve port count)) (inl x) y = absurd (not_stopped r _ x.0)
+  printed_by same (Live style map (Serve port count)) (inr x) (inl y) = absurd (not_stopped o _ y.0)
+  printed_by same (Live style map (Serve port count)) (inr (first, is, kept, x)) (inr (start, was, still, y)) =
+      served_printed first same (served first start port count (same_first style.now map.now first start is was) x.0 y.0)
+  printed_by same (Follow name) (inl x) y = absurd (not_stopped r _ x.0)
+  printed_by same (Follow name) (inr x) (inl y) = absurd (not_stopped o _ y.0)
+  printed_by same (Follow name) (inr (states, has, kept, x, input, door)) (inr (others, had, still, y, source, gate)) = followed_printed same (both_followed name.now states others has had x y)
+
+  alike_by : (c : Command) → IsDone r c Done → IsDone o c Done → DoAlike r o c
+  alike_by (OnTable table task) x y = (x.1, y.1)
+  alike_by (Judge table slots) x y = (x.1, y.1)
+  alike_by (OnMap style map task) x y = (x.1, y.1)
+  alike_by (Make groups seed) x y = (x.1, y.1)
+  alike_by (Live style map Pipe) (inl x) y = absurd (not_stopped r _ x.0)
+  alike_by (Live style map Pipe) (inr x) (inl y) = absurd (not_stopped o _ y.0)
+  alike_by (Live style map Pipe) (inr (first, is, kept, x)) (inr (start, was, still, y)) =
+      piped_told first (known.reached r.files.told style.now map.now first is) (piped first start (same_first style.now map.now first start is was) x.0 y.0)
+  alike_by (Live style map (Serve port count)) (inl x) y = absurd (not_stopped r _ x.0)
+  alike_by (Live style map (Serve port count)) (inr x) (inl y) = absurd (not_stopped o _ y.0)
+  alike_by (Live style map (Serve port count)) (inr (first, is, kept, x)) (inr (start, was, still, y)) =
+      served_alike first (known.reached r.files.told style.now map.now first is) (served first start port count (same_first style.now map.now first start is was) x.0 y.0)
+  alike_by (Follow name) (inl x) y = absurd (not_stopped r _ x.0)
+  alike_by (Follow name) (inr x) (inl y) = absurd (not_stopped o _ y.0)
+  alike_by (Follow name) (inr (states, has, kept, x, input, door)) (inr (others, had, still, y, source, gate)) = followed_told (both_followed name.now states others has had x y)
+
+  -- the command of words, done in both
+  record Both (words : List (List ℕ)) : Type 0 where
+    command : Command
+    asks : Ask words command
+    one : IsDone r (plain command) Done
+    other : IsDone o (plain command) Done
+
+  both : (words : List (List ℕ)) → IsRun r words Done → IsRun o words Done → Both words
+  both words (inl (c, asks, x)) (inl (d, also, y)) = record {
+    command = c;
+    asks = asks;
+    one = done_plain r c x;
+    other = subst (λ (k : Command). IsDone o k Done) (known.one_command words d c also asks) (done_plain o d y);
+  }
+  both words (inr (none, kept, printed, same)) y = absurd (no_usage r printed)
+  both words (inl x) (inr (none, kept, printed, same)) = absurd (no_usage o printed)
+
+  pub printed : (words : List (List ℕ)) → IsRun r words Done → IsRun o words Done → r.out.written ≡ o.out.written → r.out.written_after ≡ o.out.written_after
+  printed words x y same = let p = both words x y in printed_by same (plain p.command) p.one p.other
+
+  pub alike : (words : List (List ℕ)) → IsRun r words Done → IsRun o words Done → (c : Command) × Ask words c × DoAlike r o c
+  alike words x y = let p = both words x y in (p.command, p.asks, alike_plain r o p.command (alike_by (plain p.command) p.one p.other))
