@@ -39,7 +39,8 @@ impl Moves {
     pub fn new(alloc: Global) -> Result<Moves, AllocError>
         ensures { IfOk result (λ moves. moves ≡ []) }
     {
-        let column = vec![in alloc; 0; MOST_LABELS]?;
+        // copied at once: `vec!` would write one element after another, at each edit
+        let column = Vec::from_slice(alloc, &[0; MOST_LABELS])?;
         Ok(Moves {
             moved: Vec::new(alloc),
             column,

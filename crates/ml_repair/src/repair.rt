@@ -18,7 +18,7 @@ use crate::kept::settle_again;
 use crate::moves::Moves;
 use crate::roster::Roster;
 use crate::sought::Edited;
-use crate::waiting::next_waiting;
+use crate::waiting::{next_waiting, none_waits};
 use crate::wake::{wake, wake_more};
 use ml_cone::Slot;
 use ml_conflict::laws::{carried, rivals_or_free, smaller_ends};
@@ -167,7 +167,7 @@ pub fn repair<L: Ledger>(
     rivals_or_free();
     let many = roster.len();
     let edited = Edited { at, comes };
-    let mut waits = vec![in alloc; false; many]?;
+    let mut waits = none_waits(alloc, many)?;
     let mut changed = first_changed(alloc, at, comes)?;
     wake(alloc, roster, at, &mut waits)?;
     let mut evaluated = if comes { 1 } else { 0 };

@@ -1,6 +1,24 @@
 //! Which labels wait.
-ghost use Rattle.std.specs.Prelude.{◌+◌, ◌<◌, ◌≤◌, false, length, slice_index_or, IsTrue};
+ghost use Rattle.std.specs.Prelude.{◌≡◌, ◌+◌, ◌<◌, ◌≤◌, false, length, replicate, slice_index_or, IfOk, IsTrue};
+ghost use Rattle.ml_ratio.specs.Limits.{most_labels};
 ghost use Rattle.ml_repair.specs.Waiting.{NoneWaits};
+
+use ml_ratio::MOST_LABELS;
+use std::alloc::{AllocError, Global};
+
+/// Whether each of so many labels waits, where none does.
+///
+/// The column is copied at once: `vec!` would write one element after another, at each edit.
+///
+/// # Errors
+/// Want of memory.
+pub fn none_waits(alloc: Global, many: usize) -> Result<Vec<bool>, AllocError>
+    requires { many ≤ most_labels }
+    ensures { IfOk result (λ waits. waits.items ≡ replicate many false) }
+{
+    let all = [false; MOST_LABELS];
+    Vec::from_slice(alloc, &all[..many])
+}
 
 /// The first place from `from` on whose label waits; the end where none does.
 ///

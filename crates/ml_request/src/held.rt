@@ -38,7 +38,8 @@ impl Held {
     pub fn new(alloc: Global) -> Result<Held, AllocError>
         ensures { IfOk result (λ held. held ≡ []) }
     {
-        let buffer = vec![in alloc; 0u8; ROOM]?;
+        // copied at once: `vec!` would write one byte after another, for each connection
+        let buffer = Vec::from_slice(alloc, &[0u8; ROOM])?;
         Ok(Held {
             buffer,
             start: 0,

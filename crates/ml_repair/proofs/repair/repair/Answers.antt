@@ -24,7 +24,7 @@ loop-i-init g c =
     let old = present_slots rows c.args.moves.now in
     let many = length-labels rows in
     let at_in : c.args.at < length labels = omega arith in
-    let off : c.in_ok-waits.waits.items ≡ replicate (length rows) false = rw c.len-many.ensures.count at c.in_ok-waits.ensures.items_if_clones_equal (λ y e. e) in
+    let off : c.in_ok-waits.waits.items ≡ replicate (length rows) false = rw c.len-many.ensures.count at c.in_ok-waits.ensures in
     let idle : (k : ℕ) → k < length rows → get_or c.in_ok-waits.waits.items k false ≡ false = λ k k_in. rw off (get_or-replicate (length rows) k false false k_in) in
     let start = repairing_start c.rivals_or_free.ensures c.smaller_ends.ensures c.carried.ensures (number_at rows) labels old c.args.at c.args.comes at_in c.requires.was
     (λ k. IsTrue (get_or c.wake.new.waits.items k false)) c.requires.here
