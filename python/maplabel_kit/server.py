@@ -36,7 +36,9 @@ class Child:
     that the main thread has started, since a thread that ends would end them too.
     """
 
-    def __init__(self, words: Sequence[object], stdout: int = subprocess.PIPE, **more: Any) -> None:
+    def __init__(
+        self, words: Sequence[object], stdout: int | None = subprocess.PIPE, **more: Any
+    ) -> None:
         more.setdefault("stdin", subprocess.DEVNULL)
         more.setdefault("stderr", subprocess.DEVNULL)
         if threading.current_thread() is threading.main_thread():

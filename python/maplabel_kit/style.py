@@ -3,6 +3,7 @@
 import tomllib
 from dataclasses import dataclass, field
 from fractions import Fraction
+from functools import cached_property
 from pathlib import Path
 from typing import Any
 
@@ -63,11 +64,13 @@ class Class:
     ref: int | None
     called: str | None = None
 
+    def wants(self) -> "Wanted":
+        """The kind of the features that it takes and, where a key is told, their value of it."""
+        return self.kind, self.key, self.value if self.key is not None else None
+
     def fits(self, feature: Feature) -> bool:
         """Whether a feature has this kind and, where a key is told, this value."""
-        if self.kind != feature.kind:
-            return False
-        return self.key is None or feature.text(self.key) == self.value
+        return self.wants() == wanted(feature, self.key)
 
     def scales(self) -> tuple[Fraction, Fraction]:
         """The scales from which on and below which its labels may be shown."""
@@ -90,6 +93,14 @@ class Class:
         return bottom - self.margin, bottom + self.size + self.margin
 
 
+Wanted = tuple[str | None, str | None, str | None]
+
+
+def wanted(feature: Feature, key: str | None) -> Wanted:
+    """What a class of this key wants where it takes the feature."""
+    return feature.kind, key, feature.text(key)
+
+
 @dataclass
 class Style:
     """A style: the keys of name and rank, its fonts and its classes in order."""
@@ -101,7 +112,18 @@ class Style:
 
     def class_of(self, feature: Feature) -> Class | None:
         """The first class that fits a feature, or none."""
-        return next((one for one in self.classes if one.fits(feature)), None)
+        found = (self._firsts.get(wanted(feature, key)) for key in self._keys)
+        fits = [one for one in found if one is not None]
+        return min(fits, key=lambda one: one.place) if fits else None
+
+    @cached_property
+    def _keys(self) -> set[str | None]:
+        return {one.key for one in self.classes}
+
+    @cached_property
+    def _firsts(self) -> dict[Wanted, Class]:
+        """The first class of those that want the same: a map may have thousands of classes."""
+        return {one.wants(): one for one in reversed(self.classes)}
 
     def common_height(self) -> int | None:
         """A height above the anchor that the boxes of all classes of points and areas reach, or

@@ -1,5 +1,6 @@
 """One case: words, files, standard input, and what stands in their way."""
 
+from collections.abc import Sequence
 from dataclasses import dataclass, field
 
 LONG_FILE = 67_108_865
@@ -17,25 +18,25 @@ class Case:
     """
 
     kind: str
-    words: list
-    files: dict = field(default_factory=dict)
-    stdin: object = b""
-    pieces: list = None
+    words: Sequence[str | bytes]
+    files: dict[str, bytes | int | None] = field(default_factory=dict)
+    stdin: bytes | None = b""
+    pieces: list[bytes] | None = None
     is_out_full: bool = False
-    links: list = None
+    links: list[list[bytes]] | None = None
     is_port_taken: bool = False
 
 
 @dataclass
 class Outcome:
-    """How a run ended: the exit code, and all that it wrote."""
+    """How a run ended: the exit code, or why there is none, and all that it wrote."""
 
-    status: int
+    status: int | str
     out: bytes
     err: bytes
-    replies: list = None
+    replies: list[bytes] | None = None
 
-    def differs_in(self, other):
+    def differs_in(self, other: "Outcome") -> list[str]:
         """The names of the parts in which two outcomes differ."""
         parts = ("status", "out", "err", "replies")
         return [part for part in parts if getattr(self, part) != getattr(other, part)]

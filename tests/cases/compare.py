@@ -7,9 +7,11 @@ import sys
 import tempfile
 import time
 import traceback
+from collections.abc import Sequence
 from dataclasses import dataclass
+from multiprocessing.queues import Queue
 
-from cases.case import Outcome
+from cases.case import Case, Outcome
 from cases.keep import keep
 from cases.kinds import draw_case
 from cases.run import Runner
@@ -26,64 +28,64 @@ class Plan:
     kind: str
     seed: str
     program: str
-    other: str
+    other: str | None
     kept: str
     port: int
     folder: str = ""
 
 
-_plan, _runner = None, None
+@dataclass
+class Process:
+    """What a process is ready with: the plan, and what runs its cases."""
+
+    plan: Plan
+    runner: Runner
 
 
-def second_opinion(plan, case, runner):
+_processes: list[Process] = []
+
+
+def second_opinion(plan: Plan, case: Case, runner: Runner) -> Outcome:
     """The outcome that is due."""
     if plan.other:
         return runner.run(plan.other, case)
     import maplabel
 
-    return maplabel.run(case)
+    due: Outcome = maplabel.run(case)
+    return due
 
 
-def begin(plan, numbers):
+def begin(plan: Plan, numbers: "Queue[int]") -> None:
     """Makes a process ready for cases."""
-    global _plan, _runner
     number = numbers.get()
     first = plan.port + number * PORTS
-    _plan, _runner = plan, Runner(
-        os.path.join(plan.folder, str(number)), range(first, first + PORTS)
-    )
+    folder = os.path.join(plan.folder, str(number))
+    _processes[:] = [Process(plan, Runner(folder, range(first, first + PORTS)))]
 
 
-def process_plan():
-    return _plan
+def process() -> Process:
+    """What this process is ready with."""
+    return _processes[0]
 
 
-def process_runner():
-    return _runner
-
-
-def run_chunk(places):
+def run_chunk(places: Sequence[int]) -> tuple[Tally, list[str]]:
     """The tally of some cases, and the kept ones that differ."""
-    tally, kept = Tally(), []
+    tally, kept = Tally(), list[str]()
+    plan, runner = process().plan, process().runner
     for place in places:
-        case = draw_case(_plan.kind, _plan.seed, place)
-        _runner.put_files(case)
+        case = draw_case(plan.kind, plan.seed, place)
+        runner.put_files(case)
         try:
-            due = second_opinion(_plan, case, _runner)
+            due = second_opinion(plan, case, runner)
         except Exception:  # the oracle's own fault is told like a difference
             due = Outcome("fault", traceback.format_exc().encode(), b"")
-        got = _runner.run(_plan.program, case)
+        got = runner.run(plan.program, case)
         tally.add(case, due)
         parts = got.differs_in(due)
         if parts:
-            where = os.path.join(_plan.kept, f"{_plan.kind}-{_plan.seed}-{place}")
-            keep(
-                where,
-                case,
-                _plan.program,
-                {"program": got, "other" if _plan.other else "oracle": due},
-                _runner,
-            )
+            where = os.path.join(plan.kept, f"{plan.kind}-{plan.seed}-{place}")
+            outcomes = {"program": got, "other" if plan.other else "oracle": due}
+            keep(where, case, plan.program, outcomes, runner)
             kept.append(
                 f"{case.kind} case {place}: {' and '.join(parts)} differ; kept in {where} "
                 f"(run it alone: {where}/run PROGRAM; again here: --only {place})"
@@ -91,16 +93,17 @@ def run_chunk(places):
     return tally, kept
 
 
-def folder_in_memory():
+def folder_in_memory() -> str:
+    """A new folder, in memory where there is such a place."""
     shared = "/dev/shm"
     return tempfile.mkdtemp(prefix="compare-", dir=shared if os.access(shared, os.W_OK) else None)
 
 
-def compare(plan, places, jobs):
+def compare(plan: Plan, places: Sequence[int], jobs: int) -> tuple[Tally, list[str], float]:
     """Runs the cases at these places; the tally, and a line for each that differs."""
     plan.folder = folder_in_memory()
-    tally, kept = Tally(), []
-    numbers = multiprocessing.Queue()
+    tally, kept = Tally(), list[str]()
+    numbers: Queue[int] = multiprocessing.Queue()
     for number in range(jobs):
         numbers.put(number)
     chunks = [places[at : at + CHUNK] for at in range(0, len(places), CHUNK)]
@@ -119,7 +122,8 @@ def compare(plan, places, jobs):
     return tally, kept, time.monotonic() - start
 
 
-def tell_progress(done, chunks, start):
+def tell_progress(done: int, chunks: int, start: float) -> None:
+    """Tells on a terminal how far the cases are."""
     if sys.stderr.isatty():
         end = "\n" if done == chunks else ""
         print(
@@ -130,7 +134,7 @@ def tell_progress(done, chunks, start):
         )
 
 
-def report(tally, kept, count, seconds):
+def report(tally: Tally, kept: Sequence[str], count: int, seconds: float) -> str:
     """The table, what was met seldom, and the sum."""
     lines = [tally.text(), ""]
     seldom = tally.seldom()

@@ -3,19 +3,27 @@
 import os
 import shlex
 import shutil
+from collections.abc import Mapping
+
+from cases.case import Case, Outcome
+from cases.run import Runner
 
 
-def shell_word(word, port):
+def shell_word(word: str | bytes, port: int) -> str:
+    """A word of a case as a shell takes it."""
     text = str(port) if word == "PORT" else word
     return shlex.quote(text if isinstance(text, str) else os.fsdecode(text))
 
 
-def put(path, data):
+def put(path: str, data: object) -> None:
+    """Writes bytes, or the text of another value."""
     with open(path, "wb") as file:
         file.write(data if isinstance(data, bytes) else os.fsencode(str(data)))
 
 
-def keep(place, case, program, outcomes, runner):
+def keep(
+    place: str, case: Case, program: str, outcomes: Mapping[str, Outcome], runner: Runner
+) -> None:
     """A folder with the case's files, words, input, the outcomes by name and a script that runs
     it.
     """

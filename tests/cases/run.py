@@ -9,9 +9,13 @@ import socket
 import subprocess
 import termios
 import time
+from collections.abc import Iterator, Sequence
 from contextlib import contextmanager
+from typing import IO
 
-from cases.case import LONG_FILE, Outcome
+from cases.case import LONG_FILE, Case, Outcome
+
+Process = subprocess.Popen[bytes]
 
 SECONDS = 30
 LONGEST_WAIT, LONGEST_PAUSE = 20, 0.05
@@ -20,17 +24,18 @@ LONGEST_WAIT, LONGEST_PAUSE = 20, 0.05
 class Runner:
     """Runs cases one after another, in a folder of its own."""
 
-    def __init__(self, folder, ports):
+    def __init__(self, folder: str, ports: Sequence[int]) -> None:
         self.folder = folder
         self.ports = ports
         self.port = ports[0]
         self.files = os.path.join(folder, "files")
         os.makedirs(self.files)
 
-    def close(self):
+    def close(self) -> None:
+        """Removes the folder."""
         shutil.rmtree(self.folder, ignore_errors=True)
 
-    def put_files(self, case):
+    def put_files(self, case: Case) -> None:
         """Makes the folder of the case's files hold just these."""
         for name in os.listdir(self.files):
             path = os.path.join(self.files, name)
@@ -41,13 +46,13 @@ class Runner:
         for name, data in case.files.items():
             write_file(os.path.join(self.files, name), data)
 
-    def run(self, program, case):
+    def run(self, program: str, case: Case) -> Outcome:
         """The outcome of the program on the case, whose files were put."""
         if case.links is not None:
             self.port = free_port(self.ports)
-            words = [str(self.port) if word == "PORT" else word for word in case.words]
-            return self.run_server([program, *words], case)
-        words = [program, *case.words]
+            told = [str(self.port) if word == "PORT" else word for word in case.words]
+            return self.run_server([program, *told], case, case.links)
+        words: list[str | bytes] = [program, *case.words]
         given, out, err = (
             os.path.join(self.folder, name) for name in ("stdin", "stdout", "stderr")
         )
@@ -61,7 +66,9 @@ class Runner:
         written = b"" if case.is_out_full else read_file(out)
         return Outcome(status, written, read_file(err))
 
-    def run_server(self, words, case):
+    def run_server(
+        self, words: Sequence[str | bytes], case: Case, links: list[list[bytes]]
+    ) -> Outcome:
         """The same for `serve`, with a client for each connection in turn."""
         blocker = listen(self.port) if case.is_port_taken else None
         out, err = (os.path.join(self.folder, name) for name in ("stdout", "stderr"))
@@ -75,8 +82,8 @@ class Runner:
                 close_fds=False,
             )
             try:
-                replies = [talk(self.port, pieces, child) for pieces in case.links]
-                status = child.wait(SECONDS)
+                replies = [talk(self.port, pieces, child) for pieces in links]
+                status: int | str = child.wait(SECONDS)
             except (OSError, subprocess.TimeoutExpired) as fault:
                 replies, status = [str(fault).encode()], "no end"
             finally:
@@ -86,7 +93,7 @@ class Runner:
         return Outcome(status, read_file(out), read_file(err), replies)
 
 
-def write_file(path, data):
+def write_file(path: str, data: bytes | int | None) -> None:
     """A file of these bytes; None makes a folder, a number a file of so many bytes."""
     if data is None:
         os.mkdir(path)
@@ -98,13 +105,14 @@ def write_file(path, data):
             file.write(data)
 
 
-def read_file(path):
+def read_file(path: str) -> bytes:
+    """The bytes of a file."""
     with open(path, "rb") as file:
         return file.read()
 
 
 @contextmanager
-def opened(path):
+def opened(path: str) -> Iterator[int]:
     """The number of an open file, or of an open folder, from which reading fails."""
     number = os.open(path, os.O_RDONLY)
     try:
@@ -113,15 +121,16 @@ def opened(path):
         os.close(number)
 
 
-def waits_unread(pipe):
+def waits_unread(pipe: IO[bytes]) -> bool:
     """Whether bytes in a pipe were not read yet."""
     count = array.array("i", [0])
     fcntl.ioctl(pipe, termios.FIONREAD, count)
     return count[0] > 0
 
 
-def feed(child, pieces):
+def feed(child: Process, pieces: Sequence[bytes]) -> None:
     """Writes the pieces, each once that before it was read."""
+    assert child.stdin is not None
     try:
         for piece in pieces:
             child.stdin.write(piece)
@@ -133,7 +142,12 @@ def feed(child, pieces):
         pass  # the program reads no further, as after a reply that closes
 
 
-def run_to_end(words, folder, streams, pieces):
+def run_to_end(
+    words: Sequence[str | bytes],
+    folder: str,
+    streams: tuple[int, IO[bytes], IO[bytes]],
+    pieces: Sequence[bytes] | None,
+) -> int | str:
     """The exit code; a run that does not end in time is ended."""
     stdin, stdout, stderr = streams
     child = subprocess.Popen(
@@ -154,13 +168,14 @@ def run_to_end(words, folder, streams, pieces):
         os.close(watch)
 
 
-def end(child):
+def end(child: Process) -> None:
+    """Ends a program that still runs."""
     if child.poll() is None:
         child.kill()
         child.wait()
 
 
-def free_port(ports):
+def free_port(ports: Sequence[int]) -> int:
     """The first of the ports at which a program could listen."""
     for port in ports:
         try:
@@ -171,7 +186,7 @@ def free_port(ports):
     raise OSError(f"no port is free from {ports[0]} to {ports[-1]}")
 
 
-def listen(port):
+def listen(port: int) -> socket.socket:
     """A socket that takes the port."""
     taken = socket.socket()
     taken.setsockopt(socket.SOL_SOCKET, socket.SO_REUSEADDR, 1)
@@ -184,7 +199,7 @@ def listen(port):
     return taken
 
 
-def connect(port, child):
+def connect(port: int, child: Process) -> socket.socket | None:
     """A connection to the program, once it listens; None where it ended."""
     last = time.monotonic() + LONGEST_WAIT
     while time.monotonic() < last:
@@ -197,7 +212,7 @@ def connect(port, child):
     raise OSError("the program does not listen")
 
 
-def talk(port, pieces, child):
+def talk(port: int, pieces: Sequence[bytes], child: Process) -> bytes:
     """Sends the pieces, then reads the replies to their end."""
     link = connect(port, child)
     if link is None:

@@ -3,15 +3,24 @@
 import multiprocessing
 import shutil
 import sys
+from collections.abc import Iterator, Mapping, Sequence
 from contextlib import contextmanager
+from multiprocessing.queues import Queue
+from types import ModuleType
+from typing import Any
 
 import maplabel
 from cases import compare
+from cases.case import Case, Outcome
 from cases.kinds import draw_case
 from cases.wrong_rules import RULES
 
 
-def oracle_modules():
+Rule = tuple[Any, ...]
+
+
+def oracle_modules() -> list[ModuleType]:
+    """The modules of the oracle that are there."""
     return [
         module
         for name, module in sys.modules.items()
@@ -20,7 +29,7 @@ def oracle_modules():
 
 
 @contextmanager
-def wrong(rule):
+def wrong(rule: Rule) -> Iterator[None]:
     """The oracle with a wrong rule in every module that uses the name."""
     _, home, name, replacement, _ = rule
     right = getattr(home, name)
@@ -34,7 +43,7 @@ def wrong(rule):
             setattr(module, name, right)
 
 
-def is_seen(rule, case, outcome):
+def is_seen(rule: Rule, case: Case, outcome: Outcome) -> bool:
     """Whether the oracle with the wrong rule answers otherwise than the program."""
     with wrong(rule):
         try:
@@ -43,10 +52,11 @@ def is_seen(rule, case, outcome):
             return True
 
 
-def try_cases(task):
+def try_cases(task: tuple[Sequence[int], set[str]]) -> dict[str, int]:
     """The names of the rules that some cases see, each with the first place."""
     places, names = task
-    plan, runner, seen = compare.process_plan(), compare.process_runner(), {}
+    plan, runner = compare.process().plan, compare.process().runner
+    seen: dict[str, int] = {}
     for place in places:
         case = draw_case(plan.kind, plan.seed, place)
         runner.put_files(case)
@@ -59,13 +69,14 @@ def try_cases(task):
     return seen
 
 
-def sharpness(plan, count, jobs):
+def sharpness(plan: compare.Plan, count: int, jobs: int) -> dict[str, int]:
     """Of each rule that is seen within so many cases the first place that saw it."""
     plan.folder = compare.folder_in_memory()
-    numbers = multiprocessing.Queue()
+    numbers: Queue[int] = multiprocessing.Queue()
     for number in range(jobs):
         numbers.put(number)
-    seen, at = {}, 0
+    seen: dict[str, int] = {}
+    at = 0
     try:
         with multiprocessing.Pool(jobs, compare.begin, (plan, numbers)) as pool:
             while at < count and len(seen) < len(RULES):
@@ -81,7 +92,8 @@ def sharpness(plan, count, jobs):
     return seen
 
 
-def report(seen, count):
+def report(seen: Mapping[str, int], count: int) -> str:
+    """A line for each rule, and the sum."""
     lines = []
     for name, _, _, _, sentence in RULES:
         place = f"seen by case {seen[name]}" if name in seen else f"not seen within {count} cases"

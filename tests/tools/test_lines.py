@@ -385,7 +385,7 @@ class Joining(unittest.TestCase):
         west, east, north = (
             ((-900.0, 0.0), (0.0, 0.0)),
             ((4.0, 0.0), (900.0, 90.0)),
-            ((0.0, 0.0), (9.0, 900.0)),
+            ((0.0, 0.0), (500.0, 800.0)),
         )
         found = joined([north, east, west], 10)
         self.assertEqual(sorted(map(len, found)), [2, 3])
@@ -434,6 +434,23 @@ class Words(setting.Folder):
             if "line_label" in one["properties"]
         }
         self.assertEqual(names, {features[0]["properties"]["name"]})
+
+    def test_names_carry_what_their_lines_share(self) -> None:
+        """`kind` and keys of classes of lines, with one value on all lines of the name; no more."""
+        rivers = LINE_CLASS.replace('"line"\n', '"line"\nkey = "use"\nvalue = "water"\n')
+        features = line_maps.rivers()[:4]
+        for one, kind in zip(features, ("river", "canal", "river", "river")):
+            one["properties"] |= {"kind": kind, "use": "water", "source": "drawn"}
+        mixed, plain = (features[k]["properties"]["name"] for k in (0, 2))
+        features[1]["properties"]["name"], features[3]["properties"]["name"] = mixed, plain
+        self.lines(features, line_maps.style(rivers), "--zooms", "5-9", "--spacing", "100")
+        made = [one["properties"] for one in self.out()[1]["features"]]
+        made = [one for one in made if "line_label" in one]
+        self.assertEqual({one["name"].strip("\u2009") for one in made}, {mixed, plain})
+        for one in made:
+            is_plain = one["name"].strip("\u2009") == plain
+            self.assertEqual(one.get("kind"), "river" if is_plain else None)
+            self.assertEqual((one["use"], one.get("source")), ("water", None))
 
     def test_priority_is_for_names_that_stay(self) -> None:
         """Names that end before the last zoom stand behind all classes in any case."""

@@ -85,6 +85,9 @@ class Make(setting.Folder):
         told = self.made(source, *words)
         self.assertEqual(self.commands(told), [*STEPS[:3], "lines", *STEPS[3:]])
         self.assertIn("layer points: 41 read, 40 taken, 1 without a name", told)
+        self.assertRegex(told, r"  \d+ are lines whose names are features of their own")
+        self.assertNotIn("NoClass", told)
+        self.assertNotIn("that no class takes", told)
         names = json.loads((self.at / "out" / "lines.geojson").read_text("utf-8"))["features"]
         kinds = {one["geometry"]["type"] for one in names}
         self.assertLessEqual({"Point", "LineString"}, kinds)

@@ -15,6 +15,7 @@ from maplabel_kit.server import Server
 from setting import point
 
 OGR = "ogr2ogr -f GeoJSON -t_srs EPSG:4326"
+WEB = setting.TOOLS.parent / "web"
 
 
 class OfMaps(setting.Folder):
@@ -222,19 +223,33 @@ class OfFeatures(setting.Folder):
 class OfOtherTools(setting.Folder):
     """The explanation and the file come from each tool."""
 
-    def test_bad_input_of_style_sides_and_lines(self) -> None:
+    def test_bad_input_of_each_tool(self) -> None:
         self.write([point("a", 950000, 47, name="A", place="city")])
         out = self.at / "o.toml", self.at / "o.geojson"
-        runs = {
-            "style": (self.map, setting.SERIF, "-o", out[0]),
-            "sides": (self.style, self.map, "-o", *out),
-        }
-        for tool, words in runs.items():
+        runs: tuple[tuple[str | Path, str, tuple[object, ...]], ...] = (
+            ("style", "style", (self.map, setting.SERIF, "-o", out[0])),
+            ("sides", "sides", (self.style, self.map, "-o", *out)),
+            ("lines", "lines", (self.style, self.map, "--zooms", "4-6", "-o", *out)),
+            (WEB / "export", "web/export", (self.style, self.map, out[1])),
+            (WEB / "export", "web/export", ("--site", self.at / "o", self.style, self.map)),
+            (WEB / "serve", "web/serve", (self.style, self.map)),
+        )
+        for tool, called, words in runs:
             status, _, said = setting.run(tool, *words)
             self.assertEqual(status, 1)
-            self.assertIn(f"{tool}: {self.map}: map refused: 6 OutOfRange 0", said)
+            self.assertIn(f"{called}: {self.map}: map refused: 6 OutOfRange 0", said)
             self.assertIn("its position 950000, 47 is beyond 200 degrees", said)
             self.assertIn("it looks like metres", said)
+
+    def test_web_project_on_metres(self) -> None:
+        """Web Mercator is made of degrees alone."""
+        out = self.at / "o.geojson"
+        for x, y in ((950000, 6000000), (950000, 47), (8, 120)):
+            self.write([point("a", x, y, name="A")])
+            status, _, said = setting.run(WEB / "project", self.map, out)
+            self.assertEqual((status, out.exists()), (1, False), (x, y))
+            self.assertIn(f"web/project: {self.map}: ", said)
+            self.assertIn("-t_srs EPSG:4326", said)
 
     def test_a_key_of_style_that_no_feature_has(self) -> None:
         self.write([point("a", 8, 47, name="A", place="city", pop=1)])

@@ -194,6 +194,18 @@ class Sides(setting.Folder):
                     found.append((one.id, other.id))
         return found
 
+    def test_names_tried_together_make_no_difference(self) -> None:
+        """With one, two and four servers the same files are written, of a map with many names that
+        are far from one another.
+        """
+        style = setting.STYLE.replace('key = "place"\nvalue = "city"\n', "")
+        self.write(towns.features_of(150, 5), style)
+        made = []
+        for jobs in (1, 2, 4):
+            self.placed("--jobs", jobs)
+            made.append([one.read_bytes() for one in self.out])
+        self.assertEqual(made[1:], made[:1] * 2)
+
     def test_it_looks_where_names_are_densest(self) -> None:
         # Thirty towns in two degrees about 8.5 E, 47 N, and one by one far away.
         here = [

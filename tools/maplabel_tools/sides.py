@@ -1,57 +1,32 @@
-"""Choosing a place for each name by edits to a server: try each, keep the one that leaves most
-names most room.
+"""Choosing a place for each name by edits to servers: try each, keep the one that leaves most names
+most room.
 
-What counts is the sum, over all names, of the binary logarithms of the scales where they end,
-between a least and a greatest scale: one more for each name that is shown for a zoom more. A reply
-to an edit names each label that it changes, so the sum after it is known without a further request.
+Some names that are far from one another are tried at the same time, each on a server of its own,
+and all servers are told which place was best. Which names are tried together depends on the map
+alone, and so does what is chosen.
 """
 
-import math
-from collections.abc import Mapping, Sequence
+from collections.abc import Iterator, Mapping, Sequence
+from concurrent.futures import ThreadPoolExecutor
 from dataclasses import dataclass
 from fractions import Fraction
 
 from maplabel_kit import geojson, labels
-from maplabel_kit.client import Reply, get, request
+from maplabel_kit.client import get
 from maplabel_kit.geojson import Feature
+from maplabel_kit.labels import Label
 from maplabel_kit.progress import Progress
 from maplabel_kit.server import Server
 from maplabel_kit.style import Style
 from maplabel_tools import sidestyle
 from maplabel_tools.sidestyle import Place
+from maplabel_tools.sidetries import Town, Tries
 
 # A map of so many towns is looked at whole.
 FEW = 2000
-
-
-@dataclass
-class Town:
-    """A feature with its text, the places that its name may have, and which of them it has.
-
-    `most` is the scale beyond which it is not shown while its place is chosen, and `cut` the one
-    from which on it is not shown because of a dot.
-    """
-
-    text: str
-    places: list[Place]
-    chosen: int = 0
-    most: Fraction | None = None
-    cut: Fraction | None = None
-
-    def put(self, place: int) -> bytes:
-        """The request that gives it a place."""
-        text = sidestyle.with_place(self.text, self.places[place].until(self.end()))
-        return request("PUT", "/feature", None, text)
-
-    def place(self) -> Place:
-        """The place that it has."""
-        return self.places[self.chosen].until(self.end())
-
-    def end(self) -> Fraction | None:
-        """The scale from which on it is not shown in any case, where there is one."""
-        ends = [one for one in (self.most, self.cut) if one is not None]
-        return min(ends, default=None)
-
+# So many names are tried at the same time, where they lie apart by so many times the reach of both;
+# they are looked for among the next so many.
+TOGETHER, APART, AHEAD = 4, 3, 16
 
 Towns = dict[str, Town]
 
@@ -65,71 +40,97 @@ class Pass:
     moved: int
 
 
-class Choice:
-    """Towns on a server, with the ends of all labels as the server has them."""
+@dataclass(frozen=True)
+class Spot:
+    """Where a name is, and how far it reaches there in any of its places, at twice its end."""
 
-    def __init__(self, server: Server, towns: Towns, least: Fraction, most: Fraction) -> None:
-        self._server, self._towns = server, towns
-        self._least, self._most = float(least), float(most)
-        found = labels.read_state(server.one(get("/state")).text())
-        self._order = [one.id for one in found if one.id in towns]
-        self._ends = {one.id: float(one.until) for one in found}
-        self._due: bytes | None = None
+    x: int
+    y: int
+    wide: float
+    high: float
+
+    def is_near(self, other: "Spot") -> bool:
+        """Whether two names may matter to one another."""
+        wide, high = APART * (self.wide + other.wide), APART * (self.high + other.high)
+        return abs(self.x - other.x) < wide and abs(self.y - other.y) < high
+
+
+class Choice:
+    """Towns on servers that have the same map."""
+
+    def __init__(
+        self, servers: Sequence[Server], towns: Towns, least: Fraction, most: Fraction
+    ) -> None:
+        self._towns = towns
+        found = labels.read_state(servers[0].one(get("/state")).text())
+        ends = {one.id: float(one.until) for one in found}
+        self._spots = {one.id: spot_of(one, towns[one.id]) for one in found if one.id in towns}
+        self._tries = [Tries(one, ends, float(least), float(most)) for one in servers]
         self._edits = 0
 
     def ends(self) -> dict[str, float]:
         """Where each label ends, by its feature's id."""
-        return self._ends
+        return self._tries[0].ends
 
     def run(self, least_end: Fraction) -> Pass:
         """One pass over the towns that end at a scale or further out, most important first."""
-        chosen = [one for one in self._order if self._ends[one] >= least_end]
-        before, moved = self._edits, 0
-        with Progress("places of names", len(chosen)) as progress:
-            for number, own in enumerate(chosen):
-                progress.at(number)
-                moved += self._place(own)
-        self._send([])
-        return Pass(len(chosen), self._edits - before, moved)
+        chosen = [one for one in self._spots if self.ends()[one] >= least_end]
+        done, moved = 0, 0
+        pool = ThreadPoolExecutor(len(self._tries))
+        try:
+            with Progress("places of names", len(chosen)) as progress:
+                for batch in self._batches(chosen):
+                    progress.at(done)
+                    moved += self._place([self._towns[one] for one in batch], pool)
+                    done += len(batch)
+        finally:  # where it is broken off, threads end with the servers that they wait for
+            pool.shutdown(wait=False, cancel_futures=True)
+        self._tries[0].gains([])
+        return Pass(len(chosen), self._edits, moved)
 
-    def _place(self, own: str) -> bool:
-        """Tries each place of a town, with the edit that is due before, and makes the best due."""
-        town = self._towns[own]
-        others = [place for place in range(len(town.places)) if place != town.chosen]
-        gains = [self._told(reply) for reply in self._send([town.put(one) for one in others])]
-        if not others:
-            return False
-        sums, total = {town.chosen: 0.0}, 0.0
-        for place, gain in zip(others, gains):
-            total += gain
-            sums[place] = total
-        best = max(sums, key=lambda place: (round(sums[place], 9), place == town.chosen, -place))
-        self._due = town.put(best) if best != others[-1] else None
-        is_moved, town.chosen = best != town.chosen, best
-        return is_moved
+    def _batches(self, chosen: Sequence[str]) -> Iterator[list[str]]:
+        """Towns that are far from one another, and from those before them that wait: of two that
+        are near the first in order comes first.
+        """
+        left = list(chosen)
+        while left:
+            batch, waiting = list[str](), list[str]()
+            for own in left[:AHEAD]:
+                spot = self._spots[own]
+                is_near = any(spot.is_near(self._spots[one]) for one in batch + waiting)
+                (waiting if is_near or len(batch) == TOGETHER else batch).append(own)
+            yield batch
+            left = waiting + left[AHEAD:]
 
-    def _send(self, requests: Sequence[bytes]) -> list[Reply]:
-        """The replies to requests, before which the edit that is due is sent and heard."""
-        due = [self._due] if self._due else []
-        replies = list(self._server.ask([*due, *requests]))
-        self._edits += len(replies)
-        if due:
-            self._told(replies.pop(0))
-            self._due = None
-        return replies
+    def _place(self, batch: Sequence[Town], pool: ThreadPoolExecutor) -> int:
+        """Tries the places of some towns, and has the best made on all servers; how many moved."""
+        count = len(self._tries)
+        shares = [batch[k::count] for k in range(count)]
+        gains = list(pool.map(Tries.gains, self._tries, shares))
+        moved = 0
+        for k, town in enumerate(batch):
+            others = town.others()
+            sums = dict(zip([town.chosen, *others], [0.0, *gains[k % count][k // count]]))
+            best = max(
+                sums, key=lambda place: (round(sums[place], 9), place == town.chosen, -place)
+            )
+            is_last = town is shares[k % count][-1]
+            for number, one in enumerate(self._tries):
+                is_tried = number == k % count and is_last and bool(others)
+                if best != (others[-1] if is_tried else town.chosen):
+                    one.due.append(town.put(best))
+            self._edits += len(others) + (bool(others) and best != others[-1])
+            moved += best != town.chosen
+            town.chosen = best
+        return moved
 
-    def _told(self, reply: Reply) -> float:
-        """By how much the sum grows with an edit, whose changes are taken over."""
-        gain = 0.0
-        for change in reply.json()["changes"]:
-            upper, lower = change["after"][1].split("/")
-            end, own = int(upper) / int(lower), change["id"]
-            gain += self._worth(end) - self._worth(self._ends[own])
-            self._ends[own] = end
-        return gain
 
-    def _worth(self, end: float) -> float:
-        return math.log2(min(max(end, self._least), self._most))
+def spot_of(label: Label, town: Town) -> Spot:
+    """Where the name of a town is."""
+    scale = 2 * float(label.until)
+    wide = max(2 * abs(place.dx) for place in town.places)
+    high = max(2 * abs(place.dy) for place in town.places)
+    return Spot(label.x, label.y, wide * scale, high * scale)
 
 
 def towns_of(features: Sequence[Feature], texts: Sequence[str], style: Style, gap: int) -> Towns:

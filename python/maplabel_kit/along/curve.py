@@ -45,14 +45,6 @@ def value_at(poly: Sequence[float], u: float) -> float:
     return value
 
 
-def slope_at(poly: Sequence[float], u: float) -> float:
-    """The slope of a polynomial."""
-    value = 0.0
-    for k in range(len(poly) - 1, 0, -1):
-        value = value * u + k * poly[k]
-    return value
-
-
 def fit(points: Sequence[Point], degree: int) -> tuple[list[float] | None, float]:
     """The polynomial of least squares, and its greatest distance from the points. u is scaled to -1
     to 1 meanwhile.
@@ -81,24 +73,32 @@ class Curve:
     cos: float = field(init=False)
     sin: float = field(init=False)
     is_straight: bool = field(init=False)
+    # The factors of the polynomial and of its slope, whose greatest power stands first.
+    factors: list[float] = field(init=False)
+    slopes: list[float] = field(init=False)
 
     def __post_init__(self) -> None:
         self.cos, self.sin = math.cos(self.angle), math.sin(self.angle)
         self.is_straight = len(self.poly) <= 2
-
-    def _kept(self, u: float) -> float:
-        return min(max(u, -self.reach), self.reach)
+        self.factors = self.poly[::-1]
+        self.slopes = [k * self.poly[k] for k in range(len(self.poly) - 1, 0, -1)]
 
     def slope(self, u: float) -> float:
         """The slope in the turned frame."""
-        return slope_at(self.poly, self._kept(u))
+        end = self.reach if u > self.reach else -self.reach if u < -self.reach else u
+        value = 0.0
+        for factor in self.slopes:
+            value = value * end + factor
+        return value
 
     def place(self, u: float) -> Point:
         """The point of the curve."""
-        end = self._kept(u)
-        w = value_at(self.poly, end)
+        end = self.reach if u > self.reach else -self.reach if u < -self.reach else u
+        w = 0.0
+        for factor in self.factors:
+            w = w * end + factor
         if u != end:
-            w += (u - end) * self.slope(u)
+            w += (u - end) * self.slope(end)
         return (
             self.origin[0] + u * self.cos - w * self.sin,
             self.origin[1] + u * self.sin + w * self.cos,
@@ -109,9 +109,10 @@ class Curve:
         if self.is_straight:
             return u + length / math.hypot(1, self.slope(0.0))
         count = max(1, math.ceil(abs(length) / STEP))
+        part = length / count
         for _ in range(count):
-            middle = u + length / count / 2 / math.hypot(1, self.slope(u))
-            u += length / count / math.hypot(1, self.slope(middle))
+            middle = u + part / 2 / math.hypot(1, self.slope(u))
+            u += part / math.hypot(1, self.slope(middle))
         return u
 
     def at_x(self, x: float) -> float:

@@ -17,7 +17,6 @@ RISE = 0.29
 LEAST, LEAST_WHOLE = 0.7, 0.4
 # Degrees by which a drawn letter may be turned against the one before it.
 MOST_TURN = 15.0
-CLOSE = 1e-9
 # The properties of a feature that tell the height of its letters and the pixels between them, and
 # what holds without.
 HEIGHT, SPACING = "line_height", "line_spacing"
@@ -100,14 +99,16 @@ def places_of(
     """The pen's place and angle for each letter, all together about the curve's middle."""
     total = sum(letter.wide for letter in letters) * height + spacing * (len(letters) - 1)
     u, found = curve.step(middle, -total / 2), []
+    ax, ay = curve.place(u)
     for letter in letters:
         after = curve.step(u, letter.wide * height)
-        (ax, ay), (bx, by) = curve.place(u), curve.place(after)
+        bx, by = curve.place(after)
         angle = math.atan2(by - ay, bx - ax) if after > u else curve.angle
         found.append(
             (ax + RISE * height * math.sin(angle), ay - RISE * height * math.cos(angle), angle)
         )
         u = curve.step(after, spacing) if spacing else after
+        ax, ay = curve.place(u) if spacing else (bx, by)
     return found
 
 
@@ -143,7 +144,7 @@ def lay_letters(
         if most_turn(letters, places) > MOST_TURN:
             return None
         inks = (corners(one.ink, place, height) for one, place in zip(letters, places) if one.ink)
-        if all(room.lack(ink) <= CLOSE for ink in inks):
+        if all(map(room.has, inks)):
             return height, places
     return None
 

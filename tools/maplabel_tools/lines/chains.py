@@ -107,6 +107,7 @@ class Wanted:
         self.curve, self.is_upright, self.rise = curve, is_upright, rise
         self.inks: Floats = np.array(inks, dtype=np.float64).reshape(-1, 4, 2)
         self.left, self.right = self.inks[:, :, 0].min(axis=1), self.inks[:, :, 0].max(axis=1)
+        self.sides = sides_of(self.inks)
         middle = -rise if is_upright else 0.0
         reach = max(abs(float(self.left.min()) - middle), abs(float(self.right.max()) - middle))
         # How wide boxes are together that hold all ink, the same on both sides of the middle.
@@ -132,9 +133,9 @@ class Wanted:
         if not len(number):
             return 0.0
         near = boxes[number]
-        low, high = clipped_all(self.inks[ink], near[:, 0], near[:, 2])
+        low, high = clipped_all(self.sides[:, ink], near[:, 0::2])
         middles = (near[:, 1] + near[:, 3]) // 2
-        return float(2 * np.nanmax(np.maximum(middles - low, high - middles)) + 0.5)
+        return float(2 * np.fmax.reduce(np.maximum(middles - low, high - middles)) + 0.5)
 
 
 def sampled(curve: Curve, width: float) -> tuple[Floats, Floats]:
@@ -158,18 +159,25 @@ def curve_spare(curve: Curve) -> float:
     return 0.0 if curve.is_straight else 3 * curve.reach
 
 
-def clipped_all(shapes: Floats, low: Floats, high: Floats) -> tuple[Floats, Floats]:
-    """The least and the greatest y of convex shapes between two x each; not a number where a shape
-    is not there.
+def sides_of(shapes: Floats) -> Floats:
+    """The sides of shapes: of each shape the x and y where its sides begin, the x where they end,
+    and how far they go.
     """
-    x, y = shapes[:, :, 0], shapes[:, :, 1]
-    after_x, after_y = x[:, NEXT_CORNER], y[:, NEXT_CORNER]
-    parts = [np.where((low[:, None] <= x) & (x <= high[:, None]), y, np.nan)]
-    for side in (low[:, None], high[:, None]):
-        is_cut = (x - side) * (after_x - side) < 0
-        across = np.where(is_cut, after_x - x, 1.0)
-        parts.append(np.where(is_cut, y + (after_y - y) * (side - x) / across, np.nan))
-    values = np.concatenate(parts, axis=1)
+    steps = shapes[:, NEXT_CORNER] - shapes
+    steps[:, :, 0] = np.where(steps[:, :, 0] == 0, 1.0, steps[:, :, 0])
+    begin, after = (shapes[:, :, 0], shapes[:, :, 1]), shapes[:, NEXT_CORNER, 0]
+    return np.stack([*begin, after, steps[:, :, 0], steps[:, :, 1]])
+
+
+def clipped_all(sides: Floats, between: Floats) -> tuple[Floats, Floats]:
+    """The least and the greatest y of convex shapes, told by their sides, between two x each; not a
+    number where a shape is not there.
+    """
+    x, y, after_x, dx, dy = sides[:, :, None]
+    before, after = x - between[:, :, None], after_x - between[:, :, None]
+    is_within = (before[:, 0] >= 0) & (before[:, 1] <= 0)
+    cut = np.where(before * after < 0, y - dy * before / dx, np.nan)
+    values = np.concatenate([cut[:, 0], cut[:, 1], np.where(is_within, y[:, 0], np.nan)], axis=1)
     return np.fmin.reduce(values, axis=1), np.fmax.reduce(values, axis=1)
 
 

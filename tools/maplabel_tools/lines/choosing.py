@@ -85,11 +85,11 @@ class Chooser:
     def _fitted(self, label: Label, track: Track, level: int) -> Label | None:
         """A label at the place of another one, fitted at another scale."""
         ask = label.name.ask(self.wish.is_beside())
-        fit = fits(track, track.indices(np.array([label.t])), ask).one(0)
-        if fit is None or label.is_narrow():
+        found = fits(track, track.indices(np.array([label.t])), ask)
+        if not len(found.rows) or label.is_narrow():
             return None
         how = replace(label.how, scope=Scope.WHOLE)
-        return self._label(label.path, label.t, fit, how, level)
+        return self._label(label.path, label.t, found.one(0), how, level)
 
     def _label(self, path: Path, t: float, fit: Fit, how: How, level: int) -> Label | None:
         """A label at a place, where its letters have room."""

@@ -62,32 +62,37 @@ class Ask:
 
 
 class Windows:
-    """The line about each of some points, turned so that a name would run from left to right: u
-    along, w upwards.
+    """The line about those of some points that have enough of it on both sides, turned so that a
+    name would run from left to right: u along, w upwards. `rows` tells which points these are.
     """
 
     def __init__(self, track: Track, places: Whole, ask: Ask) -> None:
         half = ask.length / 2 + 1
         arcs = track.arc[places]
-        self.is_whole = (arcs - half >= 0) & (arcs + half <= track.arc[-1])
+        self.rows: Whole = np.flatnonzero((arcs - half >= 0) & (arcs + half <= track.arc[-1]))
         count = max(5, math.ceil(half) + 1)
-        at = arcs[:, None] + np.linspace(-half, half, count)[None, :]
-        origin_x, origin_y = track.x[places][:, None], track.y[places][:, None]
+        apart = np.arange(count) * (2 * half / (count - 1)) - half
+        apart[-1] = half
+        at = arcs[self.rows, None] + apart[None, :]
+        own = places[self.rows]
+        origin_x, origin_y = track.x[own, None], track.y[own, None]
         smooth_x = np.interp(at, track.arc, track.smooth_x) - origin_x
         smooth_y = np.interp(at, track.arc, track.smooth_y) - origin_y
-        raw_x, raw_y = (
-            np.interp(at, track.arc, track.x) - origin_x,
-            np.interp(at, track.arc, track.y) - origin_y,
-        )
         dx, dy = smooth_x[:, -1] - smooth_x[:, 0], smooth_y[:, -1] - smooth_y[:, 0]
-        self.is_whole &= np.hypot(dx, dy) >= LEAST_CHORD * 2 * half
+        is_long = np.hypot(dx, dy) >= LEAST_CHORD * 2 * half
+        self.rows, at, dx, dy = self.rows[is_long], at[is_long], dx[is_long], dy[is_long]
         sign = np.where((dx < 0) | ((dx == 0) & (dy < 0)), -1.0, 1.0)
         angle = np.arctan2(dy * sign, dx * sign)
-        self.is_upright = np.abs(angle) > math.radians(UPRIGHT)
+        self.is_upright: Truths = np.abs(angle) > math.radians(UPRIGHT)
         self.angle: Floats = np.where(self.is_upright, math.pi / 2, angle)
-        cos, sin = np.cos(self.angle)[:, None], np.sin(self.angle)[:, None]
-        self.u, self.w = smooth_x * cos + smooth_y * sin, smooth_y * cos - smooth_x * sin
-        self.raw_u, self.raw_w = raw_x * cos + raw_y * sin, raw_y * cos - raw_x * sin
+        self._cos, self._sin = np.cos(self.angle)[:, None], np.sin(self.angle)[:, None]
+        self.u, self.w = self._turned(smooth_x[is_long], smooth_y[is_long])
+        raw_x = np.interp(at, track.arc, track.x) - origin_x[is_long]
+        raw_y = np.interp(at, track.arc, track.y) - origin_y[is_long]
+        self.raw_u, self.raw_w = self._turned(raw_x, raw_y)
+
+    def _turned(self, x: Floats, y: Floats) -> tuple[Floats, Floats]:
+        return x * self._cos + y * self._sin, y * self._cos - x * self._sin
 
 
 def powers(u: Floats, degree: int) -> Floats:
@@ -117,10 +122,12 @@ def least_squares(u: Floats, w: Floats, degree: int) -> Floats:
 
 @dataclass
 class Fits:
-    """Fits about many points of a track; those that are not good are not to be used."""
+    """Fits about some of many points of a track: those that are good. `rows` tells which of the
+    points these are.
+    """
 
     places: Whole
-    is_good: Truths
+    rows: Whole
     angle: Floats
     is_upright: Truths
     poly: Floats
@@ -130,26 +137,8 @@ class Fits:
     below: Floats
     cost: Floats
 
-    def good(self) -> "Fits":
-        """The good ones alone."""
-        at = self.is_good
-        return Fits(
-            self.places[at],
-            self.is_good[at],
-            self.angle[at],
-            self.is_upright[at],
-            self.poly[at],
-            self.degree[at],
-            self.reach[at],
-            self.above[at],
-            self.below[at],
-            self.cost[at],
-        )
-
-    def one(self, k: int) -> Fit | None:
-        """The fit about one of the points, none where it is not good."""
-        if not self.is_good[k]:
-            return None
+    def one(self, k: int) -> Fit:
+        """One of the fits."""
         degree = int(self.degree[k])
         poly = tuple(float(factor) for factor in self.poly[k, : degree + 1])
         return Fit(
@@ -165,12 +154,16 @@ class Fits:
 
 
 def fits(track: Track, places: Whole, ask: Ask) -> Fits:
-    """How well a name lies about each of the points of a track."""
+    """How a name lies about those of the points of a track where it lies well."""
     seen = Windows(track, places, ask)
+    if not len(seen.rows):
+        empty = np.zeros(0)
+        none = seen.rows
+        return Fits(none, none, empty, none > 0, empty, none, empty, empty, empty, empty)
     poly, degree, off = _curves(seen, ask)
     over = seen.raw_w - values(poly, seen.raw_u)
     above, below = np.maximum(0.0, over.max(axis=1)), np.maximum(0.0, -over.min(axis=1))
-    is_good = seen.is_whole & (off <= MOST_OFF)
+    is_good = off <= MOST_OFF
     if ask.is_beside:
         is_good &= (above <= MOST_BUMP) & (below <= MOST_HOLLOW)
     is_good &= ~seen.is_upright | (np.abs(seen.raw_w).max(axis=1) <= MOST_OFF + 1)
@@ -185,9 +178,9 @@ def fits(track: Track, places: Whole, ask: Ask) -> Fits:
         + 0.3 * (degree > 1)
     )
     reach = np.abs(seen.u).max(axis=1)
-    return Fits(
-        places, is_good, seen.angle, seen.is_upright, poly, degree, reach, above, below, cost
-    )
+    rows = seen.rows[is_good]
+    found = (seen.angle, seen.is_upright, poly, degree, reach, above, below, cost)
+    return Fits(places[rows], rows, *(one[is_good] for one in found))
 
 
 def _curves(seen: Windows, ask: Ask) -> tuple[Floats, Whole, Floats]:

@@ -7,7 +7,7 @@ import numpy as np
 
 from maplabel_kit.along import Point, curve_of, places_of
 from maplabel_tools.lines.chains import Chain, Name
-from maplabel_tools.lines.fits import MOST_BUMP, MOST_OFF, Fit, values
+from maplabel_tools.lines.fits import MOST_BUMP, MOST_OFF, Fit
 from maplabel_tools.lines.taken import Scope
 from maplabel_tools.lines.tracks import STEP, Path, Track
 from maplabel_tools.lines.wish import Wish
@@ -85,15 +85,16 @@ class Label:
         """Whether the line keeps near the curve on one side of the anchor, until it is beyond the
         name's end.
         """
-        places = at + way * np.arange(1, count + 1)
-        places = places[(places >= 0) & (places < track.count())]
-        x, y = track.x[places] - track.x[at], track.y[places] - track.y[at]
+        part = slice(at + 1, at + count + 1) if way > 0 else slice(max(at - count, 0), at)
+        x, y = track.x[part][::way] - track.x[at], track.y[part][::way] - track.y[at]
         cos, sin = math.cos(self.fit.angle), math.sin(self.fit.angle)
         u, w = x * cos + y * sin, y * cos - x * sin
         beyond = np.flatnonzero(np.abs(u) > half)
         if not len(beyond):
             return False
         near = u[: beyond[0]]
-        poly = np.array([[*self.fit.poly, 0.0, 0.0, 0.0]])
-        off = w[: beyond[0]] - values(poly, near[None, :])[0]
+        curve = np.zeros(len(near))
+        for factor in reversed(self.fit.poly):
+            curve = curve * near + factor
+        off = w[: beyond[0]] - curve
         return bool(((low <= off) & (off <= high)).all())

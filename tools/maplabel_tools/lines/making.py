@@ -2,10 +2,11 @@
 
 import tomllib
 from collections import defaultdict
-from collections.abc import Iterator, Sequence
+from collections.abc import Iterator, Mapping, Sequence
 from dataclasses import dataclass, field
 from fractions import Fraction
 from pathlib import Path as File
+from typing import Any
 
 from maplabel_kit import files, geojson, program
 from maplabel_kit.along import MADE, Face
@@ -26,6 +27,8 @@ from maplabel_tools.lines.written import Made
 
 UNITS_OF_DEGREE = 10_000_000
 DEFAULT_HEIGHT = 12
+# The property by which pages tell kinds of features apart, as rivers and streets.
+KIND = "kind"
 MOST_FEATURES = 32768
 # After so many askings the places that are still shown in several ranges are left out whole.
 MOST_ASKINGS = 8
@@ -41,6 +44,21 @@ class Base:
     texts: list[str]
     features: list[geojson.Feature]
     shown: list[Shown]
+
+
+@dataclass
+class Named:
+    """The lines of one name and height of letters, and the properties that they have in common."""
+
+    lines: list[Line]
+    shared: dict[str, Any]
+
+    def add(self, lines: Sequence[Line], properties: Mapping[str, Any]) -> None:
+        """Adds lines of the same name."""
+        self.lines += lines
+        self.shared = {
+            key: value for key, value in self.shared.items() if properties.get(key) == value
+        }
 
 
 @dataclass
@@ -77,18 +95,23 @@ def read(engine: File, style: str, map_file: str) -> Base:
     return Base(text, *trees, texts, features, read_state(state.text()))
 
 
-def named_lines(base: Base, height: int | None) -> dict[tuple[str, int], list[Line]]:
+def named_lines(base: Base, height: int | None) -> dict[tuple[str, int], Named]:
     """The lines of each name and height of letters: of those that a class of lines takes, where the
-    style has such classes, else of all.
+    style has such classes, else of all. Names carry `kind` and the keys of these classes, where
+    their lines have one value.
     """
-    groups: dict[tuple[str, int], list[Line]] = defaultdict(list)
+    groups: dict[tuple[str, int], Named] = {}
     has_classes = any(one.kind == "line" for one in base.given.classes)
+    carried = {KIND, *(one.key for one in base.given.classes if one.kind == "line")}
     for feature in base.features:
         name, kind = feature.name(base.style.name), base.given.class_of(feature)
         if feature.kind != "line" or name is None or (has_classes and kind is None):
             continue
         size = height or (kind.size if kind else DEFAULT_HEIGHT)
-        groups[geojson.shown(name).strip(), size] += lines_of(feature)
+        told = {key: value for key, value in feature.properties.items() if key in carried}
+        groups.setdefault((geojson.shown(name).strip(), size), Named([], told)).add(
+            lines_of(feature), told
+        )
     return dict(sorted(groups.items()))
 
 
@@ -117,9 +140,9 @@ def made_features(
     made: list[Made] = []
     missed: list[str] = []
     with Progress("names along lines", len(groups)) as progress:
-        for count, ((text, size), lines) in enumerate(groups.items()):
+        for count, ((text, size), named) in enumerate(groups.items()):
             progress.at(count)
-            found = list(_made_of(text, size, lines, base, face, rooms, wish, numbers, ids))
+            found = list(_made_of(text, size, named, base, face, rooms, wish, numbers, ids))
             made += found
             missed += [] if found else [text]
     return made, missed
@@ -128,7 +151,7 @@ def made_features(
 def _made_of(
     text: str,
     size: int,
-    lines: Sequence[Line],
+    named: Named,
     base: Base,
     face: Face,
     rooms: Sequence[LevelRoom],
@@ -137,7 +160,7 @@ def _made_of(
     ids: set[str],
 ) -> Iterator[Made]:
     """The features of one name."""
-    paths = [Path(line) for line in joined(lines, wish.snap)]
+    paths = [Path(line) for line in joined(named.lines, wish.snap)]
     spaced = [Name(text, face, size, wish.tracking)] if wish.tracking else []
     names = [*spaced, Name(text, face, size)]
     if not names[-1].has_ink():
@@ -149,7 +172,7 @@ def _made_of(
             numbers[text] += 1
             own = f"{text}~{numbers[text]}"
         ids.add(own)
-        yield written.feature_of(label, own, keys, wish)
+        yield written.feature_of(label, own, keys, wish, named.shared)
 
 
 def make(

@@ -18,6 +18,9 @@ DOT = 2.5
 LAND = "#f5f4ef"
 TEXTS = "font-kerning:none;paint-order:stroke;stroke-width:3px;stroke-linejoin:round"
 LINE_COLOURS = {"river": "#8fb4d3", "street": "#c9c3b8"}
+# Of names along lines: streets are written as on printed maps, all others as rivers.
+NAME_COLOURS = {"street": "#3d3a34"}
+NAME_COLOUR = "#1f5f96"
 Place = tuple[float, float]
 
 
@@ -124,11 +127,13 @@ def along(
 ) -> Iterator[str]:
     """A name of several boxes: turned along their curve, or upright in them."""
     size = label["boxes"][0][3] - label["boxes"][0][1]
-    height, spacing = wanted(feature.properties if feature else {}, size)
+    properties = feature.properties if feature else {}
+    height, spacing = wanted(properties, size)
     found = (
         lay(label["text"], label["boxes"], looks.face, height, spacing) if looks.is_turned else None
     )
-    style = 'fill="#1f5f96" stroke="#ffffff" stroke-opacity="0.8"'
+    colour = NAME_COLOURS.get(str(properties.get("kind")), NAME_COLOUR)
+    style = f'fill="{colour}" stroke="#ffffff" stroke-opacity="0.8"'
     if found is None:
         for part, (left, bottom, right, top) in zip(clusters(label["text"]), label["boxes"]):
             place = f'x="{x + (left + right) / 2}" y="{y - bottom - round(BASE * (top - bottom))}"'

@@ -59,9 +59,8 @@ class Pool:
         for k in self.order:
             if self.is_open[k]:
                 part, row = self.numbers[k]
-                fit = part.fits.one(row)
-                if fit:
-                    yield part.track.path, float(part.track.ts[part.fits.places[row]]), fit
+                t = float(part.track.ts[part.fits.places[row]])
+                yield part.track.path, t, part.fits.one(row)
 
 
 def _all(parts: Iterable[Floats]) -> Floats:
@@ -91,9 +90,11 @@ def pool_of(
 
 def _part(track: Track, ahead: Track | None, places: Whole, ask: Ask) -> Part:
     """The good ones of some points of a track; how good they are one zoom further in counts too."""
-    here = fits(track, places, ask).good()
+    here = fits(track, places, ask)
     cost = here.cost
     if ahead is not None and len(cost):
         there = fits(ahead, ahead.indices(track.ts[here.places]), ask)
-        cost = cost + AHEAD * np.where(there.is_good, there.cost, AHEAD_BAD)
+        further = np.full(len(cost), AHEAD_BAD)
+        further[there.rows] = there.cost
+        cost = cost + AHEAD * further
     return Part(track, here, cost)

@@ -40,9 +40,9 @@ class Track:
         self.x: Floats = np.interp(self.ts, path.lengths, path.x) / scale
         self.y: Floats = np.interp(self.ts, path.lengths, path.y) / scale
         reach = max(1, round(height / 2 / STEP))
-        self.smooth_x, self.smooth_y = (
-            averaged(averaged(part, reach), reach) for part in (self.x, self.y)
-        )
+        both = averaged(averaged(np.stack([self.x, self.y]), reach), reach)
+        self.smooth_x: Floats = both[0]
+        self.smooth_y: Floats = both[1]
         steps = np.hypot(np.diff(self.smooth_x), np.diff(self.smooth_y))
         self.arc: Floats = np.concatenate(([0.0], np.cumsum(steps)))
 
@@ -62,10 +62,12 @@ class Track:
 
 
 def averaged(values: Floats, reach: int) -> Floats:
-    """The mean of so many neighbours on either side, fewer near the ends."""
-    count = len(values)
-    sums = np.concatenate(([0.0], np.cumsum(values - values[0])))
+    """The mean of so many neighbours on either side, fewer near the ends, in each of some rows."""
+    rows, count = values.shape
+    begin = values[:, :1]
+    sums = np.zeros((rows, count + 1))
+    np.cumsum(values - begin, axis=1, out=sums[:, 1:])
     places = np.arange(count)
     near = np.minimum(reach, np.minimum(places, count - 1 - places))
-    found: Floats = (sums[places + near + 1] - sums[places - near]) / (2 * near + 1) + values[0]
+    found: Floats = (sums[:, places + near + 1] - sums[:, places - near]) / (2 * near + 1) + begin
     return found

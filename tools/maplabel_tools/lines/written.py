@@ -2,7 +2,7 @@
 
 import re
 import tomllib
-from collections.abc import Iterable, Sequence
+from collections.abc import Iterable, Mapping, Sequence
 from dataclasses import dataclass
 from fractions import Fraction
 from typing import Any
@@ -57,8 +57,12 @@ class Made:
     text: str
 
 
-def feature_of(label: Label, own: str, keys: tuple[str, str], wish: Wish) -> Made:
-    """The feature of a label, under the keys of name and rank."""
+def feature_of(
+    label: Label, own: str, keys: tuple[str, str], wish: Wish, shared: Mapping[str, Any]
+) -> Made:
+    """The feature of a label, under the keys of name and rank; behind its own properties stand
+    those that its lines share.
+    """
     rank = round(100 * (label.last - label.first + 1) - 20 * min(label.fit.cost, 4))
     properties: dict[str, Any] = {
         keys[0]: label.chain.text,
@@ -68,6 +72,7 @@ def feature_of(label: Label, own: str, keys: tuple[str, str], wish: Wish) -> Mad
     }
     if label.name.tracking:
         properties[SPACING] = label.name.tracking
+    properties = {**properties, **{key: shared[key] for key in shared if key not in properties}}
     coordinates = [
         [geojson.Number(_degrees(x)), geojson.Number(_degrees(y))] for x, y in line_of(label)
     ]
@@ -182,21 +187,21 @@ def style_text(
         lines += class_lines(kind, wish, priorities)
     for font in fonts:
         lines += font_lines(font, face, characters)
-    text = base.rstrip("\n") + "\n" + "\n".join(lines) + "\n"
-    _must_add(tree, text, len(kinds))
-    return text
+    _must_add(tree, base, lines)
+    return base.rstrip("\n") + "\n" + "\n".join(lines) + "\n"
 
 
-def _must_add(tree: dict[str, Any], text: str, count: int) -> None:
+def _must_add(tree: dict[str, Any], base: str, lines: Sequence[str]) -> None:
     """A style whose classes or fonts are written in one line cannot be added to."""
+    heads = [line for line in lines if line.startswith("[")]
     try:
-        found = len(tomllib.loads(text).get("class", []))
+        found = len(tomllib.loads("\n".join([base, *heads])).get("class", []))
     except tomllib.TOMLDecodeError as error:
         raise Fault(
             f"no classes can be added to the style ({error}); write its classes as [[class]] "
             "and its fonts as [fonts.NAME]"
         ) from None
-    if found != len(tree.get("class", [])) + count:
+    if found != len(tree.get("class", [])) + heads.count("[[class]]"):
         raise Fault("no classes can be added to the style; write its classes as tables [[class]]")
 
 

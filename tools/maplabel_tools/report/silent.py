@@ -6,6 +6,7 @@ from dataclasses import dataclass
 from typing import Any
 
 from maplabel_kit import geojson, style_keys
+from maplabel_kit.along import MADE
 from maplabel_kit.geojson import Feature, Number
 from maplabel_kit.style import Class, Style
 from maplabel_kit.told import listed, near, some
@@ -88,10 +89,16 @@ def _called(one: Class) -> str:
 def _values(features: Sequence[Feature], style: Style) -> list[str]:
     """Values of classes that no feature has, and other classes that take nothing."""
     found = []
+    values: dict[tuple[str | None, str], Counter[str]] = defaultdict(Counter)
+    for key in {one.key for one in style.classes if one.key is not None}:
+        for feature in features:
+            if (text := feature.text(key)) is not None:
+                values[feature.kind, key][text] += 1
     for one in style.classes:
-        of_kind = [feature for feature in features if feature.kind == one.kind]
-        have = Counter(text for feature in of_kind if (text := feature.text(one.key)) is not None)
-        if one.key is None or one.value is None or one.value in have or not have:
+        if one.key is None or one.value is None:
+            continue
+        have = values[one.kind, one.key]
+        if one.value in have or not have:
             continue
         found.append(
             f"{_called(one)} takes no feature: no {one.kind} has {one.key}={one.value}"
@@ -120,10 +127,13 @@ def _empty_classes(features: Sequence[Feature], style: Style) -> list[str]:
 
 
 def _without_class(features: Sequence[Feature], style: Style) -> list[str]:
-    """Features that no class takes, with the values that come nearest."""
+    """Features that no class takes, with the values that come nearest. Lines are meant to have none
+    where tools/lines has laid their names.
+    """
+    has_laid = any(one.key == MADE for one in style.classes)
     lost: dict[str, list[Feature]] = defaultdict(list)
     for one in features:
-        if one.kind and style.class_of(one) is None:
+        if one.kind and style.class_of(one) is None and not (has_laid and one.kind == "line"):
             lost[one.kind].append(one)
     found = []
     for kind, bare in sorted(lost.items()):
