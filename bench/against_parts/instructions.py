@@ -6,11 +6,13 @@ import random
 import re
 import shutil
 import subprocess
-import tempfile
+from collections.abc import Sequence
 from pathlib import Path
 
 from against_parts import asked, maps
-from against_parts.runs import Refused
+from against_parts.runs import Program
+from maplabel_kit import files
+from maplabel_kit.faults import Fault
 
 SIZES = (1_000, 10_000, 32_768)
 REQUESTS = 20
@@ -18,20 +20,14 @@ HEAD = """| One request, thousands of instructions | {} |
 |---|{}"""
 
 
-def instructions(program, words, put, folder):
+def instructions(program: Program, words: Sequence[str], put: bytes, folder: Path) -> int:
     """How many instructions a run over standard input takes."""
     source = folder / "in"
     source.write_bytes(put)
-    command = [
-        "valgrind",
-        "--tool=callgrind",
-        "--callgrind-out-file=/dev/null",
-        program.path,
-        *words,
-    ]
+    tool = ["valgrind", "--tool=callgrind", "--callgrind-out-file=/dev/null"]
     with source.open("rb") as file:
         ran = subprocess.run(
-            command,
+            [*tool, program.path, *words],
             stdin=file,
             stdout=subprocess.DEVNULL,
             stderr=subprocess.PIPE,
@@ -40,11 +36,11 @@ def instructions(program, words, put, folder):
         )
     found = re.search(rb"Collected : (\d+)", ran.stderr)
     if ran.returncode != 0 or not found:
-        raise Refused(f"{program.path} {words[0]} under callgrind ended with {ran.returncode}")
+        raise Fault(f"{program.path} {words[0]} under callgrind ended with {ran.returncode}")
     return int(found[1])
 
 
-def asked_of(features, seed):
+def asked_of(features: Sequence[maps.Feature], seed: int) -> dict[str, bytes]:
     """What each kind of request asks, so many times over."""
     draw = random.Random(seed)
     some = draw.choices(features, k=REQUESTS)
@@ -63,21 +59,19 @@ def asked_of(features, seed):
     }
 
 
-def count(programs, seed):
+def count(programs: Sequence[Program], sizes: Sequence[int], seed: int) -> None:
     """Prints a table of what one request of each kind comes to on small and on large maps."""
     if shutil.which("valgrind") is None:
-        raise Refused("--count wants valgrind (Debian: valgrind)")
-    columns = [f"{size} points: {name}" for size in SIZES for name in ("the program", "OTHER")]
+        raise Fault("--count wants valgrind (Debian: valgrind)")
+    columns = [f"{size} points: {name}" for size in sizes for name in ("the program", "OTHER")]
     print(HEAD.format(" | ".join(columns), "---|" * len(columns)), flush=True)
-    rows = {}
-    with tempfile.TemporaryDirectory(prefix="against-") as name:
-        folder = Path(name)
-        for size in SIZES:
+    rows: dict[str, list[str]] = {}
+    with files.folder() as folder:
+        for size in sizes:
             features = maps.points(random.Random(f"{seed} points {size}"), size)
-            files = folder / "map.toml", folder / "map.geojson"
-            files[0].write_text(maps.OF_GROUPS)
-            files[1].write_text(maps.collection(features))
-            words = ("pipe", *map(str, files))
+            style, labels = folder / "map.toml", folder / "map.geojson"
+            files.write_whole({style: maps.OF_GROUPS, labels: maps.collection(features)})
+            words = ("pipe", str(style), str(labels))
             for program in programs[:2]:
                 load = instructions(program, words, b"", folder)
                 for what, put in asked_of(features, seed).items():
@@ -85,4 +79,3 @@ def count(programs, seed):
                     rows.setdefault(what, []).append(f"{each:.0f}")
     for what, cells in rows.items():
         print(f"| {what} | {' | '.join(cells)} |")
-    return True

@@ -1,6 +1,8 @@
 """Maps with their styles, and tables of labels."""
 
 import json
+from collections.abc import Iterable, Iterator
+from random import Random
 from typing import NamedTuple
 
 DEGREE = 10_000_000  # world units
@@ -16,7 +18,7 @@ advances = { "i" = 250, "\\u0301" = 0 }
 """
 
 
-def style(*classes):
+def style(*classes: dict[str, object]) -> str:
     """A style of these classes, of which the first comes first. Their names may be shown from the
     scale 0 on.
     """
@@ -53,7 +55,9 @@ class Feature(NamedTuple):
     text: str
 
 
-def feature(ident, kind, positions, **properties):
+def feature(
+    ident: str, kind: str, positions: list[tuple[int, int]], **properties: object
+) -> Feature:
     """The feature of one position, of a line of several, or of an area within a ring."""
     texts = [f"[{x / DEGREE:.7f},{y / DEGREE:.7f}]" for x, y in positions]
     inner = ",".join(texts)
@@ -67,7 +71,7 @@ def feature(ident, kind, positions, **properties):
     )
 
 
-def group(number, x, y):
+def group(number: int, x: int, y: int) -> Iterator[Feature]:
     """A group at a place: three towns in a row, the first of which has no room for the others, a
     river and an area.
     """
@@ -83,7 +87,7 @@ def group(number, x, y):
     yield feature(at + "p", "Polygon", ring, name="area")
 
 
-def groups(count, seed):
+def groups(count: int, seed: int) -> Iterator[Feature]:
     """The map that `gen` makes of so many groups: in 80 columns, a degree apart, each moved by a
     number of its own.
     """
@@ -98,13 +102,13 @@ def groups(count, seed):
         )
 
 
-def point(draw, ident, x, y, **more):
+def point(draw: Random, ident: str, x: int, y: int, **more: object) -> Feature:
     """A point with a name of 3 to 14 letters and a rank."""
     name = "".join(draw.choices(LETTERS, k=draw.randint(3, 14)))
     return feature(ident, "Point", [(x, y)], name=name, **more, pop=draw.randint(1, 1_000_000))
 
 
-def points(draw, count):
+def points(draw: Random, count: int) -> list[Feature]:
     """Cities anywhere in the world, but for the poles."""
     east, north = 180 * DEGREE, 85 * DEGREE
     return [
@@ -115,7 +119,7 @@ def points(draw, count):
     ]
 
 
-def towns(draw, count):
+def towns(draw: Random, count: int) -> list[Feature]:
     """Points in 60 clumps over 20 by 20 degrees, some of them narrow and some wide."""
     reach = 10 * DEGREE
     clumps = [
@@ -131,14 +135,14 @@ def towns(draw, count):
     return made
 
 
-def collection(features):
+def collection(features: Iterable[Feature]) -> str:
     """The text of a map."""
     return (
         '{"type":"FeatureCollection","features":[' + ",\n".join(it.text for it in features) + "]}"
     )
 
 
-def table(draw, count):
+def table(draw: Random, count: int) -> str:
     """Labels 10 to 80 pixels wide at all scales, whose places are normally distributed about the
     middle of the world.
     """

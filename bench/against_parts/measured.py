@@ -1,17 +1,18 @@
 """What both programs take for a workload, and the row that tells it."""
 
+from collections.abc import Sequence
+from pathlib import Path
 from typing import NamedTuple
 
 from against_parts import owed
-from against_parts.runs import end_of
+from against_parts.runs import Program, end_of
 from against_parts.works import Work
 
 HEAD = """| Workload | Seconds | Seconds of OTHER | Ratio | MiB | MiB of OTHER | Owed |
 |---|---|---|---|---|---|---|"""
 LEAST = 0.001  # seconds: what takes less counts as this much in a ratio
 # A processor may be slower for seconds on end: so a short workload is timed until OTHER has run for
-# so many seconds in
-# all, but not more often than this.
+# so many seconds in all, but not more often than this.
 ENOUGH, MOST = 1.0, 20
 
 
@@ -20,10 +21,10 @@ class Taken:
     the most memory.
     """
 
-    def __init__(self):
+    def __init__(self) -> None:
         self.seconds, self.less, self.kib = float("inf"), float("inf"), 0
 
-    def left(self, work):
+    def left(self, work: Work) -> float:
         """Seconds of one part, without what is taken off."""
         return max(0.0, self.seconds - (self.less if work.less else 0.0)) / work.parts
 
@@ -32,10 +33,10 @@ class Measured(NamedTuple):
     """The workload, what each program took, and what was wrong with its runs, or nothing."""
 
     work: Work
-    taken: tuple
+    taken: tuple[Taken, Taken]
     fault: str
 
-    def row(self):
+    def row(self) -> str:
         """A line of the table."""
         work, (one, other) = self.work, self.taken
         seconds = [it.left(work) for it in self.taken]
@@ -57,12 +58,13 @@ class Measured(NamedTuple):
         return f"| {' | '.join(cells)} |"
 
 
-def measure(programs, work, folder, times):
+def measure(programs: Sequence[Program], work: Work, folder: Path, times: int) -> Measured:
     """Runs the program and each way of OTHER in turn, so many times at least; the way that takes
     least is what OTHER takes. The first run of each is not timed; there standard error is compared
     too.
     """
-    taken, first, fault = tuple(Taken() for _ in programs), None, ""
+    taken, fault = tuple(Taken() for _ in programs), ""
+    first: tuple[int, bytes, bytes] | None = None
     notes = folder / "notes"
     for name, program in zip(("the program", *["OTHER"] * (len(programs) - 1)), programs):
         with notes.open("wb") as sink:
@@ -81,7 +83,7 @@ def measure(programs, work, folder, times):
                 its.less = min(its.less, end_of(program, work.less, folder).seconds)
             ended = end_of(program, work.run, folder)
             its.seconds, its.kib = min(its.seconds, ended.seconds), max(its.kib, ended.kib)
-            if (ended.status, ended.out) != first[:2]:
+            if first and (ended.status, ended.out) != first[:2]:
                 fault = fault or "outputs differ"
         spent += ended.seconds  # (OTHER ran last)
     return Measured(work, (taken[0], min(taken[1:], key=lambda it: it.left(work))), fault)

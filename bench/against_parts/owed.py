@@ -10,9 +10,9 @@ DEAR_TABLES = (
 )
 
 # By the titles of rows, so for maps of these sizes alone: the ratio at the most, and the seconds at
-# the most that the
-# row tells, of a run or of one edit. The ratio of a row of memory is that of memory.
-OWED = {
+# the most that the row tells, of a run or of one edit. The ratio of a row of memory is that of
+# memory.
+OWED: dict[str, tuple[float | None, float | None]] = {
     "load of 10000 points": (3, None),
     "load of 32768 points": (3, None),
     "load of 10000 towns": (3, None),
@@ -63,7 +63,7 @@ OWED = {
 }
 
 
-def is_kept(title, ratio, seconds):
+def is_kept(title: str, ratio: float, seconds: float) -> bool:
     """Whether the row of this title keeps what is owed, to the hundredth that is told of a
     ratio.
     """
@@ -73,7 +73,7 @@ def is_kept(title, ratio, seconds):
     )
 
 
-def told(title):
+def told(title: str) -> str:
     """What is owed of the row, in words; nothing where nothing is."""
     ratio, seconds = OWED.get(title, (None, None))
     return ", ".join([f"{ratio}"] * (ratio is not None) + [f"{seconds} s"] * (seconds is not None))

@@ -7,8 +7,12 @@ import socket
 import subprocess
 import sys
 import time
+from collections.abc import Sequence
 from pathlib import Path
-from typing import NamedTuple
+from typing import IO, NamedTuple
+
+from maplabel_kit.faults import Fault
+from maplabel_kit.ports import HOST, free_port
 
 STARTER = str(Path(__file__).resolve().parent / "starter.py")
 PATIENCE = 120  # seconds in which a server sends or takes something
@@ -17,17 +21,14 @@ PROCESSORS = sorted(os.sched_getaffinity(0))
 PROCESSOR = PROCESSORS[-1]
 
 
-class Refused(Exception):
-    """What cannot be measured, in a sentence."""
-
-
 class Program(NamedTuple):
     """A program, and what its environment has besides that of this process."""
 
     path: str
-    also: tuple = ()
+    also: tuple[tuple[str, str], ...] = ()
 
-    def environment(self):
+    def environment(self) -> dict[str, str]:
+        """The environment in which it runs."""
         return {**os.environ, **dict(self.also)}
 
 
@@ -36,11 +37,12 @@ class Run(NamedTuple):
     with what is sent over each connection.
     """
 
-    words: tuple
+    words: tuple[str, ...]
     put: bytes = b""
-    links: tuple = ()
+    links: tuple[bytes, ...] = ()
 
-    def requests(self):
+    def requests(self) -> int:
+        """How many requests are sent."""
         return sum(text.count(b" HTTP/1.1\r\n") for text in (self.put, *self.links))
 
 
@@ -54,7 +56,7 @@ class Ended(NamedTuple):
     seconds: float
     kib: int
 
-    def has_failed(self, run):
+    def has_failed(self, run: Run) -> bool:
         """Whether it ended badly, or some request was not answered as a good one."""
         return self.status != 0 or self.out.count(b"HTTP/1.1 200 OK\r\n") != run.requests()
 
@@ -62,23 +64,20 @@ class Ended(NamedTuple):
 class Started:
     """A program that runs. What is left of it goes with the block in which it was started."""
 
-    def __init__(self, program, words, source, sink, notes):
+    def __init__(
+        self,
+        program: Program,
+        words: Sequence[str],
+        source: int | IO[bytes],
+        sink: int | IO[bytes],
+        notes: int | IO[bytes],
+    ) -> None:
         self.name = f"{program.path} {words[0]}"
         told, tell = os.pipe()
         self.told = open(told, encoding="ascii")
-        command = [
-            sys.executable,
-            "-I",
-            "-S",
-            "-B",
-            STARTER,
-            str(tell),
-            str(PROCESSOR),
-            program.path,
-            *words,
-        ]
-        self.process = subprocess.Popen(
-            command,
+        starter = [sys.executable, "-I", "-S", "-B", STARTER, str(tell), str(PROCESSOR)]
+        self.process: subprocess.Popen[bytes] = subprocess.Popen(
+            [*starter, program.path, *words],
             stdin=source,
             stdout=sink,
             stderr=notes,
@@ -88,10 +87,10 @@ class Started:
         )
         os.close(tell)
 
-    def __enter__(self):
+    def __enter__(self) -> "Started":
         return self
 
-    def __exit__(self, *_):
+    def __exit__(self, *_: object) -> None:
         if self.process.poll() is None:
             os.killpg(self.process.pid, signal.SIGKILL)
         self.process.wait()
@@ -99,23 +98,22 @@ class Started:
         if self.process.stdout:
             self.process.stdout.close()
 
-    def spent(self):
+    def spent(self) -> float:
         """Processor seconds until now. To be asked once."""
         child = int(self.told.readline())
-        return time.clock_gettime(
-            ~child << 3 | 2
-        )  # the clock's number is that of clock_getcpuclockid
+        # The clock's number is that of clock_getcpuclockid.
+        return time.clock_gettime(~child << 3 | 2)
 
-    def end(self):
+    def end(self) -> tuple[int, float, int]:
         """Waits for its end: the exit code, seconds and KiB."""
         words = self.told.read().split()[-3:]
         self.process.wait()
         if len(words) < 3:
-            raise Refused(f"{self.name} could not be started")
+            raise Fault(f"{self.name} could not be started")
         return int(words[0]), float(words[1]), int(words[2])
 
 
-def piped(program, run, folder, notes):
+def piped(program: Program, run: Run, folder: Path, notes: int | IO[bytes]) -> Ended:
     """The end of a run over standard input and output, which are files of the folder."""
     source, sink = folder / "in", folder / "out"
     source.write_bytes(run.put)
@@ -126,18 +124,13 @@ def piped(program, run, folder, notes):
     return Ended(status, sink.read_bytes(), seconds, kib)
 
 
-def free_port():
-    with socket.socket() as it:
-        it.bind(("127.0.0.1", 0))
-        return it.getsockname()[1]
-
-
-def talk(port, text):
+def talk(port: int, text: bytes) -> bytes:
     """All that a connection is answered. What is sent goes as the server takes it, while replies
     are read.
     """
-    got, left, is_open = [], memoryview(text), True
-    with socket.create_connection(("127.0.0.1", port), PATIENCE) as link:
+    got: list[bytes] = []
+    left, is_open = memoryview(text), True
+    with socket.create_connection((HOST, port), PATIENCE) as link:
         link.setblocking(False)
         while True:
             if is_open and not left:
@@ -155,39 +148,43 @@ def talk(port, text):
                 got.append(piece)
 
 
-def served(program, run, notes):
+def served(program: Program, run: Run, notes: int | IO[bytes]) -> Ended:
     """The end of a server to which each connection is made in turn."""
     port = free_port()
     words = (*run.words, str(port), str(len(run.links)))
     with Started(program, words, subprocess.DEVNULL, subprocess.PIPE, notes) as started:
-        first = started.process.stdout.readline()
+        out = started.process.stdout
+        assert out is not None
+        first = out.readline()
         if first != b"ready\n":
-            raise Refused(
+            raise Fault(
                 f"{started.name} is not ready but prints `{first.decode(errors='replace').strip()}`"
             )
         loaded = started.spent()
         try:
             replies = [talk(port, text) for text in run.links]
         except OSError as fault:
-            raise Refused(f"{started.name} failed a connection: {fault}") from fault
-        last = started.process.stdout.read()
+            raise Fault(f"{started.name} failed a connection: {fault}") from fault
+        last = out.read()
         status, seconds, kib = started.end()
     return Ended(status, b"".join([first, last, *replies]), seconds - loaded, kib)
 
 
-def stand_aside():
+def stand_aside() -> None:
     """Leaves the processor on which programs run, if there is another."""
     os.sched_setaffinity(0, PROCESSORS[:-1] or PROCESSORS)
 
 
-def end_of(program, run, folder, notes=subprocess.DEVNULL):
+def end_of(
+    program: Program, run: Run, folder: Path, notes: int | IO[bytes] = subprocess.DEVNULL
+) -> Ended:
     """How a run of the program ends; its standard error goes to the file."""
     return served(program, run, notes) if run.links else piped(program, run, folder, notes)
 
 
-def printed(program, run, folder):
+def printed(program: Program, run: Run, folder: Path) -> bytes:
     """What a run prints that must end well."""
     ended = end_of(program, run, folder)
     if ended.has_failed(run):
-        raise Refused(f"{program.path} {' '.join(run.words)} ended with {ended.status}")
+        raise Fault(f"{program.path} {' '.join(run.words)} ended with {ended.status}")
     return ended.out

@@ -3,7 +3,9 @@ places all over the world: rows, columns, one anchor, lattices, chains of names 
 another, one label far above the others.
 """
 
-from against_parts.maps import feature
+from random import Random
+
+from against_parts.maps import Feature, feature
 
 APART = 5_000  # world units between neighbours of a row, which are in one another's way
 SIDE = 100  # places of a lattice along one side
@@ -11,7 +13,7 @@ SIDE = 100  # places of a lattice along one side
 BAND = 60_000_000
 
 
-def chain(count):
+def chain(count: int) -> list[Feature]:
     """Points in a row, of which each comes before the next and stands in its way: each second one
     is shown.
     """
@@ -27,12 +29,12 @@ def chain(count):
     ]
 
 
-def before_chain(count):
+def before_chain(count: int) -> Feature:
     """A point in front of the chain that comes first, so that each name of the chain turns."""
     return feature("first", "Point", [((-1 - count // 2) * APART, 0)], name="abcd", pop=count + 1)
 
 
-def lattice():
+def lattice() -> list[Feature]:
     """Points on a lattice, which come first from the corner on."""
     places = sorted(
         ((x, y) for x in range(SIDE) for y in range(SIDE)), key=lambda place: (sum(place), place)
@@ -45,12 +47,12 @@ def lattice():
     ]
 
 
-def at_corner():
+def at_corner() -> Feature:
     """A point at the corner of the lattice that comes first."""
     return feature("first", "Point", [(-APART, 0)], name="abcd", pop=SIDE * SIDE + 1)
 
 
-def meridian(draw, count):
+def meridian(draw: Random, count: int) -> list[Feature]:
     """Points on one meridian."""
     return [
         feature(
@@ -64,7 +66,7 @@ def meridian(draw, count):
     ]
 
 
-def anchor(count):
+def anchor(count: int) -> list[Feature]:
     """Points at one place."""
     return [
         feature(f"a{number}", "Point", [(0, 0)], name="abcd", pop=count - number)
@@ -72,32 +74,32 @@ def anchor(count):
     ]
 
 
-def _line(number, x, y, box="-20,-8,20,8"):
+def _line(number: int, x: int, y: int, box: str = "-20,-8,20,8") -> str:
     return f"L{number} {x} {y} 0 268435456 {box}\n"
 
 
-def column_table(draw, count):
+def column_table(draw: Random, count: int) -> str:
     """Labels at one x, far apart in y."""
     return "".join(_line(number, 0, draw.randint(-BAND * 30, BAND * 30)) for number in range(count))
 
 
-def row_table(draw, count):
+def row_table(draw: Random, count: int) -> str:
     """Labels at one y, far apart in x."""
     return "".join(_line(number, draw.randint(-BAND * 30, BAND * 30), 0) for number in range(count))
 
 
-def anchor_table(count):
+def anchor_table(count: int) -> str:
     """Labels at one anchor."""
     return "".join(_line(number, 0, 0) for number in range(count))
 
 
-def giant_table(table):
+def giant_table(table: str) -> str:
     """The labels of a table, of which the last has the greatest box that a label may have."""
     lines = table.splitlines(keepends=True)
     return "".join(lines[:-1]) + " ".join(lines[-1].split(" ")[:5]) + " -512,-512,512,512\n"
 
 
-def small_states(count):
+def small_states(count: int) -> str:
     """The text of so many states of two labels far apart, of which the second moves from state to
     state.
     """

@@ -15,17 +15,15 @@ import os
 import sys
 
 
-def main():
+def main() -> None:
     told, program = int(sys.argv[1]), sys.argv[3]
     os.set_inheritable(told, False)
     os.sched_setaffinity(0, {int(sys.argv[2])})
     child = os.posix_spawn(program, sys.argv[3:], os.environ)
     os.write(told, f"{child}\n".encode())
     _, status, usage = os.wait4(child, 0)
-    line = (
-        f"{os.waitstatus_to_exitcode(status)} {usage.ru_utime + usage.ru_stime} {usage.ru_maxrss}\n"
-    )
-    os.write(told, line.encode())
+    code, seconds = os.waitstatus_to_exitcode(status), usage.ru_utime + usage.ru_stime
+    os.write(told, f"{code} {seconds} {usage.ru_maxrss}\n".encode())
 
 
 main()
