@@ -1,6 +1,60 @@
 'use strict'
 // Made by web/bundle of the modules in web/maplabel/, where the remarks are.
 window.maplabel = (() => {
+const labels_ = (() => {
+function readState(text) {
+  const lines = text.split('\n'), count = Number(lines[0].split(' ')[2])
+  const plain = (id) => id === '%' ? '' : decodeURIComponent(id)
+  const all = lines.slice(1, 1 + count).map(line => {
+    const [id, x, y, min, max, margin, until, blocker, ...boxes] = line.split(' ')
+    return { id: plain(id), x: Number(x), y: Number(y), min, max, margin: Number(margin), until, blocker,
+      boxes: boxes.map(box => (box.split(',').map(Number))) }
+  })
+  return new Map(all.map(label =>
+    [label.id, { ...label, blocker: label.blocker === '-' ? null : all[Number(label.blocker)].id }]))
+}
+
+function levelOf(labels) {
+  const ends = new Map()
+  const step = (height, by) => ends.set(height, (ends.get(height) ?? 0) + by)
+  for (const { boxes, margin } of labels) {
+    const from = Math.max(...boxes.map(box => box[1])) - margin, to = Math.min(...boxes.map(box => box[3])) + margin
+    if (from <= to) { step(from, 1); step(to + 1, -1) }
+  }
+  let count = 0, most = 0, level = 0
+  for (const height of [...ends.keys()].sort((a, b) => a - b)) {
+    count += ends.get(height) ?? 0
+    if (count > most) { most = count; level = height }
+  }
+  return level
+}
+
+const reaches = ({ boxes, margin }, level) => boxes.every(box => box[1] - margin <= level && level <= box[3] + margin)
+
+function leftOut(state) {
+  const level = levelOf(state.values())
+  return new Set([...state.values()].filter(label => !reaches(label, level)).map(label => label.id))
+}
+
+const folded = text => text.normalize('NFD').replace(/\p{M}/gu, '').toLowerCase()
+  .replace(/[ßæœøđðłþıŋ]/gu, letter => PLAIN[letter])
+
+const PLAIN = { ß: 'ss', æ: 'ae', œ: 'oe', ø: 'o', đ: 'd', ð: 'd', ł: 'l', þ: 'th', ı: 'i', ŋ: 'n' }
+
+function matches(letters, names, most) {
+  const wanted = folded(letters.trim())
+  const found = [[], [], []]
+  if (!wanted) return []
+  for (const one of names) {
+    const name = folded(one.name), place = name.indexOf(wanted)
+    if (place < 0) continue
+    found[place === 0 ? 0 : ' -'.includes(name[place - 1]) ? 1 : 2].push(one)
+    if (found[0].length >= most) break
+  }
+  return found.flat().slice(0, most)
+}
+return { readState, levelOf, reaches, leftOut, folded, matches }
+})()
 const request_ = (() => {
 const LATE = 2000, SHORTEST = 500, LONGEST = 30000, POLL = 3000
 const AWAY = [500, 502, 503]
@@ -140,6 +194,165 @@ function baseOf(words) {
 }
 return { Fault, stateOf, Server, baseOf }
 })()
+const facts_ = (() => {
+const { leftOut, readState } = labels_
+const { stateOf } = request_
+
+const AGAIN = 1000
+const PATIENCE = 1500
+const ALWAYS = ['line_height', 'line_spacing', 'line_label']
+const MADE = 'line_label'
+const KIND = 'kind'
+const KINDS = { Point: 'point', MultiPoint: 'point', LineString: 'line', MultiLineString: 'line', Polygon: 'area', MultiPolygon: 'area' }
+
+const textOf = value => ['string', 'number', 'boolean'].includes(typeof value) ? String(value) : null
+
+const isMade = one => one?.key === MADE
+
+function classValueOf(style, own, kind, properties) {
+  if (own?.value !== undefined && !isMade(own)) return own.value
+  const keyed = (style?.classes ?? []).filter(one => one.key !== undefined && !isMade(one))
+  const key = (keyed.find(one => one.geometry === kind) ?? keyed[0])?.key
+  return (key === undefined ? null : textOf(properties[key])) ?? textOf(properties[KIND])
+}
+
+function knownOf(feature, style) {
+  const kind = KINDS[feature.geometry?.type ?? ''], properties = feature.properties ?? {}
+  const number = (style?.classes ?? []).findIndex(one =>
+    one.geometry === kind && (one.key === undefined || textOf(properties[one.key]) === one.value))
+  const known = { kind, properties, value: classValueOf(style, style?.classes[number], kind, properties) }
+  return number < 0 ? known : { ...known, class: number }
+}
+
+function withoutRepeats(all) {
+  const seen = new Set()
+  return all.filter(one => !one.isMade || !seen.has(one.name) && seen.add(one.name))
+}
+
+const chosen = (properties, wanted) => wanted === undefined || properties === undefined ? properties
+  : Object.fromEntries(Object.entries(properties).filter(([key]) => wanted.includes(key) || ALWAYS.includes(key)))
+
+class ServerFacts {
+  constructor(source, plane, options, changed) {
+    this.source = source
+    this.plane = plane
+    this.options = options
+    this.changed = changed
+    this.state = null
+    this.hidden = null
+    this.known = null
+    this.titles = new Map()
+    this.style = null
+    this.asked = null
+    this.count = null
+    this.isOld = true
+    this.isReady = false
+    this.joining = null
+  }
+
+  async ready() {
+    if (this.plane.stretches && this.isOld) await this.learn()
+    if (this.known === null)
+      await Promise.race([this.learnMap().catch(() => {}), new Promise(done => setTimeout(done, PATIENCE))])
+    this.isReady = true
+  }
+
+  async learn() {
+    const state = readState(await this.source.text('/state'))
+    this.state = state
+    this.hidden = this.plane.stretches ? leftOut(state) : new Set()
+    this.isOld = false
+    return state
+  }
+
+  learnMap() {
+    if (this.joining) return this.joining
+    const joining = this.joining = this.join()
+    joining.catch(() => { if (this.joining === joining) this.joining = null })
+    return joining
+  }
+
+  async join() {
+    const { property, properties, style } = this.options
+    this.asked ??= typeof style === 'string' ? styleAt(style) : Promise.resolve(style ?? null)
+    this.style = await this.asked
+    const rev = this.source.rev === null ? '' : `?rev=${this.source.rev}`
+    const features = (await this.patient('/map' + rev)).features
+    const name = property ?? this.style?.name ?? 'name'
+    this.titles = new Map(features.map(one => [one.id, textOf(one.properties?.[name]) ?? one.id]))
+    this.known = new Map(features.map(one => {
+      const known = knownOf(one, this.style)
+      return [one.id, { ...known, properties: chosen(known.properties, properties) }]
+    }))
+    this.changed()
+    return features
+  }
+
+  async patient(path) {
+    try { return await this.source.json(path) } catch (fault) {
+      if (stateOf(fault) !== 'many' || this.source.hasEnded) throw fault
+      await new Promise(done => setTimeout(done, AGAIN))
+      return this.patient(path)
+    }
+  }
+
+  of(id) { return this.known?.get(id) }
+
+  isHidden(id) { return this.hidden?.has(id) ?? false }
+
+  drop() { if (this.joining) this.joining = Promise.resolve([]) }
+
+  async entries() {
+    const state = this.isOld || this.state === null ? await this.learn() : this.state
+    await this.learnMap()
+    return [...state.keys()].map(id => {
+      const { value, properties } = this.known?.get(id) ?? {}
+      return { id, name: this.titles.get(id) ?? id, value, isMade: properties?.[MADE] !== undefined }
+    })
+  }
+
+  async span(id) { return (this.isOld || this.state === null ? await this.learn() : this.state).get(id) }
+
+  forget() {
+    this.isOld = true
+    this.joining = null
+    if (this.plane.stretches) this.isReady = false
+  }
+}
+
+async function styleAt(address) {
+  const reply = await fetch(address, { cache: 'no-cache' }).catch(() => null)
+  return reply?.ok ? reply.json().catch(() => null) : null
+}
+
+class NoFacts {
+  constructor() {
+    this.isReady = true
+    this.style = null
+    this.state = null
+    this.hidden = null
+    this.count = null
+    this.isOld = false
+  }
+
+  async ready() {}
+
+  of(_id) { return undefined }
+
+  isHidden(_id) { return false }
+
+  async learnMap() { return [] }
+
+  drop() {}
+
+  async entries() { return [] }
+
+  async span(_id) { return undefined }
+
+  forget() {}
+}
+return { isMade, classValueOf, knownOf, withoutRepeats, ServerFacts, NoFacts }
+})()
 const plane_ = (() => {
 const MERCATOR_LATITUDE = 85.0511287798066
 const EQUATOR = 40075016.7
@@ -209,6 +422,7 @@ function windowsOf(plane, area, scale) {
 return { MERCATOR_LATITUDE, northing, latitude, planes, scaleNear, valueOf, zoomOf, middleOf, windowsOf }
 })()
 const exported_ = (() => {
+const { classValueOf, isMade } = facts_
 const { stateOf, Fault } = request_
 const { northing, valueOf } = plane_
 
@@ -238,10 +452,10 @@ async function fetchJson(address, isZipped, signal) {
 }
 
 function nameOf([order, id, text, number, x, y, min, until, sides, properties], style) {
-  const own = style?.classes[number]
+  const own = style?.classes[number], value = classValueOf(style, own, own?.geometry, properties ?? {})
   const boxes = []
   for (let k = 0; k < sides.length; k += 4) boxes.push((sides.slice(k, k + 4)))
-  return { order, id, text, at: [x, y], boxes, min, until, class: number, value: own?.value ?? null, kind: own?.geometry,
+  return { order, id, text, at: [x, y], boxes, min, until, class: number, value, kind: own?.geometry,
     properties: properties ?? {}, least: valueOf(min), most: valueOf(until) }
 }
 
@@ -330,7 +544,7 @@ class ExportSource {
     const style = file.maplabel?.style ?? null
     for (const name of names) {
       const own = style?.classes[name.class ?? -1]
-      name.value = own?.value ?? null
+      name.value = classValueOf(style, own, own?.geometry, {})
       name.kind = own?.geometry
     }
     this.index = { format: FORMAT, way, count: names.length, reach: 512, style, outlines: null, zipped: false,
@@ -453,7 +667,10 @@ class ExportFacts {
 
   drop() {}
 
-  async entries() { return (await this.source.all()).map(({ id, text, value }) => ({ id, name: text.trim(), value })) }
+  async entries() {
+    return (await this.source.all()).map(({ id, text, value, class: number }) =>
+      ({ id, name: text.trim(), value, isMade: isMade(this.style?.classes[number ?? -1]) }))
+  }
 
   async span(id) {
     const name = (await this.source.all()).find(one => one.id === id)
@@ -581,7 +798,10 @@ function listenWheel(element, act, signal, isShy = false) {
 }
 
 function focusByTouch(element, signal) {
-  if (!element.hasAttribute('tabindex')) element.tabIndex = 0
+  if (!element.hasAttribute('tabindex')) {
+    element.tabIndex = 0
+    signal.addEventListener('abort', () => element.removeAttribute('tabindex'))
+  }
   element.addEventListener('pointerdown', () => element.focus({ preventScroll: true }), { signal })
 }
 
@@ -780,205 +1000,6 @@ class LeafletMap {
   }
 }
 return { LeafletMap }
-})()
-const labels_ = (() => {
-function readState(text) {
-  const lines = text.split('\n'), count = Number(lines[0].split(' ')[2])
-  const plain = (id) => id === '%' ? '' : decodeURIComponent(id)
-  const all = lines.slice(1, 1 + count).map(line => {
-    const [id, x, y, min, max, margin, until, blocker, ...boxes] = line.split(' ')
-    return { id: plain(id), x: Number(x), y: Number(y), min, max, margin: Number(margin), until, blocker,
-      boxes: boxes.map(box => (box.split(',').map(Number))) }
-  })
-  return new Map(all.map(label =>
-    [label.id, { ...label, blocker: label.blocker === '-' ? null : all[Number(label.blocker)].id }]))
-}
-
-function levelOf(labels) {
-  const ends = new Map()
-  const step = (height, by) => ends.set(height, (ends.get(height) ?? 0) + by)
-  for (const { boxes, margin } of labels) {
-    const from = Math.max(...boxes.map(box => box[1])) - margin, to = Math.min(...boxes.map(box => box[3])) + margin
-    if (from <= to) { step(from, 1); step(to + 1, -1) }
-  }
-  let count = 0, most = 0, level = 0
-  for (const height of [...ends.keys()].sort((a, b) => a - b)) {
-    count += ends.get(height) ?? 0
-    if (count > most) { most = count; level = height }
-  }
-  return level
-}
-
-const reaches = ({ boxes, margin }, level) => boxes.every(box => box[1] - margin <= level && level <= box[3] + margin)
-
-function leftOut(state) {
-  const level = levelOf(state.values())
-  return new Set([...state.values()].filter(label => !reaches(label, level)).map(label => label.id))
-}
-
-const folded = text => text.normalize('NFD').replace(/\p{M}/gu, '').toLowerCase()
-  .replace(/[ßæœøđðłþıŋ]/gu, letter => PLAIN[letter])
-
-const PLAIN = { ß: 'ss', æ: 'ae', œ: 'oe', ø: 'o', đ: 'd', ð: 'd', ł: 'l', þ: 'th', ı: 'i', ŋ: 'n' }
-
-function matches(letters, names, most) {
-  const wanted = folded(letters.trim())
-  const found = [[], [], []]
-  if (!wanted) return []
-  for (const one of names) {
-    const name = folded(one.name), place = name.indexOf(wanted)
-    if (place < 0) continue
-    found[place === 0 ? 0 : ' -'.includes(name[place - 1]) ? 1 : 2].push(one)
-    if (found[0].length >= most) break
-  }
-  return found.flat().slice(0, most)
-}
-return { readState, levelOf, reaches, leftOut, folded, matches }
-})()
-const facts_ = (() => {
-const { leftOut, readState } = labels_
-const { stateOf } = request_
-
-const AGAIN = 1000
-const PATIENCE = 1500
-const ALWAYS = ['line_height', 'line_spacing', 'line_label']
-const KINDS = { Point: 'point', MultiPoint: 'point', LineString: 'line', MultiLineString: 'line', Polygon: 'area', MultiPolygon: 'area' }
-
-const textOf = value => ['string', 'number', 'boolean'].includes(typeof value) ? String(value) : null
-
-function knownOf(feature, style) {
-  const kind = KINDS[feature.geometry?.type ?? ''], properties = feature.properties ?? {}
-  const number = (style?.classes ?? []).findIndex(one =>
-    one.geometry === kind && (one.key === undefined || textOf(properties[one.key]) === one.value))
-  const known = { kind, properties }
-  if (number >= 0) known.class = number
-  const own = style?.classes[number]
-  const keys = (style?.classes ?? []).filter(one => one.key !== undefined)
-  const key = own?.key ?? (keys.find(one => one.geometry === kind) ?? keys[0])?.key
-  if (key !== undefined) known.value = own?.value ?? textOf(properties[key])
-  return known
-}
-
-const chosen = (properties, wanted) => wanted === undefined || properties === undefined ? properties
-  : Object.fromEntries(Object.entries(properties).filter(([key]) => wanted.includes(key) || ALWAYS.includes(key)))
-
-class ServerFacts {
-  constructor(source, plane, options, changed) {
-    this.source = source
-    this.plane = plane
-    this.options = options
-    this.changed = changed
-    this.state = null
-    this.hidden = null
-    this.known = null
-    this.titles = new Map()
-    this.style = null
-    this.asked = null
-    this.count = null
-    this.isOld = true
-    this.isReady = false
-    this.joining = null
-  }
-
-  async ready() {
-    if (this.plane.stretches && this.isOld) await this.learn()
-    if (this.known === null)
-      await Promise.race([this.learnMap().catch(() => {}), new Promise(done => setTimeout(done, PATIENCE))])
-    this.isReady = true
-  }
-
-  async learn() {
-    const state = readState(await this.source.text('/state'))
-    this.state = state
-    this.hidden = this.plane.stretches ? leftOut(state) : new Set()
-    this.isOld = false
-    return state
-  }
-
-  learnMap() {
-    if (this.joining) return this.joining
-    const joining = this.joining = this.join()
-    joining.catch(() => { if (this.joining === joining) this.joining = null })
-    return joining
-  }
-
-  async join() {
-    const { property, properties, style } = this.options
-    this.asked ??= typeof style === 'string' ? styleAt(style) : Promise.resolve(style ?? null)
-    this.style = await this.asked
-    const rev = this.source.rev === null ? '' : `?rev=${this.source.rev}`
-    const features = (await this.patient('/map' + rev)).features
-    const name = property ?? this.style?.name ?? 'name'
-    this.titles = new Map(features.map(one => [one.id, textOf(one.properties?.[name]) ?? one.id]))
-    this.known = new Map(features.map(one => {
-      const known = knownOf(one, this.style)
-      return [one.id, { ...known, properties: chosen(known.properties, properties) }]
-    }))
-    this.changed()
-    return features
-  }
-
-  async patient(path) {
-    try { return await this.source.json(path) } catch (fault) {
-      if (stateOf(fault) !== 'many' || this.source.hasEnded) throw fault
-      await new Promise(done => setTimeout(done, AGAIN))
-      return this.patient(path)
-    }
-  }
-
-  of(id) { return this.known?.get(id) }
-
-  isHidden(id) { return this.hidden?.has(id) ?? false }
-
-  drop() { if (this.joining) this.joining = Promise.resolve([]) }
-
-  async entries() {
-    const state = this.isOld || this.state === null ? await this.learn() : this.state
-    await this.learnMap()
-    return [...state.keys()].map(id => ({ id, name: this.titles.get(id) ?? id, value: this.known?.get(id)?.value }))
-  }
-
-  async span(id) { return (this.isOld || this.state === null ? await this.learn() : this.state).get(id) }
-
-  forget() {
-    this.isOld = true
-    this.joining = null
-    if (this.plane.stretches) this.isReady = false
-  }
-}
-
-async function styleAt(address) {
-  const reply = await fetch(address, { cache: 'no-cache' }).catch(() => null)
-  return reply?.ok ? reply.json().catch(() => null) : null
-}
-
-class NoFacts {
-  constructor() {
-    this.isReady = true
-    this.style = null
-    this.state = null
-    this.hidden = null
-    this.count = null
-    this.isOld = false
-  }
-
-  async ready() {}
-
-  of(_id) { return undefined }
-
-  isHidden(_id) { return false }
-
-  async learnMap() { return [] }
-
-  drop() {}
-
-  async entries() { return [] }
-
-  async span(_id) { return undefined }
-
-  forget() {}
-}
-return { knownOf, ServerFacts, NoFacts }
 })()
 const vectortile_ = (() => {
 const VARINT = 0, FIXED_64 = 1, BYTES = 2, FIXED_32 = 5
@@ -1235,7 +1256,9 @@ const BOUNDS = [[1, 0.62], [2, 0.72], [3, 1.1]]
 const LEAST = 0.7, LEAST_WHOLE = 0.4
 const MOST_TURN = 15
 const CLOSE = 1e-9
-const PROBE = 100, STEP = 2
+const PROBE = 250, STEP = 2
+const EXACT = 'geometricPrecision'
+const LEVEL = 1e-5
 const NEAR = 1e-12
 const MOST_NAMES = 5000
 const WHOLE_SCRIPTS = ['Arabic', 'Hebrew', 'Syriac', 'Thaana', 'Nko', 'Mongolian', 'Devanagari', 'Bengali', 'Gurmukhi',
@@ -1420,6 +1443,7 @@ function lettersIn(pen, run, family) {
   pen.save()
   pen.font = `${PROBE}px ${family}`
   pen.textAlign = 'left'
+  pen.textRendering = EXACT
   pen.fontKerning = isWhole(run) ? 'auto' : 'none'
   const found = (isWhole(run) ? [run] : lettersOf(run)).map(one => measured(pen, one))
   pen.restore()
@@ -1489,6 +1513,7 @@ const forgetLays = () => known.clear()
 function drawAlong(pen, lies, x, y, { colour, halo, haloWidth, family }) {
   pen.save()
   pen.font = `${lies.height}px ${family}`
+  pen.textRendering = EXACT
   pen.fontKerning = lies.kerning
   pen.textAlign = lies.isRun ? 'center' : 'left'
   pen.textBaseline = 'alphabetic'
@@ -1505,7 +1530,7 @@ function drawAlong(pen, lies, x, y, { colour, halo, haloWidth, family }) {
 function drawPiece(pen, way, piece, x, y) {
   pen.save()
   pen.translate(x + piece.x, y - piece.y)
-  pen.rotate(-piece.angle)
+  pen.rotate(-piece.angle || LEVEL)
   pen[way](piece.text, 0, 0)
   pen.restore()
 }
@@ -1848,7 +1873,7 @@ const LIGHT = {
     country: { colour: '#4b2e6b' }, state: { colour: '#6a4f86' },
     point: { colour: '#1a1a1a', dot: '#222222' }, small: { colour: '#1a1a1a', dot: '#666666' },
     line: { colour: '#1f5f96' }, area: { colour: '#4b2e6b' }, 'small area': { colour: '#6a4f86' },
-    road: { colour: '#5d4a2c' }, street: { colour: '#5d4a2c' }, park: { colour: '#2f6b35' }, forest: { colour: '#2f6b35' },
+    road: { colour: '#5d4a2c' }, street: { colour: '#5d4a2c' }, park: { colour: '#2b6231' }, forest: { colour: '#2b6231' },
     lake: { colour: '#1f5f96' }, water: { colour: '#1f5f96' }, sea: { colour: '#1f5f96' }, peak: { colour: '#6b3f1d', dot: '#6b3f1d' }
   },
   shapes: {
@@ -1901,6 +1926,8 @@ const strokeOf = ({ kind, value }, colours) =>
 return { LIGHT, DARK, mixed, kindOf, lookOf, strokeOf }
 })()
 const fonts_ = (() => {
+const { isMade } = facts_
+
 const SERIF = '"Liberation Serif", "Times New Roman", Times, serif'
 const SANS = '"Liberation Sans", Arial, Helvetica, sans-serif'
 const MONO = '"Liberation Mono", "Courier New", monospace'
@@ -1911,25 +1938,28 @@ function familyOf(name, font) {
   return font?.family ? `"${font.family.replace(/["\\]/g, '')}", ${others}` : others
 }
 
-function isAsMeasured(pen, family, font) {
+function isAsMeasured(pen, family, font, isWider = false) {
   const letters = Object.keys(font.advances).filter(letter => /[!-~\u00c0-\u024f]/.test(letter)).slice(0, 120)
   if (!letters.length) return true
   pen.save()
   pen.font = `${PROBE}px ${family}`
-  const off = letters.filter(letter => {
-    const wanted = font.advances[letter] / font.units * PROBE
-    return Math.abs(pen.measureText(letter).width - wanted) > NEAR * PROBE
-  })
+  const widths = letters.map(letter => [font.advances[letter] / font.units * PROBE, pen.measureText(letter).width])
   pen.restore()
-  return off.length <= FEW * letters.length
+  const ratios = widths.map(([wanted, own]) => own / wanted).sort((a, b) => a - b)
+  const by = isWider ? ratios[Math.floor(ratios.length / 2)] : 1
+  return widths.filter(([wanted, own]) => Math.abs(own - by * wanted) > NEAR * PROBE).length <= FEW * letters.length
 }
 
-const lackingFonts = (pen, fonts, own) => Object.entries(fonts)
-  .filter(([name, font]) => !isAsMeasured(pen, own ?? familyOf(name, font), font))
-  .map(([name, font]) => {
-    const meant = font.family ? `the font ${font.family}` : `another font (“${name}” in the style)`
-    return `The names were measured with ${meant}, which this browser does not have: some are smaller than they should be.`
-  })
+function lackingFonts(pen, { classes, fonts }, own) {
+  const made = new Set(classes.filter(isMade).map(one => one.font)), seen = new Set()
+  return Object.entries(fonts)
+    .filter(([name, { family }]) => !made.has(name) || !seen.has(family) && seen.add(family))
+    .filter(([name, font]) => !isAsMeasured(pen, own ?? familyOf(name, font), font, made.has(name)))
+    .map(([name, font]) => {
+      const meant = font.family ? `the font ${font.family}` : `another font (“${name}” in the style)`
+      return `The names were measured with ${meant}, which this browser does not have: some are smaller than they should be.`
+    })
+}
 return { familyOf, isAsMeasured, lackingFonts }
 })()
 const explain_ = (() => {
@@ -2116,6 +2146,8 @@ class Card {
   hide() { this.element.hidden = true }
 }
 
+const creditOf = attribution => make('span', { className: 'ml-credit', hidden: !attribution, innerHTML: attribution })
+
 const ROUND = [1, 2, 5]
 
 function roundLength(metres, most) {
@@ -2153,8 +2185,7 @@ class Panel {
     this.note = notice.element
     this.again = make('button', { type: 'button', textContent: 'Ask again', hidden: !hasAgain,
       title: 'The map was edited: ask for its names again', onclick: act.again })
-    const credit = make('span', { className: 'ml-credit', hidden: !attribution, innerHTML: attribution })
-    this.bar = make('footer', { className: 'ml-bar' }, this.scale.element, this.where, this.note, this.again, credit)
+    this.bar = make('footer', { className: 'ml-bar' }, this.scale.element, this.where, this.note, this.again, creditOf(attribution))
     this.parts = [this.finder.element, this.card, this.bar]
     const { zoom } = act
     if (zoom)
@@ -2163,7 +2194,7 @@ class Panel {
         make('button', { type: 'button', textContent: '\u2212', title: 'Further out', onclick: () => zoom(1 / 2) })))
   }
 }
-return { make, Notice, Finder, Card, roundLength, ScaleBar, Panel }
+return { make, Notice, Finder, Card, creditOf, roundLength, ScaleBar, Panel }
 })()
 const reader_ = (() => {
 const { make } = panel_
@@ -2195,7 +2226,7 @@ return { ReaderList }
 })()
 const viewer_ = (() => {
 const { baseOf, Server } = request_
-const { ServerFacts, NoFacts } = facts_
+const { ServerFacts, NoFacts, withoutRepeats } = facts_
 const { ExportSource } = exported_
 const { TileSource } = tiles_
 const { Names } = names_
@@ -2207,7 +2238,7 @@ const { familyOf, lackingFonts } = fonts_
 const { middleOf, zoomOf } = plane_
 const { matches } = labels_
 const { explain, scaleFor } = explain_
-const { make, Notice, Panel } = panel_
+const { creditOf, make, Notice, Panel } = panel_
 const { ReaderList } = reader_
 
 const canvasOf = name => make('canvas', { className: name, 'aria-hidden': 'true' })
@@ -2247,8 +2278,8 @@ class Viewer {
   }
 
   place() {
-    const { title = 'Map of names' } = this.options
-    const parts = this.panel ? this.panel.parts : [make('footer', { className: 'ml-bar ml-quiet' }, this.notice.element)]
+    const { title = 'Map of names', attribution = '' } = this.options
+    const parts = this.panel?.parts ?? [make('footer', { className: 'ml-bar ml-quiet' }, this.notice.element, creditOf(attribution))]
     const root = make('div', { className: 'ml-panel' }, ...parts, this.list.element)
     for (const kind of ['pointerdown', 'mousedown', 'touchstart', 'click', 'dblclick', 'contextmenu', 'wheel', 'keydown'])
       root.addEventListener(kind, event => event.stopPropagation(), { passive: true })
@@ -2330,7 +2361,7 @@ class Viewer {
   checkNames() {
     if (this.facts.count === 0) this.notice.stay('This map has no names: its style gives no feature one.')
     const pen = this.canvas.getContext('2d')
-    for (const sentence of pen && this.facts.style ? lackingFonts(pen, this.facts.style.fonts, this.options.font) : []) {
+    for (const sentence of pen && this.facts.style ? lackingFonts(pen, this.facts.style, this.options.font) : []) {
       if (!this.notice.lasting.includes(sentence)) console.warn('maplabel: ' + sentence)
       this.notice.stay(sentence)
     }
@@ -2340,6 +2371,11 @@ class Viewer {
     forgetWidths()
     forgetLays()
     this.draw()
+  }
+
+  get background() {
+    const hasAreas = this.shapes === null || this.shapes[0]?.kind === 'area'
+    return this.options.background ?? (hasAreas ? 'sea' : 'land')
   }
 
   lookOf(label) {
@@ -2364,7 +2400,7 @@ class Viewer {
     if (!this.names || this.breaker.signal.aborted) return
     const [width, height] = this.map.size(), { colours } = this
     if (!(width > 0 && height > 0)) return
-    const { background = 'sea' } = this.options
+    const { background } = this
     this.ground.style.background = !this.hasOutlines || background === 'none' ? 'none' : colours[background]
     if (this.hasOutlines) {
       const pen = clear(this.ground, width, height)
@@ -2413,7 +2449,7 @@ class Viewer {
 
   scale() { return this.names.scaleOf(this.map.frame()).value }
 
-  async find(letters) { return matches(letters, await this.facts.entries(), 12) }
+  async find(letters) { return matches(letters, withoutRepeats(await this.facts.entries()), 12) }
 
   async goTo(id, stays = false, scale = null) {
     const span = await this.facts.span(id)

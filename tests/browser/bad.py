@@ -80,6 +80,30 @@ def _site_says(served: Files, text: str, folder: str) -> None:
         browser.picture(f"{folder}/bad-export.png")
 
 
+def host_gone(pages: Pages, folder: str, made: Path) -> None:
+    """A host of files that goes is told, with what is drawn kept; once it is back the page goes on
+    by itself.
+    """
+    own = made / "site"
+    make_site(pages.engine.program, own, STYLE, WORLD)
+    with Browser(900, 500) as browser:
+        with Files(own) as served:
+            browser.open(served.base + "/index.html#lat=48&lng=10&z=3")
+            browser.wait(SHOWN, "the names have come")
+        browser.tell("page.source.names.clear(); page.source.fetched.clear(); void 0")
+        browser.tell("page.leaflet.setView([48, 10], 6, { animate: false }); void 0")
+        _told(browser, "does not answer: asked again in")
+        kept = browser.tell("page.names.drawn().length")
+        browser.picture(f"{folder}/bad-host.png")
+        with Files(own, served.port):
+            browser.wait(SHOWN + ' && page.source.state === "good"', "the page goes on", 40)
+            _told(browser, "The server is back")
+            back = browser.tell("page.names.drawn().map(one => one.text)")
+    if not kept or "Vaduz" not in back:
+        raise Fault(f"{kept} names stay while the host is gone, and then there are {back}")
+    print(f"bad: a host of files that goes is told, {kept} names stay, and it goes on by itself")
+
+
 def without_names(pages: Pages, folder: str, made: Path) -> None:
     engine, own = _served(pages, made, [_town("a", "")], _style("Liberation Serif", 500))
     with engine, own, Browser(900, 500) as browser:
@@ -161,6 +185,6 @@ def other_font(pages: Pages, folder: str, made: Path) -> None:
 
 def bad(pages: Pages, folder: str) -> None:
     """(A server that goes and comes back is told too: see the part `gone`.)"""
-    for part in (cut_off, without_names, strange_ids, other_font):
+    for part in (cut_off, host_gone, without_names, strange_ids, other_font):
         with tempfile.TemporaryDirectory() as made:
             part(pages, folder, Path(made))

@@ -8,6 +8,7 @@ import signal
 import subprocess
 import tempfile
 import time
+import zlib
 from pathlib import Path
 from typing import Any
 
@@ -124,7 +125,7 @@ class Browser:
             )
         return got["result"].get("value")
 
-    def wait(self, script: str, what: str, seconds: float = 20) -> None:
+    def wait(self, script: str, what: str, seconds: float = 45) -> None:
         end = time.monotonic() + seconds
         while not self.tell(script):
             if time.monotonic() > end:
@@ -139,6 +140,17 @@ class Browser:
     def picture(self, path: str | Path) -> None:
         with open(path, "wb") as file:
             file.write(base64.b64decode(self.call("Page.captureScreenshot", format="png")["data"]))
+
+    def colour(self, x: float, y: float) -> tuple[int, int, int]:
+        """The colour of a pixel of the page as it is seen."""
+        clip = {"x": int(x), "y": int(y), "width": 1, "height": 1, "scale": 1}
+        told = self.call("Page.captureScreenshot", format="png", clip=clip)["data"]
+        return _only_pixel(base64.b64decode(told))
+
+    def scheme(self, name: str) -> None:
+        """The system prefers light or dark."""
+        feature = {"name": "prefers-color-scheme", "value": name}
+        self.call("Emulation.setEmulatedMedia", features=[feature])
 
     def mouse(self, kind: str, x: float, y: float, **words: Any) -> None:
         self.call("Input.dispatchMouseEvent", type=kind, x=x, y=y, **words)
@@ -183,3 +195,17 @@ class Browser:
                 return
             except OSError:
                 time.sleep(0.1)
+
+
+def _only_pixel(png: bytes) -> tuple[int, int, int]:
+    """The colour of a picture of one pixel: behind the eight bytes of its head a PNG has parts of a
+    length, a kind, data and a sum, and the one pixel's bytes are the same under each filter.
+    """
+    place, data = 8, b""
+    while place < len(png):
+        length, kind = int.from_bytes(png[place : place + 4], "big"), png[place + 4 : place + 8]
+        if kind == b"IDAT":
+            data += png[place + 8 : place + 8 + length]
+        place += length + 12
+    _, red, green, blue, *_ = zlib.decompress(data)
+    return red, green, blue

@@ -3,10 +3,12 @@ in turn; and all but the last behind nginx too.
 """
 import os
 import socket
+import subprocess
 import time
+from pathlib import Path
 
 from chromium import Browser, Fault
-from servers import Nginx, Pages
+from servers import STYLE, WEB, Nginx, Pages
 from steady import SETTLED
 
 USTER = (
@@ -56,10 +58,11 @@ def gone(pages: Pages, folder: str) -> None:
         pages.engine.end()
         browser.key("ArrowRight")
         browser.wait(NOTE + ".includes('does not answer')", "the page says that the server is gone")
-        kept = browser.tell(NAMES)
         begun = browser.tell("page.source.count")
         time.sleep(6)
         asked = browser.tell("page.source.count") - begun
+        browser.key("ArrowLeft")
+        kept = browser.tell(NAMES)
         browser.picture(os.path.join(folder, "gone.png"))
         pages.engine.start()
         begin = time.monotonic()
@@ -154,7 +157,28 @@ def many(pages: Pages, folder: str) -> None:
         print("2,000 views in turn: all answered over a connection that was there, %.1f s" % took)
 
 
+def styled(proxied: Nginx, folder: str) -> None:
+    """Behind nginx too the page tells classes apart, by the file that web/export describes."""
+    words: list[str | Path] = [WEB / "export", "--describe", STYLE]
+    if subprocess.run([*words, proxied.published / "style.json"], check=False).returncode != 0:
+        raise Fault("web/export does not describe the style")
+    with Browser() as browser:
+        browser.open(proxied.base + "/mercator.html#lat=48&lng=10&z=5")
+        browser.wait(SETTLED + " && page.facts.style", "the page learns the style from nginx", 10)
+        looks = browser.tell(
+            "Object.fromEntries(page.names.placed.map(({ label }) => [label.value,"
+            " page.lookOf(label).colour]))"
+        )
+        browser.picture(os.path.join(folder, "nginx-style.png"))
+        kinds = {value.split(" ")[0] for value in looks if value}
+        if kinds != {"city", "country"} or looks["country 3"] == looks["city 3"]:
+            raise Fault(f"behind nginx classes look as {looks}")
+        print(f"nginx: {len(looks)} classes are told apart by style.json")
+
+
 def nginx(pages: Pages, folder: str) -> None:
-    with Nginx(pages.engine) as proxied:
+    proxied = Nginx(pages.engine)
+    with proxied:
+        styled(proxied, folder)
         for part in (held, gone, edit):
             part(proxied, folder)

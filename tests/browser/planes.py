@@ -28,11 +28,47 @@ def looked_at(browser: Browser, where: str) -> int:
 
 
 def overlaps(pages: Pages, folder: str) -> None:
-    """The Mercator page at four zooms over the sample; also with two and with one and a half pixels
-    a pixel.
+    """The Mercator page at four zooms over the sample, and over towns whose names may touch; also
+    with two and with one and a half pixels a pixel.
     """
     for density in (1, 2, 1.5):
         at_zooms(pages, folder, density)
+    touching(pages)
+
+
+# Pairs of names whose boxes are less than a pixel apart.
+NEAR = """(() => {
+  const all = page.names.drawn(), near = 1 - 1e-6
+  let count = 0
+  all.forEach((a, k) => all.slice(k + 1).forEach(b => {
+    const [p] = a.boxes, [q] = b.boxes
+    if (a.x + p[0] - near < b.x + q[2] && b.x + q[0] < a.x + p[2] + near &&
+        a.y - p[3] - near < b.y - q[1] && b.y - q[3] < a.y - p[1] + near) count++ }))
+  return count })()"""
+
+
+def touching(pages: Pages) -> None:
+    """Names without a margin: many pairs touch, and none overlaps, however anchors are rounded."""
+    with tempfile.TemporaryDirectory() as made:
+        towns, kinds = Path(made, "towns.geojson"), Path(made, "towns.toml")
+        points(towns, 6000, 3)
+        style(kinds)
+        kinds.write_text(kinds.read_text("utf-8").replace("margin = 1", "margin = 0"), "utf-8")
+        for way, own in in_two_ways(pages, made, kinds, towns):
+            if way == "degrees":
+                continue
+            count, near = 0, 0
+            for density in (1, 1.5, 2):
+                with Browser(density=density) as browser:
+                    browser.open(f"{own.base}/mercator.html#lat=20&lng=20&z=3&way={way}&poll=no")
+                    browser.wait(SETTLED, "the names have come")
+                    for view in ("[20, 20], 3.1", "[40, -60], 3.77", "[-10, 100], 4.4"):
+                        browser.tell(f"void page.leaflet.setView({view}, {{ animate: false }})")
+                        count += looked_at(browser, f"touching names at {view}, {density}")
+                        near += browser.tell(NEAR)
+            if near < 20:
+                raise Fault(f"of {count} names only {near} pairs touch")
+            print(f"names without a margin: {count} in 9 views, {near} pairs touch, 0 overlap")
 
 
 def at_zooms(pages: Pages, folder: str, density: float) -> None:

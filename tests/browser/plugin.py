@@ -26,7 +26,8 @@ const open = (id, lat, lng, zoom, options) => {
   const map = L.map(id, { center: [lat, lng], zoom, zoomSnap: 0, zoomAnimation: false })
   return { map, layer: L.maplabel('BASE', options).addTo(map) }
 }
-const a = open('a', 48, 10, 5, { title: 'Central Europe', attribution: 'Natural Earth' })
+const a = open('a', 48, 10, 5,
+  { title: 'Central Europe', attribution: 'Natural Earth', smooth: true, shy: true })
 const b = open('b', 40, -95, 4, { title: 'North America', panel: false })
 </script></body></html>"""
 LONG = "This text goes on so that the page is longer than the window. " * 40
@@ -88,20 +89,29 @@ def plugin(pages: Pages, folder: str) -> None:
 
 
 def _scrolls(browser: Browser) -> None:
-    before = browser.tell("a.map.getZoom()")
-    browser.wheel(450, 60, 400)
-    browser.wait("window.scrollY > 100", "the article scrolls", 5)
-    _must(
-        browser.tell("a.map.getZoom()") == before, "the map zoomed though the article was scrolled"
-    )
-    browser.tell("scrollTo(0, 0)")
-    browser.wait("window.scrollY === 0", "the article is at its top", 5)
+    """The wheel scrolls the article, beside a map and over a shy one without the focus; over one
+    that has it, it zooms.
+    """
+    before, middle = browser.tell("[a.map.getZoom(), a.map.getContainer().offsetTop + 150]")
+    for y in (60, middle):
+        browser.wheel(450, y, 400)
+        browser.wait("window.scrollY > 100", f"the article scrolls by a wheel at {y}", 5)
+        zoom = browser.tell("a.map.getZoom()")
+        _must(zoom == before, "the map zoomed though the article was scrolled")
+        browser.tell("scrollTo(0, 0)")
+        browser.wait("window.scrollY === 0", "the article is at its top", 5)
+    browser.tell("a.map.getContainer().focus({ preventScroll: true })")
+    browser.wheel(450, middle, -120)
+    browser.wait(f"a.map.getZoom() > {before} + 0.4", "the map with the focus zooms", 5)
+    browser.wait("!a.layer.viewer.map.isMoving()", "the map rests", 5)
+    _must(browser.tell("window.scrollY") == 0, "the article scrolled though the map zoomed")
+    browser.tell("document.activeElement.blur()")
 
 
 def _keys(browser: Browser) -> None:
     """Without focus an arrow is the article's; with focus it moves that map and no other."""
     script = "JSON.stringify([a.map.getCenter(), b.map.getCenter()])"
-    before = json.loads(browser.tell(script))
+    before = json.loads(browser.tell(f"window.was = {script}"))
     browser.key("ArrowRight")
     browser.tell("new Promise(done => setTimeout(done, 400))")
     _must(json.loads(browser.tell(script)) == before, "a key moved a map that has no focus")
@@ -110,7 +120,7 @@ def _keys(browser: Browser) -> None:
         "Input.dispatchKeyEvent", type="keyDown", key="ArrowRight", windowsVirtualKeyCode=39
     )
     browser.call("Input.dispatchKeyEvent", type="keyUp", key="ArrowRight", windowsVirtualKeyCode=39)
-    browser.tell("new Promise(done => setTimeout(done, 600))")
+    browser.wait(f"{script} !== was", "a key moves a map", 5)
     after = json.loads(browser.tell(script))
     _must(after[0] == before[0] and after[1] != before[1], f"a key moved {before} to {after}")
 
@@ -272,6 +282,9 @@ def classes(pages: Pages, folder: str) -> None:
             " > 200 && data[k + 1] < 80) count++; return count })()"
         )
         _must(red > 10, f"an author's colour has {red} pixels")
+        browser.click(500, 30)
+        browser.type_text("mere")
+        browser.wait("page.panel.list.innerText.includes('Mere')", "Mere is found")
         asked = browser.tell(
             "performance.getEntriesByType('resource').filter(one =>"
             " one.name.includes('/map?')).map(one => one.name)"

@@ -2,6 +2,7 @@
 serves.
 """
 
+import contextlib
 import functools
 import http.server
 import json
@@ -11,6 +12,7 @@ import tempfile
 import threading
 import time
 import urllib.request
+from collections.abc import Sequence
 from pathlib import Path
 from typing import Any
 
@@ -22,6 +24,7 @@ from maplabel_kit.server import Child, Server
 DATA = TOP / "crates" / "maplabel" / "data"
 STYLE, WORLD = DATA / "world.toml", DATA / "world.geojson"
 WEB = TOP / "web"
+TRIES = 20
 
 
 class Engine:
@@ -53,19 +56,30 @@ class Engine:
         self.end()
 
 
+def serve(
+    *words: object, port: int | None = None, before: Sequence[object] = ()
+) -> tuple[Child, int]:
+    """`web/serve` with some words, and its port: a free one, where none is told. Where another
+    program takes that before it is listened at, another one is tried.
+    """
+    for _ in range(1 if port else TRIES):
+        number = port or free_port()
+        child = Child([*before, WEB / "serve", "--port", number, *words])
+        if child.first_line():
+            return child, number
+        child.end()
+    raise Fault(f"web/serve does not start at port {number}")
+
+
 class Pages:
     """`web/serve` in front of an engine."""
 
     def __init__(self, engine: int | Engine, port: int | None = None, *words: object) -> None:
-        self.port = port or free_port()
-        self.base = f"http://127.0.0.1:{self.port}"
         if isinstance(engine, Engine):
             self.engine = engine
         number = engine.port if isinstance(engine, Engine) else engine
-        command = [WEB / "serve", "--engine", number, "--port", self.port, *words]
-        self.child = Child(command)
-        if not self.child.first_line():
-            raise Fault(f"web/serve does not start at port {self.port}")
+        self.child, self.port = serve("--engine", number, *words, port=port)
+        self.base = f"http://127.0.0.1:{self.port}"
 
     def ask(self, path: str, method: str = "GET", body: bytes | None = None) -> Any:
         """The JSON value of a reply."""
@@ -92,48 +106,91 @@ class Nginx(Pages):
     """nginx in front of an engine, as deploy/nginx.conf has it, with other ports and folders."""
 
     def __init__(self, engine: Engine) -> None:
-        self.port, self.engine = free_port(), engine
-        self.base = f"http://127.0.0.1:{self.port}"
+        self.engine = engine
         self.folder = tempfile.TemporaryDirectory(prefix="maplabel-nginx-")
         at = Path(self.folder.name)
         at.chmod(0o711)  # nginx's workers are others
+        self.published = at / "published"
+        self.published.mkdir()
+        for _ in range(TRIES):
+            self.port = free_port()
+            self.base = f"http://127.0.0.1:{self.port}"
+            self._configure(at)
+            self.child = _nginx(at, f"include {at}/site.conf;")
+            if answers(self.child, self.base + "/rev"):
+                return
+        told = (at / "errors").read_text(encoding="utf-8")
+        self.end()
+        raise Fault(f"nginx does not answer: {told[-300:]}")
+
+    def _configure(self, at: Path) -> None:
+        """Writes deploy/nginx.conf with ports and folders of one's own."""
         changes = {
             "/opt/maplabel/deploy/": f"{at}/",
             "/opt/maplabel": str(TOP),
             "8080": str(self.port),
             "47101": str(free_port()),
-            "47100": str(engine.port),
+            "47100": str(self.engine.port),
             "/var/lib/nginx/maplabel": f"{at}/cache",
+            "/run/maplabel/published": f"{at}/published",
         }
         for source in (TOP / "deploy" / "nginx.conf", *(TOP / "deploy").glob("nginx-*.inc")):
             text = source.read_text(encoding="utf-8")
             for here, there in changes.items():
                 text = text.replace(here, there)
             (at / source.name.replace("nginx.conf", "site.conf")).write_text(text, encoding="utf-8")
-        kinds = ("client_body", "proxy", "fastcgi", "uwsgi", "scgi")
-        folders = " ".join(f"{kind}_temp_path {at}/{kind};" for kind in kinds)
-        (at / "nginx.conf").write_text(
-            f"daemon off; pid {at}/pid; events {{}} http {{ include /etc/nginx/mime.types;"
-            f" access_log off; {folders} include {at}/site.conf; }}\n",
-            encoding="utf-8",
-        )
-        self.child = Child(["nginx", "-e", at / "errors", "-c", at / "nginx.conf"])
-        self._wait(at / "errors")
-
-    def _wait(self, errors: Path) -> None:
-        for _ in range(100):
-            try:
-                self.ask("/rev")
-                return
-            except OSError:
-                time.sleep(0.05)
-        told = errors.read_text(encoding="utf-8") if errors.exists() else ""
-        self.end()
-        raise Fault(f"nginx does not answer: {told[-300:]}")
 
     def end(self) -> None:
         super().end()
         self.folder.cleanup()
+
+
+def _nginx(at: Path, servers: str) -> Child:
+    """nginx with some servers, whose own files lie in a folder."""
+    kinds = ("client_body", "proxy", "fastcgi", "uwsgi", "scgi")
+    folders = " ".join(f"{kind}_temp_path {at}/{kind};" for kind in kinds)
+    (at / "nginx.conf").write_text(
+        f"daemon off; pid {at}/pid; events {{}} http {{ include /etc/nginx/mime.types;"
+        f" access_log off; {folders} {servers} }}\n",
+        encoding="utf-8",
+    )
+    return Child(["nginx", "-e", at / "errors", "-c", at / "nginx.conf"])
+
+
+def answers(child: Child, address: str) -> bool:
+    """Awaits an answer of a server; where there is none, its process is ended."""
+    until = time.monotonic() + 20
+    while child.is_running() and time.monotonic() < until:
+        with contextlib.suppress(OSError):
+            urllib.request.urlopen(address, timeout=20).close()
+            return True
+        time.sleep(0.05)
+    child.end()
+    return False
+
+
+class StaticNginx:
+    """nginx as a host of files, which sends packed what lies packed beside a file."""
+
+    def __init__(self, folder: str | Path) -> None:
+        self.own = tempfile.TemporaryDirectory(prefix="maplabel-nginx-")
+        at = Path(self.own.name)
+        at.chmod(0o711)
+        for _ in range(TRIES):
+            port = free_port()
+            self.base = f"http://127.0.0.1:{port}"
+            served = f"listen 127.0.0.1:{port}; root {folder}; gzip_static on;"
+            self.child = _nginx(at, f"server {{ {served} }}")
+            if answers(self.child, self.base + "/"):
+                return
+        raise Fault(f"nginx does not serve {folder}")
+
+    def __enter__(self) -> "StaticNginx":
+        return self
+
+    def __exit__(self, *_: object) -> None:
+        self.child.end()
+        self.own.cleanup()
 
 
 class _Quiet(http.server.SimpleHTTPRequestHandler):
@@ -146,10 +203,11 @@ class Files:
     unpacks.
     """
 
-    def __init__(self, folder: str | Path) -> None:
+    def __init__(self, folder: str | Path, port: int = 0) -> None:
         handler = functools.partial(_Quiet, directory=str(folder))
-        self.server = http.server.ThreadingHTTPServer(("127.0.0.1", 0), handler)
-        self.base = f"http://127.0.0.1:{self.server.server_address[1]}"
+        self.server = http.server.ThreadingHTTPServer(("127.0.0.1", port), handler)
+        self.port: int = self.server.server_address[1]
+        self.base = f"http://127.0.0.1:{self.port}"
         threading.Thread(target=self.server.serve_forever, daemon=True).start()
 
     def __enter__(self) -> "Files":

@@ -11,9 +11,7 @@ import time
 from pathlib import Path
 
 from chromium import Fault
-from maplabel_kit.ports import free_port
-from maplabel_kit.server import Child
-from servers import STYLE, WEB, WORLD, Pages, is_alive
+from servers import STYLE, WEB, WORLD, Pages, is_alive, serve
 
 # Targets and the statuses that they are answered with.
 TARGETS = {
@@ -48,9 +46,11 @@ def _raw(port: int, text: str) -> bytes:
         return found
 
 
-def _status(port: int, target: str, host: str, method: str = "GET", more: str = "") -> int:
+def _status(
+    port: int, target: str, host: str, method: str = "GET", more: str = "", body: str = ""
+) -> int:
     head = f"{method} {target} HTTP/1.1\r\nHost: {host}\r\nConnection: close\r\n{more}\r\n"
-    reply = _raw(port, head)
+    reply = _raw(port, head + body)
     if b"Traceback" in reply or not reply.startswith(b"HTTP/1.1 "):
         raise Fault(f"{method} {target} was answered with {reply[:200]!r}")
     return int(reply.split(b" ")[1])
@@ -87,24 +87,24 @@ def _hosts(pages: Pages) -> None:
 
 def _edits(pages: Pages) -> None:
     own = f"127.0.0.1:{pages.port}"
-    for more, wanted in (
-        ("Content-Length: x\r\n", 400),
-        ("Content-Length: -1\r\n", 400),
-        ("Content-Length: \u00b2\r\n", 400),
-        ("Content-Length: 9999999\r\n", 413),
-        ("Content-Length: 0\r\n", 403),
-        ("X-Edit: 1\r\nContent-Length: 0\r\n", 422),
+    for more, body, wanted in (
+        ("Content-Length: x\r\n", "", 400),
+        ("Content-Length: -1\r\n", "", 400),
+        ("Content-Length: \u00b2\r\n", "", 400),
+        ("Content-Length: 9999999\r\n", "", 413),
+        ("Content-Length: 0\r\n", "", 403),
+        ("Content-Length: 2\r\n", "{}", 403),
+        ("X-Edit: 1\r\nContent-Length: 0\r\n", "", 422),
+        ("X-Edit: 1\r\nContent-Length: 2\r\n", "{}", 422),
     ):
-        if (got := _status(pages.port, "/feature", own, "POST", more)) != wanted:
+        if (got := _status(pages.port, "/feature", own, "POST", more, body)) != wanted:
             raise Fault(f"an edit with {more!r} was answered with {got}, not with {wanted}")
 
 
 def _style(program: str) -> None:
     """A page is told the style, and the new one once it is replaced."""
-    port = free_port()
-    words = [WEB / "serve", "--port", port, "--program", program, STYLE, WORLD]
-    with Child(words) as served:
-        served.first_line()
+    served, port = serve("--program", program, STYLE, WORLD)
+    with served:
         link = http.client.HTTPConnection("127.0.0.1", port, timeout=20)
         link.request("GET", "/style.json")
         before = json.loads(link.getresponse().read())
@@ -121,19 +121,19 @@ def _style(program: str) -> None:
 def _ends(program: str) -> None:
     """A signal ends the server and its engine, also of one in the background; its folder goes."""
     for number in (signal.SIGTERM, signal.SIGINT, signal.SIGHUP):
-        port = free_port()
-        words = [WEB / "serve", "--project", "--port", port, "--program", program, STYLE, WORLD]
         # The shell has told a process in the background to ignore SIGINT.
-        served = Child(["sh", "-c", 'trap "" INT; exec "$@"', "sh", *words])
-        served.first_line()
+        shell = ("sh", "-c", 'trap "" INT; exec "$@"', "sh")
+        served, _ = serve("--project", "--program", program, STYLE, WORLD, before=shell)
         path = f"/proc/{served.process.pid}/task/{served.process.pid}/children"
         with open(path, encoding="ascii") as file:
             (engine,) = map(int, file.read().split())
         with open(f"/proc/{engine}/cmdline", "rb") as file:
             folder = re.search(rb"(/[^\0]*)/style.toml", file.read())
         served.process.send_signal(number)
-        served.process.wait(10)
-        time.sleep(0.2)
+        served.process.wait(20)
+        until = time.monotonic() + 5
+        while is_alive(engine) and time.monotonic() < until:
+            time.sleep(0.05)
         if is_alive(engine) or folder is None or _is_there(folder[1]):
             raise Fault(f"signal {number} leaves the engine {engine} or its folder {folder}")
         served.end()

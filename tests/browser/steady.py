@@ -72,6 +72,11 @@ MOMENT = (
 )
 
 
+# The pixel of a place in the Bay of Biscay, where no name stands.
+AT_SEA = """(({ x, y }) => [Math.round(x), Math.round(y)])(
+  page.leaflet.latLngToContainerPoint([46, -5]))"""
+
+
 def northing(latitude: float) -> float:
     return math.log(math.tan(math.pi / 4 + math.radians(latitude) / 2)) / (2 * math.pi)
 
@@ -171,6 +176,20 @@ def zoom(browser: Browser, watch: Watch, anchor: Any, picture: Taken) -> None:
         watch.look(browser, anchor, step)
 
 
+def all_due(pages: Pages, browser: Browser) -> int:
+    """The names of the plain page at rest are those that the engine has for its window."""
+    browser.tell(AT_REST)
+    (width, height), (cx, cy, s) = browser.size, browser.tell(
+        "[Math.round(page.map.u), Math.round(-page.map.v), page.map.scale.text]"
+    )
+    path = f"/view?cx={cx}&cy={cy}&w={width - 4}&h={height - 4}&s={s}"
+    due = {one["id"] for one in pages.ask(path)["labels"]}
+    absent = due - set(browser.tell("page.names.drawn().map(one => one.id)"))
+    if absent or not due:
+        raise Fault(f"of {len(due)} names that are due at {path} {sorted(absent)} are not drawn")
+    return len(due)
+
+
 PAGES = (
     ("plain", "plain.html#cx=85000000&cy=468000000&s=500000", Plain()),
     ("mercator", "mercator.html#lat=48&lng=10&z=5", Mercator()),
@@ -188,6 +207,8 @@ def steady(pages: Pages, folder: str) -> None:
                 path = os.path.join(folder, "%s-%s-%%02d.png" % (name, what))
                 act(browser, watch, anchor, lambda step: browser.picture(path % step))
                 browser.wait(SETTLED, "the names have come")
+                if name == "plain":
+                    print(f"plain, after the {what}: {all_due(pages, browser)} names are due")
                 print(
                     "%s, %s of 30 steps: %d names looked at, none further than %.3f pixels from its"
                     " anchor" % (name, what, watch.names, watch.most)

@@ -24,7 +24,11 @@ const LEAST = 0.7, LEAST_WHOLE = 0.4
 const MOST_TURN = 15
 const CLOSE = 1e-9
 // The height in pixels at which texts are measured, and the pixels of a step along a curve.
-const PROBE = 100, STEP = 2
+const PROBE = 250, STEP = 2
+// Outlines as the font has them: at small heights browsers move them to whole pixels, and ink then reaches out of its box.
+const EXACT = 'geometricPrecision'
+// Radians by which a level letter is turned, since a level base line is moved to whole pixels as well.
+const LEVEL = 1e-5
 // Pixels that are as good as none where an x is sought.
 const NEAR = 1e-12
 // How many names are remembered.
@@ -317,6 +321,7 @@ function lettersIn(pen, run, family) {
   pen.save()
   pen.font = `${PROBE}px ${family}`
   pen.textAlign = 'left'
+  pen.textRendering = EXACT
   pen.fontKerning = isWhole(run) ? 'auto' : 'none'
   const found = (isWhole(run) ? [run] : lettersOf(run)).map(one => measured(pen, one))
   pen.restore()
@@ -435,6 +440,7 @@ export const forgetLays = () => known.clear()
 export function drawAlong(pen, lies, x, y, { colour, halo, haloWidth, family }) {
   pen.save()
   pen.font = `${lies.height}px ${family}`
+  pen.textRendering = EXACT
   pen.fontKerning = lies.kerning
   pen.textAlign = lies.isRun ? 'center' : 'left'
   pen.textBaseline = 'alphabetic'
@@ -458,7 +464,7 @@ export function drawAlong(pen, lies, x, y, { colour, halo, haloWidth, family }) 
 function drawPiece(pen, way, piece, x, y) {
   pen.save()
   pen.translate(x + piece.x, y - piece.y)
-  pen.rotate(-piece.angle)
+  pen.rotate(-piece.angle || LEVEL)
   pen[way](piece.text, 0, 0)
   pen.restore()
 }

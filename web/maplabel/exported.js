@@ -1,6 +1,7 @@
 // @ts-check
 // Names from files, without a server: a site's folder of names in pieces (`web/export --site`), or one file of points
 // with their zooms (`web/export`). A piece is fetched once the names in it are due on the screen, and is kept.
+import { classValueOf, isMade } from './facts.js'
 import { stateOf, Fault } from './request.js'
 import { northing, valueOf } from './plane.js'
 
@@ -56,11 +57,11 @@ async function fetchJson(address, isZipped, signal) {
  * @param {Style | null} style
  * @returns {Name} */
 function nameOf([order, id, text, number, x, y, min, until, sides, properties], style) {
-  const own = style?.classes[number]
+  const own = style?.classes[number], value = classValueOf(style, own, own?.geometry, properties ?? {})
   /** @type {Box[]} */
   const boxes = []
   for (let k = 0; k < sides.length; k += 4) boxes.push(/** @type {Box} */(sides.slice(k, k + 4)))
-  return { order, id, text, at: [x, y], boxes, min, until, class: number, value: own?.value ?? null, kind: own?.geometry,
+  return { order, id, text, at: [x, y], boxes, min, until, class: number, value, kind: own?.geometry,
     properties: properties ?? {}, least: valueOf(min), most: valueOf(until) }
 }
 
@@ -177,7 +178,7 @@ export class ExportSource {
     const style = file.maplabel?.style ?? null
     for (const name of names) {
       const own = style?.classes[name.class ?? -1]
-      name.value = own?.value ?? null
+      name.value = classValueOf(style, own, own?.geometry, {})
       name.kind = own?.geometry
     }
     this.index = { format: FORMAT, way, count: names.length, reach: 512, style, outlines: null, zipped: false,
@@ -323,7 +324,10 @@ export class ExportFacts {
   drop() {}
 
   /** @returns {Promise<import('./facts.js').Entry[]>} */
-  async entries() { return (await this.source.all()).map(({ id, text, value }) => ({ id, name: text.trim(), value })) }
+  async entries() {
+    return (await this.source.all()).map(({ id, text, value, class: number }) =>
+      ({ id, name: text.trim(), value, isMade: isMade(this.style?.classes[number ?? -1]) }))
+  }
 
   /** @param {string} id */
   async span(id) {

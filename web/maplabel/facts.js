@@ -9,18 +9,41 @@ import { stateOf } from './request.js'
 /** @typedef {import('./types.js').Kind} Kind */
 /** @typedef {import('./types.js').Span} Span */
 /** @typedef {import('./types.js').Style} Style */
+/** @typedef {import('./types.js').StyleClass} StyleClass */
 /** @typedef {{ class?: number, value?: string | null, kind?: Kind, properties?: { [key: string]: any } }} Known */
-/** @typedef {{ id: string, name: string, value?: string | null }} Entry */
+/** @typedef {{ id: string, name: string, value?: string | null, isMade?: boolean }} Entry */
 
 const AGAIN = 1000
 const PATIENCE = 1500                                    // how long names wait for what is known of them
 const ALWAYS = ['line_height', 'line_spacing', 'line_label']
+/** The property that names the classes that tools/lines makes, one for each range of zooms and height of boxes. */
+const MADE = 'line_label'
+/** The property that tells what a feature is where the style does not. */
+const KIND = 'kind'
 /** @type {{ [type: string]: Kind }} */
 const KINDS = { Point: 'point', MultiPoint: 'point', LineString: 'line', MultiLineString: 'line', Polygon: 'area', MultiPolygon: 'area' }
 
 /** The text of a property, as classes compare it.
  * @param {any} value */
 const textOf = value => ['string', 'number', 'boolean'].includes(typeof value) ? String(value) : null
+
+/** Whether a class was made for names along lines.
+ * @param {StyleClass | undefined} one */
+export const isMade = one => one?.key === MADE
+
+/** What tells a feature from others, as 'city' or 'street': the value of its class, or else the text of the property that
+ * classes ask for, or of `kind`.
+ * @param {Style | null} style
+ * @param {StyleClass | undefined} own its class
+ * @param {Kind | undefined} kind
+ * @param {{ [key: string]: any }} properties
+ * @returns {string | null} */
+export function classValueOf(style, own, kind, properties) {
+  if (own?.value !== undefined && !isMade(own)) return own.value
+  const keyed = (style?.classes ?? []).filter(one => one.key !== undefined && !isMade(one))
+  const key = (keyed.find(one => one.geometry === kind) ?? keyed[0])?.key
+  return (key === undefined ? null : textOf(properties[key])) ?? textOf(properties[KIND])
+}
 
 /** What a style makes of a feature: the number of the first class that fits, and its value.
  * @param {Feature} feature
@@ -30,14 +53,16 @@ export function knownOf(feature, style) {
   const kind = KINDS[feature.geometry?.type ?? ''], properties = feature.properties ?? {}
   const number = (style?.classes ?? []).findIndex(one =>
     one.geometry === kind && (one.key === undefined || textOf(properties[one.key]) === one.value))
-  /** @type {Known} */
-  const known = { kind, properties }
-  if (number >= 0) known.class = number
-  const own = style?.classes[number]
-  const keys = (style?.classes ?? []).filter(one => one.key !== undefined)
-  const key = own?.key ?? (keys.find(one => one.geometry === kind) ?? keys[0])?.key
-  if (key !== undefined) known.value = own?.value ?? textOf(properties[key])
-  return known
+  const known = { kind, properties, value: classValueOf(style, style?.classes[number], kind, properties) }
+  return number < 0 ? known : { ...known, class: number }
+}
+
+/** Entries without the repeated names of one line: of those that were made for lines, the first of each text stays.
+ * @param {Entry[]} all
+ * @returns {Entry[]} */
+export function withoutRepeats(all) {
+  const seen = new Set()
+  return all.filter(one => !one.isMade || !seen.has(one.name) && seen.add(one.name))
 }
 
 /** @param {{ [key: string]: any } | undefined} properties
@@ -147,7 +172,10 @@ export class ServerFacts {
   async entries() {
     const state = this.isOld || this.state === null ? await this.learn() : this.state
     await this.learnMap()
-    return [...state.keys()].map(id => ({ id, name: this.titles.get(id) ?? id, value: this.known?.get(id)?.value }))
+    return [...state.keys()].map(id => {
+      const { value, properties } = this.known?.get(id) ?? {}
+      return { id, name: this.titles.get(id) ?? id, value, isMade: properties?.[MADE] !== undefined }
+    })
   }
 
   /** @param {string} id

@@ -15,4 +15,4 @@ declare class OffscreenCanvas {
   transferToImageBitmap(): ImageBitmap
 }
 
-interface CanvasRenderingContext2D { fontKerning: string }
+interface CanvasRenderingContext2D { fontKerning: string, textRendering: string }

@@ -109,7 +109,10 @@ export function listenWheel(element, act, signal, isShy = false) {
  * @param {HTMLElement} element
  * @param {AbortSignal} signal */
 export function focusByTouch(element, signal) {
-  if (!element.hasAttribute('tabindex')) element.tabIndex = 0
+  if (!element.hasAttribute('tabindex')) {
+    element.tabIndex = 0
+    signal.addEventListener('abort', () => element.removeAttribute('tabindex'))
+  }
   element.addEventListener('pointerdown', () => element.focus({ preventScroll: true }), { signal })
 }
 

@@ -23,7 +23,7 @@ export const LIGHT = {
     country: { colour: '#4b2e6b' }, state: { colour: '#6a4f86' },
     point: { colour: '#1a1a1a', dot: '#222222' }, small: { colour: '#1a1a1a', dot: '#666666' },
     line: { colour: '#1f5f96' }, area: { colour: '#4b2e6b' }, 'small area': { colour: '#6a4f86' },
-    road: { colour: '#5d4a2c' }, street: { colour: '#5d4a2c' }, park: { colour: '#2f6b35' }, forest: { colour: '#2f6b35' },
+    road: { colour: '#5d4a2c' }, street: { colour: '#5d4a2c' }, park: { colour: '#2b6231' }, forest: { colour: '#2b6231' },
     lake: { colour: '#1f5f96' }, water: { colour: '#1f5f96' }, sea: { colour: '#1f5f96' }, peak: { colour: '#6b3f1d', dot: '#6b3f1d' }
   },
   shapes: {

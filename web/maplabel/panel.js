@@ -180,6 +180,10 @@ export class Card {
   hide() { this.element.hidden = true }
 }
 
+/** Whose data it is.
+ * @param {string} attribution as HTML */
+export const creditOf = attribution => make('span', { className: 'ml-credit', hidden: !attribution, innerHTML: attribution })
+
 const ROUND = [1, 2, 5]
 
 /** A bar as long as a round length of at most so many pixels.
@@ -229,8 +233,7 @@ export class Panel {
     this.note = notice.element
     this.again = make('button', { type: 'button', textContent: 'Ask again', hidden: !hasAgain,
       title: 'The map was edited: ask for its names again', onclick: act.again })
-    const credit = make('span', { className: 'ml-credit', hidden: !attribution, innerHTML: attribution })
-    this.bar = make('footer', { className: 'ml-bar' }, this.scale.element, this.where, this.note, this.again, credit)
+    this.bar = make('footer', { className: 'ml-bar' }, this.scale.element, this.where, this.note, this.again, creditOf(attribution))
     this.parts = [this.finder.element, this.card, this.bar]
     const { zoom } = act
     if (zoom)

@@ -2,7 +2,7 @@
 // One map of names over one ground: what is drawn, asked, told and found. The ground tells where its plane stands;
 // a page, the Leaflet layer and the canvas without Leaflet are all thin users of this.
 import { baseOf, Server } from './request.js'
-import { ServerFacts, NoFacts } from './facts.js'
+import { ServerFacts, NoFacts, withoutRepeats } from './facts.js'
 import { ExportSource } from './exported.js'
 import { TileSource } from './tiles.js'
 import { Names } from './names.js'
@@ -14,7 +14,7 @@ import { familyOf, lackingFonts } from './fonts.js'
 import { middleOf, zoomOf } from './plane.js'
 import { matches } from './labels.js'
 import { explain, scaleFor } from './explain.js'
-import { make, Notice, Panel } from './panel.js'
+import { creditOf, make, Notice, Panel } from './panel.js'
 import { ReaderList } from './reader.js'
 
 /** @typedef {import('./types.js').Label} Label */
@@ -101,8 +101,8 @@ export class Viewer {
   /** Puts what is drawn and what stands about it into the element.
    */
   place() {
-    const { title = 'Map of names' } = this.options
-    const parts = this.panel ? this.panel.parts : [make('footer', { className: 'ml-bar ml-quiet' }, this.notice.element)]
+    const { title = 'Map of names', attribution = '' } = this.options
+    const parts = this.panel?.parts ?? [make('footer', { className: 'ml-bar ml-quiet' }, this.notice.element, creditOf(attribution))]
     const root = make('div', { className: 'ml-panel' }, ...parts, this.list.element)
     for (const kind of ['pointerdown', 'mousedown', 'touchstart', 'click', 'dblclick', 'contextmenu', 'wheel', 'keydown'])
       root.addEventListener(kind, event => event.stopPropagation(), { passive: true })
@@ -195,7 +195,7 @@ export class Viewer {
   checkNames() {
     if (this.facts.count === 0) this.notice.stay('This map has no names: its style gives no feature one.')
     const pen = this.canvas.getContext('2d')
-    for (const sentence of pen && this.facts.style ? lackingFonts(pen, this.facts.style.fonts, this.options.font) : []) {
+    for (const sentence of pen && this.facts.style ? lackingFonts(pen, this.facts.style, this.options.font) : []) {
       if (!this.notice.lasting.includes(sentence)) console.warn('maplabel: ' + sentence)
       this.notice.stay(sentence)
     }
@@ -205,6 +205,13 @@ export class Viewer {
     forgetWidths()
     forgetLays()
     this.draw()
+  }
+
+  /** What lies beneath the outlines. Where the author tells nothing, it is land once it is known that no area is there.
+   */
+  get background() {
+    const hasAreas = this.shapes === null || this.shapes[0]?.kind === 'area'
+    return this.options.background ?? (hasAreas ? 'sea' : 'land')
   }
 
   /** How a name looks: as its class does, or as the author tells.
@@ -236,7 +243,7 @@ export class Viewer {
     if (!this.names || this.breaker.signal.aborted) return
     const [width, height] = this.map.size(), { colours } = this
     if (!(width > 0 && height > 0)) return
-    const { background = 'sea' } = this.options
+    const { background } = this
     this.ground.style.background = !this.hasOutlines || background === 'none' ? 'none' : colours[background]
     if (this.hasOutlines) {
       const pen = clear(this.ground, width, height)
@@ -298,7 +305,7 @@ export class Viewer {
   scale() { return this.names.scaleOf(this.map.frame()).value }
 
   /** @param {string} letters */
-  async find(letters) { return matches(letters, await this.facts.entries(), 12) }
+  async find(letters) { return matches(letters, withoutRepeats(await this.facts.entries()), 12) }
 
   /** Shows the place of a name; at a scale that shows the name, but where the page explains, at this one.
    * @param {string} id

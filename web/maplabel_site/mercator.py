@@ -13,6 +13,7 @@ from typing import Any
 from maplabel_kit.faults import Fault
 
 CUT = 85.0511287798066
+EAST, NORTH = 200, 90  # degrees beyond which the engine takes no position
 SCALE_LINE = re.compile(
     r'^(\s*(min|max|ref)\s*=\s*)("?)(\d+)(?:/(\d+))?("?)(\s*(?:#.*)?)$', re.MULTILINE
 )
@@ -21,6 +22,11 @@ Way = Callable[[float, float], tuple[float, float]]
 
 def forward(x: float, y: float) -> tuple[float, float]:
     """The place in the plane of a longitude and a latitude."""
+    if not (abs(x) <= EAST and abs(y) <= NORTH):
+        raise Fault(
+            f"the position {x}, {y} is no longitude and latitude; it looks like metres: "
+            "export the map in degrees (ogr2ogr -t_srs EPSG:4326)"
+        )
     kept = min(max(y, -CUT), CUT)
     return x / 2, math.degrees(math.log(math.tan(math.pi / 4 + math.radians(kept) / 2))) / 2
 
@@ -57,9 +63,12 @@ def project_map(text: str, way: Way) -> str:
         raise Fault("this is no map file")
     features = world["features"] if world["type"] == "FeatureCollection" else [world]
     made = []
-    for feature in features:
+    for number, feature in enumerate(features):
         kept = {key: value for key, value in feature.items() if key != "bbox"}
-        geometry = _move_geometry(feature.get("geometry"), way)
+        try:
+            geometry = _move_geometry(feature.get("geometry"), way)
+        except Fault as fault:
+            raise Fault(f"feature {feature.get('id', f'#{number}')}: {fault}") from None
         made.append(json.dumps({**kept, "geometry": geometry}, ensure_ascii=False))
     return '{"type": "FeatureCollection", "features": [\n%s\n]}\n' % ",\n".join(made)
 

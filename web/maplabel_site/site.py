@@ -13,9 +13,11 @@ from html import escape
 from pathlib import Path
 from typing import Any
 
+from maplabel_kit.along import MADE
 from maplabel_kit.faults import Fault
 from maplabel_kit.files import must_read
 from maplabel_kit.geojson import Feature
+from maplabel_kit.style import Class
 from maplabel_site import bundle, mercator
 from maplabel_site.names import ALWAYS, Labelled, Name
 
@@ -24,6 +26,7 @@ WEB = HERE.parent
 LEAFLET = Path("/usr/share/javascript/leaflet")
 FORMAT = "maplabel names 1"
 INDEX = Path("names", "index.json")
+KIND = "kind"  # the property that tells what a feature is where the style does not
 MOST_ROWS = 250
 SIDE = 1_000_000_000
 FEWEST_BYTES = 200
@@ -39,7 +42,7 @@ class Wish:
     zooms: tuple[int, int]
     tiles: str | None
     credit: str
-    background: str
+    background: str | None
     told: Sequence[str]
     leaflet: Path
 
@@ -164,7 +167,8 @@ def _row(number: int, name: Name, told: Sequence[str]) -> list[object]:
     ends = [f"{scale.numerator}/{scale.denominator}" for scale in (label.least, label.until)]
     sides = [side for box in label.boxes for side in box]
     row = [number, label.id, name.text, name.place, label.x, label.y, *ends, sides]
-    properties = _chosen(name.feature, [*told, *ALWAYS])
+    own = [KIND] if MADE in name.feature.properties else []
+    properties = _chosen(name.feature, [*told, *ALWAYS, *own])
     return [*row, properties] if properties else row
 
 
@@ -186,18 +190,14 @@ def _outlines(
 ) -> Iterator[dict[str, Any]]:
     """The lines and areas, each with what is known of it."""
     for feature in made.features:
-        if feature.kind not in ("line", "area") or "line_label" in feature.properties:
+        if feature.kind not in ("line", "area") or MADE in feature.properties:
             continue
         geometry = feature.geometry or {}
         places = _thinned(geometry["coordinates"])
         own = made.style.class_of(feature)
-        keyed = [one for one in style["classes"] if "key" in one]
-        keys: list[str] = [one["key"] for one in keyed if one["geometry"] == feature.kind]
-        keys += [one["key"] for one in keyed]
-        key = own.key if own and own.key else (keys[0] if keys else None)
         known: dict[str, Any] = {
             "kind": feature.kind,
-            "value": feature.text(key),
+            "value": feature.text(_key_of(feature, own, style)) or feature.text(KIND),
             "properties": _chosen(feature, told),
         }
         yield {
@@ -206,6 +206,18 @@ def _outlines(
             "geometry": {"type": geometry["type"], "coordinates": places},
             "properties": None,
         }
+
+
+def _key_of(feature: Feature, own: Class | None, style: dict[str, Any]) -> str | None:
+    """The property that tells what a feature is: that of its class, or the one that classes of its
+    kind, or of any, ask for.
+    """
+    if own and own.key:
+        return own.key
+    keyed = [one for one in style["classes"] if one.get("key", MADE) != MADE]
+    keys: list[str] = [one["key"] for one in keyed if one["geometry"] == feature.kind]
+    keys += [one["key"] for one in keyed]
+    return keys[0] if keys else None
 
 
 def _thinned(coordinates: list[Any]) -> list[Any]:
@@ -243,8 +255,9 @@ def _page(made: Labelled, wish: Wish) -> str:
         "attribution": wish.attribution,
         "zooms": list(wish.zooms),
         "bounds": _bounds(made.names),
-        "background": wish.background,
     }
+    if wish.background:
+        options["background"] = wish.background
     if wish.tiles:
         options |= {"tiles": wish.tiles, "credit": wish.credit, "outlines": False}
     text = must_read(HERE / "page.html", "the page of sites").decode("utf-8")
