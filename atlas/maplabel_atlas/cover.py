@@ -49,14 +49,21 @@ def meet(place: Real, extents: Real, area: Area, scale: Real) -> Truth:
 
 
 class Cover:
-    """Labels in bands by how far out they are compared, and in a band from west to east."""
+    """Some rows of columns, in bands by how far out they are compared, and in a band from west to
+    east.
+    """
 
     def __init__(self, rows: Whole, place: Real, extents: Real, scales: Real) -> None:
-        bands = np.floor(np.log2(np.maximum(scales, LEAST_BAND))).astype(np.int64)
-        order = np.lexsort((place[:, 0], bands))
-        self._rows, self._scales = rows[order], scales[order]
-        self._place, self._extents = place[order], extents[order]
-        self._most_side = float(np.abs(extents).max(initial=0))
+        """`place` and `extents` are those of all labels, which stay as they are. Of the scales
+        those of now are kept.
+        """
+        told = scales[rows]
+        bands = np.floor(np.log2(np.maximum(told, LEAST_BAND))).astype(np.int16)
+        east = place[rows, 0]
+        order = np.lexsort((east, bands))
+        self._rows, self._scales, self._east = rows[order], told[order], east[order]
+        self._place, self._extents = place, extents
+        self._most_side = float(max(np.max(extents, initial=0), -np.min(extents, initial=0)))
         found, first = np.unique(bands[order], return_index=True)
         self._bands = list(zip(found.tolist(), first.tolist(), [*first[1:].tolist(), len(rows)]))
 
@@ -70,10 +77,9 @@ class Cover:
         reach = min(2.0 ** (band + 1), most) * MORE
         west = area.places[0] + (area.sides[0] - self._most_side) * reach - 1
         east = area.places[2] + (area.sides[2] + self._most_side) * reach + 1
-        low, high = begin + np.searchsorted(self._place[begin:end, 0], [west, east])
-        cut = slice(low, high)
-        scales = np.minimum(self._scales[cut], most)
-        rows: Whole = self._rows[cut]
-        is_met = meet(self._place[cut], self._extents[cut], area, scales)
+        low, high = begin + np.searchsorted(self._east[begin:end], [west, east])
+        rows = self._rows[low:high]
+        scales = np.minimum(self._scales[low:high], most)
+        is_met = meet(self._place[rows], self._extents[rows], area, scales)
         found: Whole = rows[is_met]
         return found

@@ -11,8 +11,9 @@ from maplabel_atlas.ends import NONE
 from maplabel_atlas.engine import Engine
 from maplabel_atlas.faults import Fault
 from maplabel_atlas.labelling import LabelCall
-from maplabel_atlas.labels import Labels, join
+from maplabel_atlas.labels import Labels
 from maplabel_atlas.parts import Bare, Part, together
+from maplabel_atlas.splice import Splice
 from maplabel_atlas.style import Style
 
 MOST_FEATURES = 30_000
@@ -64,23 +65,26 @@ def edited(state: State, edit: Edit, rules: Style, engine: Engine) -> Edited:
     new, bare, _ = together([part])
     removed = _names(list(edit.removed))
     named = np.unique(np.concatenate([part.own_ids, removed]))
-    is_gone = np.isin(state.labels.ids, named)
-    known = np.concatenate([state.labels.ids[is_gone], state.bare.ids])
+    gone = np.flatnonzero(np.isin(state.labels.ids, named))
+    known = np.concatenate([state.labels.ids[gone], state.bare.ids])
     unknown = [name.decode() for name in removed[~np.isin(removed, known)].tolist()]
-    kept = np.flatnonzero(~is_gone)
-    order, place = _merged(state.labels, kept, new)
+    before = [_place_of(state.labels, new, row) for row in range(len(new))]
+    splice = Splice(len(state.labels), gone, np.array(before, dtype=np.int64))
+    none = np.full(len(new), NONE, dtype=np.int64)
+    row_before = splice.column(np.arange(len(state.labels)), none)
     row_of = np.full(len(state.labels) + 1, NONE, dtype=np.int64)  # the last one is for no blocker
-    row_of[kept] = place[: len(kept)]
-    was = state.blocker[kept]
-    is_bereft = (was != NONE) & (row_of[was] == NONE)
-    until = np.concatenate([state.until[kept], new.most])[order]
-    blocker = np.concatenate([row_of[was], np.full(len(new), NONE, dtype=np.int64)])[order]
-    rows = np.concatenate([kept, len(state.labels) + np.arange(len(new))])
-    labels = join([state.labels, new]).take(rows[order])
-    after = State(labels, until, blocker, state.bare.without(named).plus(bare))
-    return Edited(
-        after, np.sort(place[len(kept) :]), np.sort(place[: len(kept)][is_bereft]), named, unknown
+    kept = np.flatnonzero(row_before != NONE)
+    row_of[row_before[kept]] = kept
+    was = splice.column(state.blocker, none)
+    blocker = row_of[was]
+    after = State(
+        splice.labels(state.labels, new),
+        splice.column(state.until, new.most),
+        blocker,
+        state.bare.without(named).plus(bare),
     )
+    bereft = np.flatnonzero((was != NONE) & (blocker == NONE))
+    return Edited(after, np.flatnonzero(row_before == NONE), bereft, named, unknown)
 
 
 def _part(edit: Edit, rules: Style, engine: Engine) -> Part:
@@ -110,28 +114,13 @@ def _names(ids: list[str]) -> Texts:
     return np.array([one.encode() for one in ids], dtype="S") if ids else np.zeros(0, dtype="S1")
 
 
-def _merged(labels: Labels, kept: Whole, new: Labels) -> tuple[Whole, Whole]:
-    """The order of the kept labels with new ones behind them, and the place of each of these in
-    that order.
-    """
-    at = np.array([_place_of(labels, kept, new, row) for row in range(len(new))], dtype=np.int64)
-    place = np.empty(len(kept) + len(new), dtype=np.int64)
-    shift = np.zeros(len(kept) + 1, dtype=np.int64)
-    np.add.at(shift, at, 1)
-    place[: len(kept)] = np.arange(len(kept)) + np.cumsum(shift)[:-1]
-    place[len(kept) :] = at + np.arange(len(new))
-    order = np.empty(len(place), dtype=np.int64)
-    order[place] = np.arange(len(place))
-    return order, place
-
-
-def _place_of(labels: Labels, kept: Whole, new: Labels, row: int) -> int:
-    """How many kept labels stand before a new one in priority order."""
+def _place_of(labels: Labels, new: Labels, row: int) -> int:
+    """The first label that does not stand before a new one in priority order."""
     wanted = _rank_of(new, row)
-    low, high = 0, len(kept)
+    low, high = 0, len(labels)
     while low < high:
         middle = (low + high) // 2
-        if _rank_of(labels, int(kept[middle])) < wanted:
+        if _rank_of(labels, middle) < wanted:
             low = middle + 1
         else:
             high = middle

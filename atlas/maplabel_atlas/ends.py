@@ -69,7 +69,7 @@ class Ends:
 
     def cover(self, rows: Whole) -> Cover:
         """The cover of some labels, up to the ends that are known now."""
-        return Cover(rows, self.place[rows], self.extents[rows], self.value[rows])
+        return Cover(rows, self.place, self.extents, self.value)
 
     def area(self, rows: Whole) -> Area:
         """The area of some labels."""

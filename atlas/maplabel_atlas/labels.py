@@ -2,11 +2,13 @@
 
 from dataclasses import dataclass, fields
 from pathlib import Path
-from typing import Any
+from typing import Any, Literal
 
 import numpy as np
 
 from maplabel_atlas.arrays import Real, Texts, Whole, ranges
+
+Mode = Literal["c"] | None
 
 
 @dataclass
@@ -46,18 +48,19 @@ class Labels:
 
         A table knows no margins. With these boxes it has the same overlaps."""
         places, first = ranges(self.first[rows], np.diff(self.first)[rows])
-        room = np.repeat(self.margin[rows], np.diff(first))[:, None]
-        return self.boxes[places] + room * np.array([-1, -1, 1, 1]), first
+        return _widened(self.boxes[places], self.margin[rows], first), first
 
     def extents(self) -> Real:
         """For each label the least box that holds its anchor and its widened boxes."""
-        if not len(self):
-            return np.zeros((0, 4))
-        wide, first = self.wide(np.arange(len(self)))
-        low = np.minimum.reduceat(wide[:, :2], first[:-1])
-        high = np.maximum.reduceat(wide[:, 2:], first[:-1])
-        sides = np.concatenate([np.minimum(low, 0), np.maximum(high, 0)], axis=1)
-        found: Real = sides.astype(np.float64)
+        found: Real = np.zeros((len(self), 4))
+        if len(self):
+            wide = _widened(self.boxes.copy(), self.margin, self.first)
+            low, high = wide[:, :2], wide[:, 2:]
+            if len(wide) > len(self):
+                low = np.minimum.reduceat(low, self.first[:-1])
+                high = np.maximum.reduceat(high, self.first[:-1])
+            np.minimum(low, 0, out=found[:, :2])
+            np.maximum(high, 0, out=found[:, 2:])
         return found
 
     def order(self) -> Whole:
@@ -74,13 +77,25 @@ class Labels:
             np.save(folder / f"{one.name}.npy", getattr(self, one.name))
 
 
+def _widened(boxes: Whole, margin: Whole, first: Whole) -> Whole:
+    """Widens boxes, in their place, by the margins of the labels that they are of."""
+    room = np.repeat(margin, np.diff(first))[:, None]
+    boxes[:, :2] -= room
+    boxes[:, 2:] += room
+    return boxes
+
+
 PLAIN = tuple(one.name for one in fields(Labels) if one.name not in ("first", "boxes"))
-NARROW = ("margin", "number", "priority", "boxes")
 
 
-def load(folder: Path) -> Labels:
+def column(folder: Path, name: str, mode: Mode) -> Any:
+    """A column of a folder: read at once, or in the mode `c` mapped into memory."""
+    return np.load(folder / f"{name}.npy", mmap_mode=mode)
+
+
+def load(folder: Path, mode: Mode) -> Labels:
     """The labels of a folder."""
-    return Labels(**{one.name: np.load(folder / f"{one.name}.npy") for one in fields(Labels)})
+    return Labels(**{one.name: column(folder, one.name, mode) for one in fields(Labels)})
 
 
 def join(parts: list[Labels]) -> Labels:

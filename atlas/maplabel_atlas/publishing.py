@@ -5,6 +5,7 @@ from dataclasses import dataclass
 from pathlib import Path
 
 from maplabel_atlas.exports import Exports, Tiles
+from maplabel_atlas.faults import Fault
 from maplabel_atlas.names import Names
 from maplabel_atlas.postgis import NamesTable
 from maplabel_atlas.store import Atlas, Store
@@ -18,6 +19,11 @@ class Files:
     lines: Path | None
     geopackage: Path | None
     tiles: tuple[Tiles, ...]
+
+    def paths(self) -> list[Path]:
+        """Where these files are to stand."""
+        told = (self.lines, self.geopackage, *(one.path for one in self.tiles))
+        return [path for path in told if path is not None]
 
 
 def to_postgis(store: Store, atlas: Atlas, database: str, name: str, teller: Teller) -> None:
@@ -41,9 +47,12 @@ def to_postgis(store: Store, atlas: Atlas, database: str, name: str, teller: Tel
 
 def to_files(atlas: Atlas, wanted: Files, teller: Teller) -> None:
     """Writes files, each of which is there as a whole or not at all."""
+    for path in wanted.paths():
+        if not path.resolve().parent.is_dir():
+            raise Fault(f"there is no folder {path.parent} for {path.name}; make it first")
     names = Names(atlas.state)
-    beside = wanted.lines or wanted.geopackage or wanted.tiles[0].path
-    with tempfile.TemporaryDirectory(prefix=".atlas-", dir=beside.resolve().parent) as folder:
+    beside = wanted.paths()[0].resolve().parent
+    with tempfile.TemporaryDirectory(prefix=".atlas-", dir=beside) as folder:
         exports = Exports(names, Path(folder))
         if wanted.lines is not None:
             exports.lines(wanted.lines)

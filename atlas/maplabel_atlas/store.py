@@ -123,10 +123,16 @@ class Store:
         while True:
             at = self._present()
             try:
-                return _read(at)
+                return _read(at, None)
             except FileNotFoundError:
                 if self._present() == at:
                     raise
+
+    def mapped(self) -> Atlas:
+        """The atlas as it is now, whose columns are read when they are looked at: for the command
+        that holds it, since no other takes the files away.
+        """
+        return _read(self._present(), "c")
 
     def save(self, atlas: Atlas, changed: Texts | None = None) -> None:
         """Makes this the present generation. `changed` are the ids whose names are others than
@@ -189,13 +195,14 @@ class Store:
         return names
 
 
-def _read(at: Path) -> Atlas:
+def _read(at: Path, mode: columns.Mode) -> Atlas:
     """The atlas of a generation."""
-    bare = Bare(np.load(at / "bare_ids.npy"), np.load(at / "bare_reasons.npy"))
-    until, blocker = np.load(at / "until.npy"), np.load(at / "blocker.npy")
+    names = ("bare_ids", "bare_reasons", "until", "blocker")
+    ids, reasons, until, blocker = (columns.column(at, name, mode) for name in names)
     text = (at / "style.toml").read_text(encoding="utf-8")
     about = about_of((at / "about.json").read_text(encoding="utf-8"))
-    return Atlas(State(columns.load(at), until, blocker, bare), style.of_text(text), about)
+    state = State(columns.load(at, mode), until, blocker, Bare(ids, reasons))
+    return Atlas(state, style.of_text(text), about)
 
 
 @contextlib.contextmanager

@@ -23,7 +23,7 @@ class Updater:
 
     def __init__(self, store: Store, workers: Workers, teller: Teller) -> None:
         self._store, self._workers, self._teller = store, workers, teller
-        self.atlas = store.load()
+        self.atlas = store.mapped()
         if self.atlas.about.engine != workers.engine.digest:
             teller.say("the atlas was made by another build of the engine; `atlas audit` compares")
         self._changed: list[Texts] = []

@@ -1,16 +1,20 @@
 """Bad input: each mistake has a sentence that says what was found, where, and what to do."""
 
+import fcntl
 import json
 import os
 import threading
 import time
-from collections.abc import Callable
+from collections.abc import Callable, Sequence
 from pathlib import Path
 from typing import Any
 
-from stage import Layer, atlas, folder, layer
+from stage import Layer, atlas, columns, folder, layer
 
 COUNT = 300
+# An edit takes at most 30,000 features.
+TOO_MANY = 101
+NOWHERE = "host=/nowhere dbname=gis"
 
 
 class Tries:
@@ -39,9 +43,13 @@ class Tries:
     ) -> None:
         """Makes an atlas; what it says must hold some texts."""
         words = ["make", places, style, self._at / "out", "--workers", "1", *more]
+        self._try(words, status, *wanted)
+
+    def _try(self, words: Sequence[object], status: int, *wanted: str) -> None:
+        """Runs a command; what it says must hold some texts."""
         said = atlas(self._engine, *words, status=status).said
         for text in wanted:
-            assert text in said, f"{text!r} is not in what was said of {places.name}: {said}"
+            assert text in said, f"{text!r} is not in what was said of {words}: {said}"
         self.count += 1
 
     def _style(self, old: str, new: str) -> Path:
@@ -61,6 +69,12 @@ class Tries:
             self._layer(unnamed), self._good.six, 1, "gets a label", "'name'", "title", "pop"
         )
 
+        def bare(_: int, feature: dict[str, Any]) -> None:
+            feature["properties"] = {"place": "town"}
+
+        sentence = "no feature of"
+        self._make(self._layer(bare), self._good.six, 1, sentence, "the properties are place")
+
     def geometries(self) -> None:
         """Points mixed with lines: labels for points, a sentence for lines."""
 
@@ -73,6 +87,13 @@ class Tries:
         self._make(
             self._layer(mixed), self._good.six, 0, sentence, "no class for line", "20 NoClass"
         )
+
+        def lines(number: int, feature: dict[str, Any]) -> None:
+            at = feature["geometry"]["coordinates"]
+            feature["geometry"] = {"type": "LineString", "coordinates": [at, [0, 0]]}
+
+        sentence = "none fits a class of the style; the kinds are line"
+        self._make(self._layer(lines), self._good.six, 1, sentence, "point place=capital")
 
     def ids(self) -> None:
         """Equal ids, and an id that no database holds."""
@@ -153,6 +174,67 @@ class Tries:
         other.write_text('{"type":"Feature"}\n{"type":"Point"}\n', encoding="utf-8")
         self._make(other, self._good.six, 1, "place 1", "NotFeature")
 
+        package = self._at / "torn.gpkg"
+        package.write_bytes(b"SQLite format 3\0" + bytes(100))
+        self._make(package, self._good.six, 1, "GDAL does not read", "torn.gpkg")
+        kind = self._at / "kind.geojson"
+        kind.write_text('{"features":[],"type":"Topology"}', encoding="utf-8")
+        self._make(kind, self._good.six, 1, "of the type 'Topology' and no FeatureCollection")
+
+    def edits(self) -> None:
+        """Edits that say too little, or too much at once; the atlas stays as it was."""
+        out = self._at / "edited"
+        atlas(self._engine, "make", self._good.places, self._good.six, out, "--workers", "1")
+        was = columns(out)
+
+        def nameless(number: int, feature: dict[str, Any]) -> None:
+            if number == 5:
+                del feature["id"]
+
+        def equal(number: int, feature: dict[str, Any]) -> None:
+            feature["id"] = "p8" if number == 9 else feature["id"]
+
+        many = self._at / "many.geojsonl"
+        many.write_text(self._good.places.read_text(encoding="utf-8") * TOO_MANY, encoding="utf-8")
+        cut = self._at / "cut.geojsonl"
+        cut.write_text('{"type":"Feature"', encoding="utf-8")
+        sentences: list[tuple[list[object], str]] = [
+            ([self._layer(nameless)], "the feature at place 5 of the edit has no id"),
+            ([self._layer(equal, "equal.geojsonl")], "two features of the edit have the id p8"),
+            ([many], "at most 30000 features, and this one has 30300"),
+            ([cut], "the feature at place 0 is refused: NotJson"),
+            ([self._at / "none.geojsonl"], "there is no layer"),
+            ([], "FEATURES, --remove ID or --follow"),
+        ]
+        for words, sentence in sentences:
+            self._try(["edit", out, *words], 1, sentence)
+        self._try(["edit", out, "--remove", "nobody"], 0, "there is no feature nobody")
+        with (out / "lock").open("a") as lock:
+            fcntl.flock(lock, fcntl.LOCK_EX)
+            self._try(["edit", out, "--remove", "p3"], 1, "another command changes")
+        assert columns(out) == was, "an edit that was refused changed the atlas"
+        self._try(["edit", self._at / "nowhere", "--remove", "p3"], 1, "is no atlas")
+        self._publish(out)
+
+    def _publish(self, out: Path) -> None:
+        """What cannot be published, and where to."""
+        tried: list[tuple[list[object], str]] = [
+            ([], "--postgis, --lines, --geopackage, --mbtiles or --tiles tells it"),
+            (["--tiles", self._at / "t", "--zooms", 5, 3], "--zooms 5 3 are no zooms"),
+            (["--postgis", NOWHERE, "--table", "a.b.c"], "a.b.c is no name of a table"),
+            (["--postgis", NOWHERE], "the database does not answer"),
+            (["--lines", self._at / "none" / "x"], "there is no folder"),
+            (["--lines", self._at], "cannot be written"),
+        ]
+        for words, sentence in tried:
+            self._try(["publish", out, *words], 1, sentence)
+
+    def tables(self) -> None:
+        """A table that is not told, and a database that does not answer."""
+        words = ["make", f"PG:{NOWHERE}", self._good.six, self._at / "out"]
+        self._try(words, 1, "which table of", "--layer TABLE tells it")
+        self._try([*words, "--layer", "towns"], 1, "the database does not answer")
+
     def changing(self) -> None:
         """A layer that changes while it is read."""
         path = self._at / "changing.geojsonl"
@@ -186,6 +268,8 @@ def run(engine: Path) -> str:
             tries.sides,
             tries.styles,
             tries.files,
+            tries.edits,
+            tries.tables,
             tries.changing,
         ):
             one()

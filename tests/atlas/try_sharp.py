@@ -9,7 +9,11 @@ from pathlib import Path
 
 from maplabel_kit import files
 
+from stage import say
+
 HERE = Path(__file__).resolve().parent
+TOP = HERE.parents[1]
+PACKAGE, KIT = TOP / "atlas" / "maplabel_atlas", TOP / "python" / "maplabel_kit"
 MAPS, AT_ONCE = 40, 4
 CALL = """
 import sys
@@ -74,8 +78,8 @@ SPOILT = (
     Spoilt(
         "margins are not widened",
         "labels.py",
-        "room = np.repeat(self.margin[rows], np.diff(first))[:, None]",
-        "room = np.repeat(0 * self.margin[rows], np.diff(first))[:, None]",
+        "room = np.repeat(margin, np.diff(first))[:, None]",
+        "room = np.repeat(0 * margin, np.diff(first))[:, None]",
     ),
     Spoilt(
         "a cover looks half as far as labels reach",
@@ -102,6 +106,18 @@ SPOILT = (
         "settle(union([new, bereft]))",
     ),
     Spoilt(
+        "labels that an edit takes away stay",
+        "splice.py",
+        "here = row + is_gone",
+        "here = row",
+    ),
+    Spoilt(
+        "an edit puts new labels behind all others",
+        "editing.py",
+        "if _rank_of(labels, middle) < wanted:",
+        "if wanted:",
+    ),
+    Spoilt(
         "of equal ids the last feature keeps it",
         "parts.py",
         "name = one if is_told and one not in taken else",
@@ -116,20 +132,19 @@ SPOILT = (
 )
 
 
-def found_by(one: Spoilt, engine: Path) -> str | None:
-    """What the small maps say of a spoilt copy, none where they find nothing."""
+def found_by(one: Spoilt | None, engine: Path) -> str | None:
+    """What the small maps say of a spoilt copy, or of one that is not spoilt; none where they find
+    nothing.
+    """
     with files.folder() as at:
         package = at / "maplabel_atlas"
-        shutil.copytree(
-            HERE / "maplabel_atlas", package, ignore=shutil.ignore_patterns("__pycache__")
-        )
-        for name in ("small_maps.py", "whole.py", "maplabel_kit"):
-            (at / name).symlink_to((HERE / name).resolve())
-        for file, text, instead in (FEW_ROUNDS, (one.file, one.text, one.instead)):
+        shutil.copytree(PACKAGE, package, ignore=shutil.ignore_patterns("__pycache__"))
+        for path in (HERE / "small_maps.py", HERE / "whole.py", KIT):
+            (at / path.name).symlink_to(path)
+        spoilt = [(one.file, one.text, one.instead)] if one else []
+        for file, text, instead in (FEW_ROUNDS, *spoilt):
             path = package / file
-            whole = path.read_text(encoding="utf-8")
-            assert whole.count(text) == 1, f"{file} does not hold {text!r} once"
-            path.write_text(whole.replace(text, instead), encoding="utf-8")
+            path.write_text(path.read_text(encoding="utf-8").replace(text, instead), "utf-8")
         (at / "call.py").write_text(CALL, encoding="utf-8")
         run = subprocess.run(
             [sys.executable, "call.py", str(engine), str(MAPS)],
@@ -142,11 +157,17 @@ def found_by(one: Spoilt, engine: Path) -> str | None:
 
 
 def run(engine: Path) -> str:
-    """Runs all spoilt copies."""
+    """Runs all spoilt copies, and one that is not spoilt."""
+    for one in SPOILT:
+        text = (PACKAGE / one.file).read_text(encoding="utf-8")
+        assert text.count(one.text) == 1, f"{one.file} does not hold {one.text!r} once"
+    unseen = []
     with ThreadPoolExecutor(AT_ONCE) as pool:
-        told = list(pool.map(lambda one: found_by(one, engine), SPOILT))
-    for one, line in zip(SPOILT, told):
-        print(f"  {one.what}: {line or 'NOT FOUND'}", flush=True)
-    unseen = [one.what for one, line in zip(SPOILT, told) if line is None]
+        sound, *told = (pool.submit(found_by, one, engine) for one in (None, *SPOILT))
+        for one, found in zip(SPOILT, told):
+            line = found.result()
+            say(f"{one.what}: {line or 'NOT FOUND'}")
+            unseen += [one.what] if line is None else []
+    assert sound.result() is None, f"a copy that is not spoilt fails: {sound.result()}"
     assert not unseen, "not found: " + "; ".join(unseen)
     return f"{len(SPOILT)} spoilt copies, all found"
