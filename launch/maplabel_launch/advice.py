@@ -15,8 +15,7 @@ from maplabel_launch.forms import Command
 
 STYLE_REFUSED, INPUT_REFUSED, DOOR_FAULT, NO_MEMORY = 3, 4, 8, 9
 # A command with a style and a map is asked for this view to see what it refuses: it serves nobody
-# and
-# reads no standard input.
+# and reads no standard input.
 VIEW = ("0", "0", "2", "2", "1")
 # So many seconds the program has for its refusal once more.
 PATIENCE = 60

@@ -53,6 +53,17 @@ def plan_of(needed: Sequence[Crate]) -> schedule.Plan:
     return schedule.Plan(steps, machine.processors(), machine.free_memory())
 
 
+def done_of(needed: Sequence[Crate], sums: Mapping[str, str]) -> set[str]:
+    """The crates that are done: what stands in their folders was built from these texts, and all
+    below them is done too. So nothing is proved over a library that something else put there.
+    """
+    found: set[str] = set()
+    for it in needed:
+        if found.issuperset(it.uses) and records.is_done(it, sums[it.name]):
+            found.add(it.name)
+    return found
+
+
 class Build:
     """One build."""
 
@@ -68,10 +79,9 @@ class Build:
         self.sums, self.sources, self.handles, self.view = sums, sources, handles, view
         self.running: dict[str, Run] = {}
         self.alone: set[str] = set()
-        self.done = {it.name for it in needed if records.is_done(it, sums[it.name])}
+        self.done = done_of(needed, sums)
         # (of the crates that ended in this build, their work in lines and the processor time that
-        # it
-        # took)
+        # it took)
         self.begun, self.lines, self.spent = shown.now(), 0, 0.0
         self.plan = plan_of(needed)
 

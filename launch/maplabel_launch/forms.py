@@ -130,8 +130,9 @@ def _unknown(commands: dict[str, Command], word: str) -> str:
 def _miscounted(command: Command, given: Sequence[str]) -> str | None:
     """What is wrong with the number of words."""
     if len(given) < len(command.words):
-        left = command.words[len(given) :]
-        return f"{command.name}: {' and '.join(left)} {'is' if len(left) == 1 else 'are'} missing"
+        *left, last = command.words[len(given) :]
+        told = f"{', '.join(left)} and {last} are" if left else f"{last} is"
+        return f"{command.name}: {told} missing"
     if len(given) > len(command.words):
         more = " ".join(map(shown, given[len(command.words) :]))
         return f"{command.name}: too many words, from {more} on"

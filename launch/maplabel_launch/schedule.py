@@ -32,17 +32,16 @@ MOST_JOBS = 3
 # How many processors so many provers of a crate keep busy.
 BUSY = {1: 1.0, 2: 1.7, 3: 2.4}
 # At least so long, as a part of the longest, is a chain whose first crate may have several provers,
-# and one whose first
-# crate is near. A simulation with the measured times of this repository's crates chose these parts.
+# and one whose first crate is near. A simulation with the measured times of this repository's
+# crates chose these parts.
 FRONT, NEAR = 0.95, 0.75
 # What gives way to all others still has a little of the processors.
 LEAST = 0.1
 # The niceness of what gives way to all others.
 MOST_NICE = 19
 # A check takes as long for its start as for so many lines of code and definitions. By the processor
-# times of a whole
-# build these two numbers tell the work of most crates within a third, and of all within a factor of
-# two.
+# times of a whole build these two numbers tell the work of most crates within a third, and of all
+# within a factor of two.
 START = 50
 # The statement of each line of the libraries below is loaded, which takes this part of the time for
 # a line that is proved.

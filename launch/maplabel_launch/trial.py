@@ -51,8 +51,7 @@ def attempt(words: Sequence[str], folder: str) -> tuple[int, bytes]:
     except Interrupted:
         try:
             # (a terminal's Ctrl-C reached it as well, and a second signal would disturb its
-            # cleaning
-            # up)
+            # cleaning up)
             tried.communicate(timeout=PATIENCE)
         except subprocess.TimeoutExpired:
             tried.terminate()

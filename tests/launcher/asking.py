@@ -41,6 +41,8 @@ class Unbuilt(Case):
     def test_number_of_words(self) -> None:
         form = "the form is: view STYLE MAP CX CY W H SCALE"
         self.expect(VIEW[:6], USAGE, "view: H and SCALE are missing", form, "help view")
+        self.expect(VIEW[:5], USAGE, "view: W, H and SCALE are missing", form)
+        self.expect(VIEW[:7], USAGE, "view: SCALE is missing", form)
         self.expect([*VIEW, "a b"], USAGE, "view: too many words, from 'a b' on", form)
 
     def test_words_of_another_kind(self) -> None:
@@ -68,6 +70,14 @@ class Unbuilt(Case):
         with open(self.clone.folder / "long", "wb") as file:
             file.truncate(67_108_865)
         self.expect(["slots", "long"], TOO_LONG, "67,108,865 bytes")
+
+    def test_longest_file(self) -> None:
+        with open(self.clone.folder / "longest", "wb") as file:
+            file.truncate(67_108_864)
+        ran = self.clone.run("slots", "longest")
+        self.assertEqual(
+            (ran.returncode, ran.stdout), (0, answer(self.clone.folder, ["slots", "longest"]))
+        )
 
     def test_file_that_may_not_be_read(self) -> None:
         (self.clone.folder / "one").chmod(0)
@@ -144,6 +154,18 @@ class Helps(Case):
         told = self.clone.run("--version", STAND_IN_NAME="another").stdout
         self.assertIn("README.md names another: stand-in", told)
 
+    def test_version_without_the_kit(self) -> None:
+        path = "/usr/bin:/bin"
+        told = self.clone.run("--version", PATH=path).stdout
+        self.assertIn("kit: not found", told)
+        self.assertIn("proved program: not built", told)
+        self.build()
+        told = self.clone.run("--version", PATH=path).stdout
+        self.assertIn("proved program: built and fresh", told)
+        os.utime(self.clone.folder / "crates.txt")
+        told = self.clone.run("--version", PATH=path).stdout
+        self.assertIn("built; without the kit it cannot be told whether from these sources", told)
+
 
 class Built(Case):
     """The proved program is there: its own output stays byte for byte, and more is told beside
@@ -180,6 +202,29 @@ class Built(Case):
         )
         self.assertIn("there is no file gone", ran.stderr)
 
+    def test_file_that_is_too_long(self) -> None:
+        with open(self.clone.folder / "long", "wb") as file:
+            file.truncate(67_108_865)
+        ran = self.clone.run("slots", "long")
+        self.assertEqual(
+            (ran.returncode, ran.stdout), (TOO_LONG, answer(self.clone.folder, ["slots", "long"]))
+        )
+        self.assertIn("67,108,865 bytes", ran.stderr)
+
+    def test_port_that_is_taken(self) -> None:
+        words = ["serve", "one", "two", "80", "1"]
+        ran = self.clone.run(*words)
+        self.assertEqual((ran.returncode, ran.stdout), (8, answer(self.clone.folder, words)))
+        self.assertIn("it cannot listen at the port", ran.stderr)
+
+    def test_help_of_a_command(self) -> None:
+        """Help is the launcher's, though the program is there."""
+        for words in (["view", "--help"], ["view", "-h"], ["help", "view"]):
+            with self.subTest(words=words):
+                ran = self.clone.run(*words)
+                self.assertEqual((ran.returncode, ran.stderr), (0, ""))
+                self.assertTrue(ran.stdout.startswith("Usage: maplabel view STYLE MAP"))
+
     def test_refused_style(self) -> None:
         (self.clone.folder / "style").write_text(STYLE, encoding="utf-8")
         line = "style refused: 4 BadClass 0 min\n"
@@ -190,6 +235,10 @@ class Built(Case):
             # the file, the line and what a `min` is
             self.assertIn("style, line 6", ran.stderr)
             self.assertIn("a number or a fraction", ran.stderr)
+            # once more it is asked for a view, never to serve
+            refused = self.clone.folder / "refused"
+            self.assertEqual(refused.read_text(encoding="utf-8").split(), [words[0], "view"])
+            refused.unlink()
 
     def test_refused_style_without_the_table(self) -> None:
         (self.clone.folder / "style").write_text(STYLE, encoding="utf-8")
@@ -220,8 +269,9 @@ class Built(Case):
                 wait_until(self.is_serving)
                 server.send_signal(number)
                 self.assertEqual(server.wait(20), -number)
-                server.communicate()
+                # (looked at first: what is still at work holds the pipes)
                 wait_until(lambda: not self.is_serving(), 5)
+                server.communicate()
 
     def test_signals_that_are_ignored(self) -> None:
         """nohup keeps SIGHUP away from a server, and a shell SIGINT from one in the background."""
@@ -282,6 +332,15 @@ class Built(Case):
 
 
 class OnTerminal(Case):
+    def test_line_is_no_wider_than_the_terminal(self) -> None:
+        seen, status = self.clone.on_terminal("--build", columns=30, STAND_IN_PAUSE="1.2")
+        self.assertEqual(status, 0, seen)
+        lines = [piece.partition("\r\n")[0] for piece in seen.split("\r\033[K")[1:]]
+        drawn = [line for line in lines if " crates; " in line]
+        self.assertGreaterEqual(len(drawn), 2, seen)
+        for line in drawn:
+            self.assertEqual((len(line), line[-1]), (29, "…"), line)
+
     def test_line(self) -> None:
         seen, status = self.clone.on_terminal(*SHORT, STAND_IN_PAUSE="1.2")
         self.assertEqual(status, 0, seen)

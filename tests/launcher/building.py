@@ -60,6 +60,27 @@ class Building(Case):
         self.clone.run(*SHORT)
         self.assertEqual(self.clone.calls(), ["right", "maplabel"])
 
+    def test_source_of_another_name(self) -> None:
+        (self.clone.folder / "crates" / "right" / "specs" / "More.antt").write_text("-- more\n")
+        self.build()
+        specs = self.clone.folder / "crates" / "right" / "specs"
+        (specs / "More.antt").rename(specs / "Other.antt")
+        self.clone.run(*SHORT)
+        self.assertEqual(self.clone.calls(), ["right", "maplabel"])
+
+    def test_what_was_built_is_replaced(self) -> None:
+        """Neither a library nor a program that something else put there counts as proved, and
+        nothing is proved over such a library.
+        """
+        self.build()
+        os.utime(self.clone.folder / "crates/left/out/statements/left.rlib")
+        self.clone.run("--build")
+        self.assertEqual(self.clone.calls(), [])
+        self.clone.program.write_bytes(self.clone.program.read_bytes() + b"\0")
+        os.utime(self.clone.program, (0, 0))
+        self.clone.run("--build")
+        self.assertEqual(self.clone.calls(), ["left", "upper", "maplabel"])
+
     def test_edit_in_mid_build(self) -> None:
         build = self.clone.start("--build", STAND_IN_PAUSE="0.5")
         wait_until(lambda: "left" in self.clone.calls())
@@ -103,7 +124,10 @@ class Building(Case):
         lines = [it for it in ran.stderr.splitlines() if "README.md names is stand-in" in it]
         self.assertEqual(len(lines), 1, ran.stderr)
         self.assertIn("the kit here is stand-in of another day", lines[0])
+        # what another kit proved is proved anew
+        self.clone.forget()
         self.assertNotIn("README.md names is", self.clone.run("--build").stderr)
+        self.assertEqual(sorted(self.clone.calls()), sorted(NEEDED))
 
     def test_end_of_a_build_is_told(self) -> None:
         told = self.clone.run(*SHORT).stderr.splitlines()
@@ -154,6 +178,32 @@ class Ending(Case):
                 build.send_signal(number)
                 self.assertEqual(build.wait(), 128 + number, build.communicate())
                 self.check_goes_on()
+
+    def test_second_signal_disturbs_nothing(self) -> None:
+        self.clone.add_line("left", "STUBBORN")
+        build = self.clone.start("--build", STAND_IN_PAUSE="3")
+        wait_until(lambda: "left" in self.clone.calls())
+        time.sleep(0.3)
+        build.send_signal(signal.SIGINT)
+        time.sleep(0.3)
+        build.send_signal(signal.SIGTERM)
+        self.assertEqual(build.wait(), 128 + signal.SIGINT, build.communicate())
+        self.nothing_is_at_work()
+        self.assertEqual(self.clone.left(), [])
+
+    def test_hangup_that_is_ignored(self) -> None:
+        """nohup keeps SIGHUP away from a build."""
+        build = subprocess.Popen(
+            ["sh", "-c", "trap '' HUP; exec ./maplabel --build"],
+            cwd=self.clone.folder,
+            env={**self.clone.env, "STAND_IN_PAUSE": "0.5"},
+            stderr=subprocess.PIPE,
+            text=True,
+        )
+        wait_until(lambda: "left" in self.clone.calls())
+        build.send_signal(signal.SIGHUP)
+        said = build.communicate()[1]
+        self.assertEqual((build.returncode, said.count(" is proved, ")), (0, len(NEEDED)), said)
 
     def test_all_that_a_check_started_ends(self) -> None:
         self.clone.add_line("left", "FORKS")
@@ -236,6 +286,12 @@ class Ending(Case):
         self.assertIn("bugs=1", ran.stderr)
         self.assertNotIn("upper", self.clone.calls())
         self.assertFalse((self.clone.folder / "crates/left/out/statements").exists())
+
+    def test_program_that_fails_its_trial(self) -> None:
+        ran = self.clone.run(*SHORT, STAND_IN_TRIAL="fails")
+        self.assertEqual((ran.returncode, ran.stdout), (FAILED, ""))
+        self.assertIn("failed in crates/maplabel with status 7", ran.stderr)
+        self.assertFalse(self.clone.program.exists())
 
     def test_check_that_is_killed_runs_again_alone(self) -> None:
         self.clone.add_line("left", "HUNGRY")

@@ -1,21 +1,23 @@
 """A small repository with the launcher, whose crates a stand-in for the kit proves."""
 
 import contextlib
+import fcntl
 import os
 import pathlib
 import pty
 import shutil
 import signal
+import struct
 import subprocess
 import tempfile
+import termios
 import time
 from collections.abc import Callable, Sequence
 
 HERE = pathlib.Path(__file__).resolve().parent
 TOP = HERE.parents[1]
 # The crates with those that they use and their lines of code: from `low` to `maplabel` one long
-# chain
-# and two short ones.
+# chain and two short ones.
 CRATES = {
     "low": ("", 10),
     "left": ("low", 400),
@@ -29,7 +31,7 @@ NEEDED = [it for it in CRATES if it != "apart"]
 # What stands in the small repository as it stands in this one.
 COPIED = (
     *("maplabel", "launch", "python", "VERSION", "HANDLES"),
-    *("bench/start", "bench/maplabel_launch.py"),
+    *("bench/start", "bench/maplabel_kit.py", "bench/maplabel_launch.py"),
     *("deploy/dist", "deploy/maplabel_kit.py", "deploy/maplabel_launch.py"),
 )
 PAGE = """# A page
@@ -156,13 +158,15 @@ class Checkout:
         keys: bytes = b"",
         when: Callable[[], bool] = lambda: True,
         seconds: float = 20,
+        columns: int = 0,
         **env: str,
     ) -> tuple[str, int]:
         """Calls the launcher on a terminal, types keys once `when` holds, and returns what was seen
-        and the status.
+        and the status. A terminal of 0 columns tells no width.
         """
         child, terminal = pty.fork()
         if child == 0:
+            fcntl.ioctl(0, termios.TIOCSWINSZ, struct.pack("4H", 24, columns, 0, 0))
             os.chdir(self.folder)
             os.execve(str(self.folder / "maplabel"), ["maplabel", *words], {**self.env, **env})
         if keys:

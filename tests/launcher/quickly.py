@@ -63,6 +63,17 @@ class Quick(Case):
         self.clone.run("--quick", *SHORT)
         self.assertEqual(self.clone.compiled(), 6)
 
+    def test_programs_that_were_used_last_are_kept(self) -> None:
+        texts = [f"// text {number}\n" for number in range(5)]
+        for text in (*texts[:4], texts[0], texts[4], texts[0]):
+            self.clone.source("low").write_text(text, encoding="utf-8")
+            self.clone.run("--quick", *SHORT)
+        # the first is kept, and the second was used before all others
+        self.assertEqual((self.clone.compiled(), len(self.kept())), (5, 4))
+        self.clone.source("low").write_text(texts[1], encoding="utf-8")
+        self.clone.run("--quick", *SHORT)
+        self.assertEqual(self.clone.compiled(), 6)
+
     def test_spoilt_source(self) -> None:
         self.clone.add_line("left", "SPOILT")
         ran = self.clone.run("--quick", *SHORT)
@@ -80,7 +91,20 @@ class Quick(Case):
         self.assertEqual((ran.returncode, ran.stdout), (0, "<check>\n<one>\n<two\n>\n"), ran.stderr)
         self.assertIn("answers by `rt try`", ran.stderr)
         self.assertIn("nothing of what it answers is proved", ran.stderr)
-        self.assertIn("said by the program", ran.stderr)
+        # what the program says, and not what `rt try` adds to it
+        self.assertTrue(ran.stderr.endswith("said by the program\n"), ran.stderr)
+        self.assertEqual((self.clone.tries(), self.kept()), (1, []))
+
+    def test_file_of_the_crate_is_none_of_the_caller(self) -> None:
+        """`rt try` runs in the crate's folder, whose files are not those that a word names."""
+        (self.clone.folder / "docs" / "FORMATS.md").unlink()
+        ran = self.clone.run("--quick", "any", "data/two.table", STAND_IN_TRY="other")
+        self.assertEqual((ran.returncode, ran.stdout), (0, "<any>\n<none1>\n"), ran.stderr)
+
+    def test_program_that_fails_its_trial(self) -> None:
+        ran = self.clone.run("--quick", *SHORT, STAND_IN_TRIAL="fails")
+        self.assertEqual((ran.returncode, ran.stdout), (0, "<slots>\n<one\n>\n"), ran.stderr)
+        self.assertIn("maplabel ended with status 7", ran.stderr)
         self.assertEqual((self.clone.tries(), self.kept()), (1, []))
 
     def test_module_that_is_not_made_lighter(self) -> None:

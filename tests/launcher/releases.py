@@ -93,6 +93,20 @@ class Releases(Case):
         self.clone.add_line("left", "// changed")
         self.refused(self.made, "crates/left/src/lib.rt and 1 more files differ")
 
+    def test_other_list_of_crates(self) -> None:
+        with open(self.clone.folder / "crates.txt", "a", encoding="utf-8") as file:
+            file.write("# changed\n")
+        self.refused(self.made, "was proved from other sources: crates.txt differ")
+
+    def test_kept_program_that_was_damaged(self) -> None:
+        """What runs is what was looked at: a kept program of other bytes is replaced."""
+        self.clone.run("--release", str(self.made))
+        kept = list(self.clone.folder.glob("crates/maplabel/out/release/*/maplabel"))
+        self.assertEqual(len(kept), 1)
+        kept[0].write_bytes(b"#!/bin/sh\necho other\n")
+        ran = self.clone.run("--release", str(self.made), *SHORT)
+        self.assertEqual((ran.returncode, ran.stdout), (0, answer(self.clone.folder, SHORT)))
+
     def test_flipped_byte(self) -> None:
         folder = self.unpacked()
         for name, what in ((PROGRAM, "its program"), ("SOURCES.sha256", "its sources")):
@@ -106,9 +120,14 @@ class Releases(Case):
     def test_damaged_file(self) -> None:
         data = self.made.read_bytes()
         path = pathlib.Path(self.clone.room.name) / "damaged.tar.gz"
-        flipped = bytearray(data)
-        flipped[len(data) // 2] ^= 1
-        for damaged in (data[: len(data) // 2], bytes(flipped), b"", b"no release"):
+        # (at the end stands the sum of all, and before it a file that is not looked at by itself)
+        for place in (len(data) // 2, len(data) * 9 // 10, len(data) - 8, len(data) - 1):
+            flipped = bytearray(data)
+            flipped[place] ^= 1
+            with self.subTest(flipped=place):
+                path.write_bytes(flipped)
+                self.refused(path, "is damaged")
+        for damaged in (data[: len(data) // 2], data[:-1], b"", b"no release"):
             with self.subTest(length=len(damaged)):
                 path.write_bytes(damaged)
                 self.refused(path, "is damaged")
@@ -183,4 +202,7 @@ class Releases(Case):
         ran = self.clone.run("--build", launcher=launcher)
         self.assertEqual(ran.returncode, FAILED)
         self.assertIn("this is a release", ran.stderr)
+        ran = self.clone.run("--release", str(self.made), *SHORT, launcher=launcher)
+        self.assertEqual((ran.returncode, ran.stdout), (FAILED, ""))
+        self.assertIn("this is a release itself", ran.stderr)
         self.assertEqual(self.clone.rows(), [])

@@ -1,23 +1,51 @@
 """The launcher over this repository and the kit itself; the tests come in the order of their
 numbers, in one clone.
+
+Where the variable BUILT names a checkout that is built from the same sources, the clone begins with
+what is built there, but for the last crates: so only these are proved here.
 """
 
 import json
 import os
+import pathlib
+import shlex
 import shutil
 import subprocess
 import time
 import unittest
 
 from checkout import TOP, Checkout, wait_until
+from maplabel_kit.ports import free_port
 
 FAILED, USAGE, FILE_FAULT = 70, 2, 5
+# What is proved here in any case: the program, and a small library that nothing else uses.
+LAST = ("ml_serve", "maplabel")
 # The commit is cloned; an hour and a half is enough on a slow machine.
 LONG = 5400
 MAP = "crates/maplabel/data/world.geojson"
 VIEW = ["view", "crates/maplabel/data/world.toml", MAP, "0", "0", "1024", "512", "3515625"]
+PORT = "47100"
 # README.md, "An example": two labels that touch at scale 20, as reckoned by hand there
 TABLE, SLOTS = "crates/maplabel/data/two.table", "A 1000/1 -\nB 20/1 A\n"
+
+
+def take_over(built: pathlib.Path, clone: pathlib.Path) -> None:
+    """Puts what is built in a checkout into a clone of the same sources, but for the last
+    crates.
+    """
+    for proved in built.glob("crates/*/out/proved"):
+        name = proved.parents[1].name
+        if name not in LAST:
+            subprocess.run(["cp", "-a", proved.parent, clone / "crates" / name], check=True)
+
+
+def first_block(port: int) -> list[str]:
+    """The commands of README.md's first block, each a line with the lines of its answer behind it,
+    at another port.
+    """
+    page = (TOP / "README.md").read_text(encoding="utf-8")
+    block = page.partition("```console\n")[2].partition("```")[0]
+    return block.replace(PORT, str(port)).removeprefix("$ ").split("\n$ ")
 
 
 class WithKit(unittest.TestCase):
@@ -26,10 +54,34 @@ class WithKit(unittest.TestCase):
     @classmethod
     def setUpClass(cls) -> None:
         cls.clone = Checkout(TOP, with_kit=True)
+        if built := os.environ.get("BUILT"):
+            take_over(pathlib.Path(built), cls.clone.folder)
 
     @classmethod
     def tearDownClass(cls) -> None:
         cls.clone.close()
+
+    def test_0_first_block(self) -> None:
+        """The first block of README.md as it stands, but for the port: a server of the sample map
+        without any proof, and questions to it, each with the answer that stands there.
+        """
+        serve, *asked = first_block(free_port())
+        self.assertTrue(serve.startswith("./maplabel --quick serve ") and serve.endswith(" &"))
+        begun, seconds = time.monotonic(), 0.0
+        server = self.clone.start(*shlex.split(serve)[1:-1])
+        try:
+            for one in asked:
+                command, _, answer = one.partition("\n")
+                # (the block tells curl how long it may try)
+                words = shlex.split(command)
+                ran = subprocess.run(words, capture_output=True, text=True, timeout=LONG)
+                seconds = seconds or time.monotonic() - begun
+                self.assertEqual((ran.returncode, ran.stdout), (0, answer.rstrip("\n")), ran.stderr)
+        finally:
+            server.terminate()
+            server.communicate()
+        self.assertGreaterEqual(len(asked), 1)
+        print(f"its first answer came after {seconds:.0f} s ... ", end="", flush=True)
 
     def test_1_quick(self) -> None:
         link = self.clone.folder.parent / "a link"
@@ -50,6 +102,7 @@ class WithKit(unittest.TestCase):
         self.assertGreater(len(shown), 20)
         self.assertLessEqual(shown, named)
         self.assertEqual(len(ran.stderr.splitlines()), 1, ran.stderr)
+        self.assertIn("nothing of what it answers is proved", ran.stderr)
 
     def done(self) -> set[str]:
         """The crates that are done."""
@@ -104,3 +157,24 @@ class WithKit(unittest.TestCase):
         ran = self.clone.run()
         self.assertEqual((ran.returncode, ran.stdout.split()[0]), (USAGE, "usage:"))
         self.assertIn("built and fresh", self.clone.run("--version").stdout)
+
+    def test_7_release(self) -> None:
+        """A release of what was proved here runs in another clone, and a damaged one does not."""
+        made = self.clone.folder.parent / "release.tar.gz"
+        ran = self.clone.run(str(made), launcher=self.clone.folder / "deploy" / "dist")
+        self.assertEqual(ran.returncode, 0, ran.stderr)
+        other = Checkout(TOP, with_kit=True)
+        self.addCleanup(other.close)
+        for path in ("/usr/bin:/bin", os.environ["PATH"]):
+            ran = other.run("--release", str(made), "slots", TABLE, PATH=path)
+            self.assertEqual((ran.returncode, ran.stdout), (0, SLOTS), ran.stderr)
+            self.assertIn("was proved elsewhere", ran.stderr)
+        self.assertIn("proved program: not built", other.run("--version").stdout)
+        data = bytearray(made.read_bytes())
+        data[len(data) // 3] ^= 1
+        made.with_name("damaged").write_bytes(data)
+        ran = other.run("--release", str(made.with_name("damaged")), "slots", TABLE)
+        self.assertEqual((ran.returncode, ran.stdout), (FAILED, ""))
+        self.assertIn("is damaged", ran.stderr)
+        self.clone.run("--release", str(made))
+        self.assertIn("byte for byte", self.clone.run("--build").stderr)
