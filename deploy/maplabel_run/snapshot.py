@@ -3,9 +3,7 @@ trial first."""
 
 import contextlib
 import fcntl
-import gzip
 import os
-import re
 import subprocess
 import time
 from collections.abc import Callable, Iterator
@@ -16,7 +14,6 @@ from maplabel_kit.faults import Fault, sentence_of
 from maplabel_run.link import nothing
 
 LONGEST_FILE = 67_108_864  # bytes of a file that the program reads
-PUBLISHED = re.compile(r"map\.[0-9]+\.geojson\.gz")
 
 
 @contextlib.contextmanager
@@ -165,26 +162,6 @@ def keep(
         new = write_beside(path, text)
         prove(program, style, new, on_wait)
         put_in_place(new, path)
-
-
-def publish(folder: str, rev: int, text: bytes) -> None:
-    """Puts the map of a revision into a folder for the proxy, compressed, and takes away all but
-    the one before."""
-    with told_faults("the map could not be published"):
-        os.makedirs(folder, exist_ok=True)
-        path = os.path.join(folder, f"map.{rev}.geojson.gz")
-        with open(path + ".new", "wb") as file:
-            file.write(gzip.compress(text, 4, mtime=0))
-        os.replace(path + ".new", path)
-        withdraw(folder, 2)
-
-
-def withdraw(folder: str, kept: int = 0) -> None:
-    """Takes away what was published, but for so many of the youngest."""
-    with contextlib.suppress(FileNotFoundError):
-        there = [os.path.join(folder, name) for name in os.listdir(folder) if PUBLISHED.match(name)]
-        for path in sorted(there, key=os.path.getmtime)[: len(there) - kept]:
-            os.remove(path)
 
 
 def told_age(path: str) -> str:

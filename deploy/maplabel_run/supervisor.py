@@ -16,7 +16,7 @@ from maplabel_kit.client import Held
 from maplabel_kit.faults import Fault, sentence_of
 from maplabel_kit.ports import taken
 from maplabel_kit.server import DOOR_FAULT, Child
-from maplabel_run import snapshot
+from maplabel_run import published, snapshot
 from maplabel_run.keeper import Keeper
 from maplabel_run.link import Link
 from maplabel_run.outlet import Outlet, drain
@@ -71,6 +71,7 @@ class Supervisor:
         self._ends_at = self._restart_from = self._save_from = self._figures_from = 0.0
         self._saved_at = time.monotonic()
         self._dropped_told = 0
+        self._style_told: tuple[int, int, int] | None = None
         for number in (signal.SIGTERM, signal.SIGINT):
             signal.signal(number, self._end_soon)
         signal.signal(signal.SIGHUP, self._restart_soon)
@@ -215,7 +216,7 @@ class Supervisor:
         self.refuse_edits()
         if self.words.publish:
             with self._told("what was published stays"):
-                snapshot.withdraw(self.words.publish)
+                published.withdraw(self.words.publish)
         self._opened = opened()
         style_seen = snapshot.seen(self.words.style)
         while (first := self._spawn()) == b"door fault\n" and (tries := tries - 1) > 0:
@@ -239,6 +240,7 @@ class Supervisor:
         self._saved()
         self.allow_edits()
         self.log.say(f"ready: process {process} at port {words.port}")
+        self._publish_style()
         self._publish_first()
 
     def _spawn(self) -> bytes:
@@ -253,7 +255,11 @@ class Supervisor:
         self.child = Child(command, stderr=PIPE, env=env)
         assert self.child.process.stderr is not None
         drain(self.child.process.stderr, self.said)
-        return self.child.first_line(self._is_wanted)
+        try:
+            return self.child.first_line(self._is_wanted)
+        except Fault:
+            self.child.end()  # nobody has been answered by it, so nothing is lost
+            raise
 
     def _is_wanted(self) -> bool:
         self.systemd.alive("loading the map")
@@ -270,7 +276,17 @@ class Supervisor:
     def _publish(self, rev: int, text: bytes) -> None:
         if self.words.publish:
             try:
-                snapshot.publish(self.words.publish, rev, text)
+                published.publish(self.words.publish, rev, text)
+            except Fault as fault:
+                self.log.repeat(str(fault), WARNING)
+
+    def _publish_style(self) -> None:
+        """Publishes what pages ask of the style, where its file is another one than before."""
+        seen = snapshot.seen(self.words.style)
+        if self.words.publish and seen != self._style_told:
+            self._style_told = seen
+            try:
+                published.publish_style(self.words.publish, self.words.style)
             except Fault as fault:
                 self.log.repeat(str(fault), WARNING)
 
@@ -315,6 +331,7 @@ class Supervisor:
         if rev is not None:
             self.log.say(f"saved revision {rev}")
         self._saved()
+        self._publish_style()
         return True
 
     def _saved(self) -> None:
@@ -443,6 +460,10 @@ class Supervisor:
 
     def look(self) -> int | None:
         """Does what is due; the status to end with, if it is the end."""
+        if self.child is None:
+            self.start(FIRST_TRIES)
+            self.systemd.tell("READY=1")
+            return None
         if self.ends:
             return self.end_by_plan()
         with contextlib.suppress(Fault):
@@ -460,16 +481,19 @@ class Supervisor:
 
     def fail(self, text: str) -> None:
         """Tells why it ends."""
-        self.systemd.tell(f"STATUS={text}")
-        print(f"run: {text}", file=sys.stderr, flush=True)
+        self.systemd.tell(f"STATUS={text.splitlines()[0]}")
+        mark = self.log.mark(ERROR)
+        sys.stderr.write("".join(f"{mark}{line}\n" for line in f"run: {text}".splitlines()))
+        sys.stderr.flush()
 
     def close(self) -> None:
         """Ends what was started, and lets what was said be read."""
         if self.child is not None:
             self.child.end()
-        if self.words.publish:
-            with contextlib.suppress(OSError):
-                snapshot.withdraw(self.words.publish)
+            if self.words.publish:
+                with contextlib.suppress(OSError):
+                    published.withdraw(self.words.publish)
+                    published.withdraw_style(self.words.publish)
         self.log.close()
         self.said.flush(1)
 
@@ -477,18 +501,18 @@ class Supervisor:
         """Serves until a signal says to end; the status."""
         owner = snapshot.Ownership(self.words.map, self.words.port)
         snapshot.try_folder(self.words.map)
-        self.start(FIRST_TRIES)
-        self.systemd.tell("READY=1")
         status = None
         while status is None:
             try:
                 status = self.look()
             except Fault as fault:
-                if self.ends and not self.is_running():
-                    return 0
-                if not self.is_running():
+                if self.is_running():
+                    self.log.repeat(f"{fault}. The server goes on", ERROR)
+                elif self.ends:
+                    self.log.say(f"{fault}; nothing is lost by that")
+                    status = 0
+                else:
                     raise
-                self.log.repeat(f"{fault}. The server goes on", ERROR)
             time.sleep(0 if status is not None else PAUSE)
         owner.release()
         return status

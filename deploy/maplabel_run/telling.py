@@ -22,10 +22,13 @@ class Log:
         self._has_levels = "JOURNAL_STREAM" in os.environ
         self._told: dict[str, float] = {}
 
+    def mark(self, level: int) -> str:
+        """What stands before a line of a level."""
+        return f"<{level}>" if self._has_levels else ""
+
     def say(self, text: str, level: int = NOTICE) -> None:
         """One line."""
-        mark = f"<{level}>" if self._has_levels else ""
-        self._outlet.put(f"{mark}run: {text}\n".encode())
+        self._outlet.put(f"{self.mark(level)}run: {text}\n".encode())
 
     def repeat(self, text: str, level: int, more: str = "") -> None:
         """A line that may be due again and again: it is told at first, and then once a minute, with
@@ -49,16 +52,18 @@ class Systemd:
         self._pause = int(os.environ.get("WATCHDOG_USEC", 0)) / 4_000_000
         self._next, self._status = 0.0, ""
 
-    def tell(self, *lines: str) -> None:
-        """Sends some lines as one message; that nobody takes it stops nothing."""
+    def tell(self, *lines: str) -> bool:
+        """Sends some lines as one message; whether it was taken. That nobody takes it stops
+        nothing."""
         if not self._path:
-            return
+            return True
         with socket.socket(socket.AF_UNIX, socket.SOCK_DGRAM) as link:
             link.settimeout(1)
             try:
                 link.sendto("\n".join(lines).encode(), self._path)
             except OSError:
-                pass
+                return False
+        return True
 
     def reloading(self) -> None:
         """The server is being restarted by plan."""
@@ -70,9 +75,8 @@ class Systemd:
         if self._pause and now >= self._next:
             self._next = now + self._pause
             self.tell("WATCHDOG=1")
-        if status != self._status:
+        if status != self._status and self.tell(f"STATUS={status}"):
             self._status = status
-            self.tell(f"STATUS={status}")
 
 
 @dataclass

@@ -183,12 +183,18 @@ def long_rows(stage: Stage) -> None:
 
 
 def long_id(stage: Stage) -> None:
-    """A change of a table whose id has no room in a notification: all is compared."""
+    """A change of a table whose id has no room in a notification: all is compared. The column of
+    the id comes by a change that writes the table anew, for which it is detached and attached again
+    in one transaction, while it is followed."""
     base = stage.database
-    base.execute(
-        "ALTER TABLE towns ADD COLUMN word text NOT NULL DEFAULT 'w' || gen_random_uuid() UNIQUE"
-    )
-    base.execute("SELECT maplabel.attach('towns', 'word', 'geom', '{name}')")
+    add = "ALTER TABLE towns ADD COLUMN word text NOT NULL DEFAULT 'w' || gen_random_uuid() UNIQUE"
+    with base.connect() as link, link.transaction():
+        for text in (
+            "SELECT maplabel.detach('towns')",
+            add,
+            "SELECT maplabel.attach('towns', 'word', 'geom', '{name}')",
+        ):
+            link.execute(text.encode())
     base.execute(
         "INSERT INTO towns VALUES (13, 'SRID=4326;POINT(0 0)', 'Wide', 1, repeat('w', 9000))"
     )
@@ -210,6 +216,18 @@ def odd_rows() -> None:
         for part in (kinds, mended_rows, one_transaction, long_rows, long_id):
             part(stage)
     print("rows of every kind, refusals, long rows, a new id, transactions, TRUNCATE", flush=True)
+
+
+@trial("rows")
+def refused_before() -> None:
+    """A row that was refused in a comparison: its refusal goes as soon as the row is mended."""
+    with staged(is_followed=False) as stage:
+        stage.database.execute("UPDATE towns SET geom = 'SRID=4326;POINT(300 0)' WHERE id = 9")
+        stage.start_follower()
+        until("the refusal", lambda: refusals(stage), {"9": '{"error":"OutOfRange"}'})
+        stage.database.execute("UPDATE towns SET geom = 'SRID=4326;POINT(3 0)' WHERE id = 9")
+        until("the refusal of a mended row", lambda: refusals(stage), {}, 30)
+    print("what was refused in a comparison is struck out once the row is mended", flush=True)
 
 
 @trial("rows")

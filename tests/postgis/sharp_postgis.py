@@ -18,7 +18,7 @@ SPOILT = (
     Spoilt(FOLLOW, " or change.number <= self.done.get(change.id, 0)", "", "attack.repeated"),
     Spoilt(FOLLOW, "if self.empty and now >=", "if False and now >=", "attack.forged"),
     Spoilt(FOLLOW, "self.source.accept(change.id)\n", "pass\n", "rows.odd_rows"),
-    Spoilt(FOLLOW, "        self.refused = refused\n", "", "rows.odd_rows"),
+    Spoilt(FOLLOW, "        self.refused = refused\n", "", "rows.refused_before"),
     Spoilt(
         SETUP,
         "PERFORM maplabel.check_types(source, array[id_column, geometry_column] || used);",
@@ -46,10 +46,7 @@ SPOILT = (
     Spoilt(
         SETUP,
         "maplabel.detach(regclass), maplabel.detach_all() FROM PUBLIC;",
-        (
-            "maplabel.detach_all() FROM PUBLIC; GRANT USAGE ON SCHEMA maplabel TO PUBLIC; GRANT"
-            " SELECT ON maplabel.changes TO PUBLIC;"
-        ),
+        "maplabel.detach_all() FROM PUBLIC;",
         "attack.owner",
     ),
     Spoilt(
@@ -59,4 +56,10 @@ SPOILT = (
         "drop.dropped",
     ),
     Spoilt(MIRROR, "self.rev, self.data = made.rev, None", "self.data = None", "rows.odd_rows"),
+    Spoilt(
+        SETUP,
+        "REVOKE ALL ON ALL TABLES IN SCHEMA maplabel FROM PUBLIC;",
+        "GRANT SELECT ON ALL TABLES IN SCHEMA maplabel TO PUBLIC;",
+        "attack.owner",
+    ),
 )

@@ -132,13 +132,18 @@ def owner() -> None:
         if rights != [(False,) * 6]:
             raise Fault(f"the role maplabel_owner has rights: {rights}")
         base.execute("CREATE ROLE stranger LOGIN")
-        for text in (
-            "SELECT maplabel.attach('towns', 'id', 'geom')",
-            "SELECT maplabel.tell('towns'::regclass, '1', NULL)",
-            "SELECT * FROM maplabel.changes",
-            "INSERT INTO maplabel.changes (source, id) VALUES (1, '1')",
-        ):
-            refuses(base, text, "permission denied", "stranger")
+        for right in ("", "GRANT USAGE ON SCHEMA maplabel TO stranger"):
+            base.execute(right)
+            for text in (
+                "SELECT maplabel.attach('towns', 'id', 'geom')",
+                "SELECT maplabel.detach('towns')",
+                "SELECT maplabel.detach_all()",
+                "SELECT maplabel.tell('towns'::regclass, '1', NULL)",
+                "SELECT * FROM maplabel.changes",
+                "SELECT * FROM maplabel.refusals",
+                "INSERT INTO maplabel.changes (source, id) VALUES (1, '1')",
+            ):
+                refuses(base, text, "permission denied", "stranger")
     print("what runs with rights of its own belongs to a role that has none", flush=True)
 
 

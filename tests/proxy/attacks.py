@@ -156,12 +156,21 @@ def slowest(seconds: float, port: int = PROXY, pause: float = 0.05) -> float:
     return max(longest, time.monotonic() - last)
 
 
+def edits_a_second() -> float:
+    """How many edits two editors get through where nobody attacks: few on a busy machine."""
+    begin, editors = time.monotonic(), Editors(2, name="before-")
+    time.sleep(4)
+    editors.end()
+    return len(editors.made) / (time.monotonic() - begin)
+
+
 @trial("attack")
 def nginx_costly() -> None:
     """160 connections of eight addresses that ask for what costs most: edits are made, saves come
     through, and a kill loses no more than is told."""
     seconds = max(min(Seconds.told, 40), 15)
     with NGINX.served("--save", "2", towns=TOWNS) as run:
+        least = min(2.0, edits_a_second() / 8)
         with attacked(costly, 20) as attack:
             time.sleep(1)
             editors, saved = Editors(2), run.said("saved revision")
@@ -180,7 +189,7 @@ def nginx_costly() -> None:
             f" {editors.slowest:.1f} s, others {editors.refused or 'none'}; {saved} saves; a kill"
             f" lost edits of the last {oldest:.1f} s"
         )
-        if len(editors.made) < 2 * seconds or editors.slowest > ANSWER_WITHIN or saved < 2:
+        if len(editors.made) < least * seconds or editors.slowest > ANSWER_WITHIN or saved < 2:
             raise fail(f"the attack stops edits or saves: {run.lines()[-5:]}")
         if oldest > 2 + 10:
             raise fail("more is lost than the pause between saves and the time of one")
@@ -479,32 +488,51 @@ def slow_head() -> None:
         raise fail("a head that does not end is not given up in time")
 
 
+@contextlib.contextmanager
+def stand_in(act: Callable[[socket.socket, bytes], None]) -> Iterator[list[bytes]]:
+    """In the place of the engine a server that takes a request over each connection, and does with
+    it what is told; the requests."""
+    asked: list[bytes] = []
+
+    def serve() -> None:
+        while True:
+            try:
+                link, _ = door.accept()
+            except OSError:
+                return
+            with link, contextlib.suppress(OSError):
+                asked.append(link.recv(65536))
+                act(link, asked[-1])
+
+    with socket.create_server((HOST, PORT)) as door:
+        thread = threading.Thread(target=serve, daemon=True)
+        thread.start()
+        try:
+            yield asked
+        finally:
+            door.shutdown(socket.SHUT_RDWR)  # else the port is taken as long as accept waits
+            thread.join()
+
+
+def answer_well(link: socket.socket) -> None:
+    """The reply to a request of which nothing is wanted but that it is answered."""
+    link.sendall(b"HTTP/1.1 200 OK\r\nContent-Length: 2\r\nConnection: close\r\n\r\n{}")
+
+
 @trial("haproxy")
 def repeats() -> None:
     """An edit whose connection breaks once it was sent is not sent again, since it may have been
     made; a view is."""
-    asked: list[bytes] = []
-    with folder() as at, socket.create_server((HOST, PORT)) as door:
-        threading.Thread(target=_break_off, args=(door, asked), daemon=True).start()
-        with haproxy(at):
-            got = ask("POST", "/feature", town("added-r"), EDIT, seconds=20)[0]
-            edits = sum(one.startswith(b"POST") for one in asked)
-            ask("GET", "/rev?again", seconds=3)
-            views = sum(one.startswith(b"GET /rev?again") for one in asked)
+
+    def act(link: socket.socket, text: bytes) -> None:
+        if text.startswith(b"GET /rev HTTP"):
+            answer_well(link)
+
+    with folder() as at, stand_in(act) as asked, haproxy(at):
+        got = ask("POST", "/feature", town("added-r"), EDIT, seconds=20)[0]
+        edits = sum(one.startswith(b"POST") for one in asked)
+        ask("GET", "/rev?again", seconds=3)
+        views = sum(one.startswith(b"GET /rev?again") for one in asked)
     say(f"HAProxy: an edit that broke off was sent {edits} time and answered {got}, a view {views}")
     if edits != 1 or not 500 <= got <= 504 or views < 2:
         raise fail("HAProxy sends an edit again, or a view never")
-
-
-def _break_off(door: socket.socket, asked: list[bytes]) -> None:
-    """A server that answers /rev, and breaks off each other request once it has come."""
-    while True:
-        try:
-            link, _ = door.accept()
-        except OSError:
-            return
-        with link, contextlib.suppress(OSError):
-            text = link.recv(65536)
-            asked.append(text)
-            if text.startswith(b"GET /rev HTTP"):
-                link.sendall(b"HTTP/1.1 200 OK\r\nContent-Length: 2\r\nConnection: close\r\n\r\n{}")

@@ -5,11 +5,14 @@ import random
 import socket
 import threading
 import time
+from collections import deque
+from collections.abc import Callable
 
 from maplabel_kit.ports import HOST
-from stage import PROXY, add
+from stage import PROXY, add, remove
 
 Status = int | str
+UNKNOWN = 422  # what the removal of a town is answered with that is not there
 
 
 class Lookers:
@@ -79,13 +82,27 @@ class Lookers:
 
 
 class Editors:
-    """Editors that add towns without a pause: which were answered as made and when, and the
-    rest."""
+    """Editors that add towns without a pause, and keep the time at which each was answered as made.
 
-    def __init__(self, count: int, port: int = PROXY, pause: float = 0.02, name: str = "") -> None:
+    With `keep` each removes its oldest town again where it has more than so many, so that a map
+    with little room is edited for long. `gone` are those whose removal was answered as made, and
+    `lost` those that the server did not have when they were to be removed.
+    """
+
+    def __init__(
+        self,
+        count: int,
+        port: int = PROXY,
+        pause: float = 0.02,
+        name: str = "",
+        keep: int | None = None,
+    ) -> None:
         self.made: dict[str, float] = {}
+        self.gone: set[str] = set()
+        self.lost: set[str] = set()
         self.refused: dict[int, int] = {}
         self.slowest, self.going, self.port, self.pause, self.name = 0.0, True, port, pause, name
+        self.keep = keep
         self.threads = [
             threading.Thread(target=self.run, args=(number,), daemon=True)
             for number in range(count)
@@ -95,18 +112,43 @@ class Editors:
 
     def run(self, number: int) -> None:
         """One editor."""
+        own: deque[str] = deque()
         for count in range(1_000_000):
             if not self.going:
                 return
-            name, begin = f"added-{self.name}{number}-{count}", time.monotonic()
-            status = add(name, 4 * count + number, self.port)
-            now = time.monotonic()
-            if status == 200:
-                self.made[name] = now
-                self.slowest = max(self.slowest, now - begin)
-            else:
-                self.refused[status] = self.refused.get(status, 0) + 1
+            name = f"added-{self.name}{number}-{count}"
+            if self._timed(add, name, 4 * count + number, self.port) == 200:
+                self.made[name] = time.monotonic()
+                own.append(name)
             time.sleep(self.pause)
+            if self.keep is not None and len(own) > self.keep:
+                self._remove(own.popleft())
+
+    def _timed(self, edit: Callable[..., int], *words: object) -> int:
+        """The status of an edit, which is timed where it was made."""
+        begin = time.monotonic()
+        if (status := edit(*words)) == 200:
+            self.slowest = max(self.slowest, time.monotonic() - begin)
+        else:
+            self.refused[status] = self.refused.get(status, 0) + 1
+        return status
+
+    def _remove(self, name: str) -> None:
+        """Removes a town, and tries again until there is an answer."""
+        is_sure = True
+        while self.going:
+            status = self._timed(remove, name, self.port)
+            if status in (200, UNKNOWN):
+                self.gone.add(name)
+                if status == UNKNOWN and is_sure:
+                    self.lost.add(name)
+                return
+            is_sure = is_sure and status in (429, 503)  # else it may have been made
+            time.sleep(self.pause)
+
+    def left(self) -> set[str]:
+        """The towns that must be on the map: those that were added, and not removed."""
+        return set(self.made) - self.gone
 
     def end(self) -> None:
         """Ends all."""

@@ -3,17 +3,15 @@ faults."""
 
 import contextlib
 import os
-import shutil
 import signal
 import subprocess
 import threading
 import time
-from collections.abc import Iterator
+from collections.abc import Callable, Iterator
 from pathlib import Path
 
 from crowd import Editors
 from maplabel_kit.files import folder
-from maplabel_kit.server import Child
 from stage import (
     DATA,
     DEPLOY,
@@ -21,16 +19,18 @@ from stage import (
     Run,
     add,
     ask,
-    bare_server,
     copy_map,
+    end_process,
     fail,
     hold,
     ids,
     ids_in,
     loads,
     low_ports,
+    program,
     running,
     say,
+    served_map,
     wait_for,
 )
 from trials import trial
@@ -105,33 +105,40 @@ def read_only() -> None:
 def unfit_start() -> None:
     """Where nothing can be saved, no server is started, and a sentence says why."""
     with disk() as at:
-        if at is None:
-            return
-        style, path = copy_map(at)
-        port = str(low_ports(1)[0])
-        for fault in ("a disk that cannot be written", "a full disk", "a foreign lock"):
-            if fault == "a foreign lock":
-                _foreign_lock(path)
-            elif fault == "a full disk":
-                fill(at)
-            else:
-                remount(at, "ro")
-            words = [*NOBODY, str(DEPLOY / "run"), style, path, port]
+        if at is not None:
+            _unfit_starts(at)
+
+
+def _unfit_starts(at: Path) -> None:
+    """`run` is started under each fault of a disk, which is mended behind it."""
+    style, path = copy_map(at)
+    text, port = Path(style).read_text(), str(low_ports(1)[0])
+    acts: dict[str, Callable[[], object]] = {
+        "a disk that cannot be written": lambda: remount(at, "ro"),
+        "a folder that cannot be written": lambda: at.chmod(0o555),
+        "a full disk": lambda: fill(at),
+        "a foreign lock": lambda: _foreign_lock(path),
+        "a spoilt style": lambda: Path(style).write_text("x ="),
+    }
+    for fault, act in acts.items():
+        act()
+        words = [*NOBODY, str(DEPLOY / "run"), style, path, port]
+        try:
             done = subprocess.run(words, capture_output=True, text=True, timeout=60, check=False)
-            remount(at, "rw")
-            for one in (at / "filler", Path(path + ".run"), Path(path + ".lock")):
-                one.unlink(missing_ok=True)
-            said = done.stderr.strip()
-            if (
-                done.returncode != 1
-                or "ready" in done.stdout
-                or "\n" in said
-                or "run: " not in said
-            ):
-                raise fail(f"{fault}: run ends with {done.returncode}: {said}")
-    say(
-        "run: a folder that cannot be written, a full disk and a foreign lock are told at the start"
-    )
+        except subprocess.TimeoutExpired:
+            raise fail(f"{fault} is no reason to run not to serve") from None
+        remount(at, "rw")
+        at.chmod(0o777)
+        Path(style).write_text(text)
+        for one in (at / "filler", Path(path + ".run"), Path(path + ".lock")):
+            one.unlink(missing_ok=True)
+        said = done.stderr.strip()
+        is_told = said.startswith("run: ") and "Traceback" not in said
+        if done.returncode != 1 or "ready" in done.stdout or not is_told:
+            raise fail(f"{fault}: run ends with {done.returncode}: {said}")
+        if fault != "a spoilt style" and "\n" in said:
+            raise fail(f"{fault} is told in more than a sentence: {said}")
+    say(f"run: {', '.join(acts)} are told at the start")
 
 
 def _foreign_lock(path: str) -> None:
@@ -196,8 +203,12 @@ def given_up() -> None:
             expect_started(run, 1)
             fill(at)
             run.process.terminate()
+            time.sleep(0.2)
+            run.process.terminate()
             wait_for(lambda: run.said("tried again") > 0, "the full disk is not told")
-            time.sleep(1.1)
+            time.sleep(4)
+            if run.process.poll() is not None:
+                raise fail("a signal that comes twice within a second counts as two")
             if run.end() != 3 or not run.said("is lost"):
                 raise fail(f"a second signal on a full disk: {run.lines()}")
             if not loads(run.style, run.map):
@@ -227,7 +238,7 @@ def full_at_count() -> None:
             wait_for(lambda: run.said("ready") == 2, lambda: f"no restart: {run.lines()[-3:]}")
             time.sleep(1)
             editors.end()
-            lost = set(editors.made) - ids(ask("GET", "/map", port=PORT)[1])
+            lost = set(editors.made) - ids(served_map())
             if lost or run.said("by itself"):
                 raise fail(f"{len(lost)} edits of {len(editors.made)} are lost on a full disk")
             say(
@@ -264,6 +275,7 @@ def stopped_reader() -> None:
     with folder() as at, open(reader, "rb", buffering=0), open(writer, "wb") as said:
         run = Run(at, "--save", "3600", towns=32_000, said=said)
         try:
+            expect_started(run, 1)
             begin = time.monotonic()
             done = threading.Event()
 
@@ -279,14 +291,41 @@ def stopped_reader() -> None:
                 raise fail("a reader of standard error that has stopped holds the server")
             seconds = time.monotonic() - begin
             wait_for(lambda: run.said("are dropped") > 0, "it is not told that lines are dropped")
-            if run.end() != 0:
-                raise fail("run does not end beside a reader that has stopped")
+            if run.end() != 0 or ids_in(run.map) != {"added-1"}:
+                raise fail("run does not end well beside a reader that has stopped")
         finally:
             run.surely_end()
     say(
         f"run: two styles of 32,000 towns took {seconds:.1f} s while nobody read the lines of"
         " changes"
     )
+
+
+@trial("lines")
+def stopped_log() -> None:
+    """Whoever reads what `run` itself tells has stopped: it serves, saves and ends all the same."""
+    reader, writer = os.pipe()
+    with folder() as at, open(reader, "rb", buffering=0), open(writer, "wb", buffering=0) as said:
+        os.set_blocking(writer, False)
+        while said.write(b"x" * 4096):
+            pass
+        os.set_blocking(writer, True)
+        style, path = copy_map(at)
+        words = [str(DEPLOY / "run"), style, path, str(PORT), "--save", "0.3"]
+        process = subprocess.Popen(words, stdout=said, stderr=subprocess.DEVNULL)
+        try:
+            wait_for(lambda: ask("GET", "/rev", port=PORT)[0] == 200, "nothing is served")
+            for number in range(2):
+                add(f"added-{number}", number, PORT)
+                wait_for(lambda: len(ids_in(path)) == number + 1, "nothing is saved")
+            process.send_signal(signal.SIGHUP)
+            wait_for(lambda: add("added-2", 2, PORT) == 200, "no edit is made")
+            wait_for(lambda: len(ids_in(path)) == 3, "nothing is saved behind a restart")
+            if end_process(process) != 0:
+                raise fail(f"run ends with {process.returncode} beside a reader that has stopped")
+        finally:
+            end_process(process, signal.SIGKILL)
+    say("run: where nobody reads its own lines it serves, saves, restarts and ends")
 
 
 @trial("lines")
@@ -337,103 +376,36 @@ def hung_while_held() -> None:
     say("run: a stopped server that a client has is served again too")
 
 
-TOUCHING = ("openat", "write", "fsync", "rename", "renameat2") + (
-    "pwrite64",
-    "ftruncate",
-    "copy_file_range",
-    "sendfile",
-)
+STUB = """#!/usr/bin/python3
+import os, socket, sys, time
+if sys.argv[1] == "serve" and os.path.exists({mark!r}):
+    with open({mark!r}) as file:
+        is_taken = file.read() == "it does not read what was sent to it"
+    os.remove({mark!r})
+    door = socket.create_server(("127.0.0.1", int(sys.argv[4])))
+    print("ready", flush=True)
+    kept = [door.accept() for _ in range(is_taken)]
+    time.sleep(600)
+os.execv({program!r}, [{program!r}, *sys.argv[1:]])
+"""
 
 
-@trial("killed")
-def at_each_call() -> None:
-    """`save` is killed at each call by which it touches the map's files: the file is whole each
-    time."""
-    if not shutil.which("strace"):
-        say("strace is not installed: kills at each call are not tried")
-        return
-    with folder() as at:
-        style, path = copy_map(at)
-        with bare_server(style, path) as server:
-            saver = [str(DEPLOY / "save"), str(server.process.pid), style, path, str(PORT)]
-            kills = made = 0
-            for call in TOUCHING:
-                for number in range(1, 100):
-                    made += 1
-                    if _is_whole(saver, style, path, f"{call}:signal=KILL:when={number}", made):
-                        break
-                    kills += 1
-            if ids_in(path) != {f"added-{one}" for one in range(1, made + 1)} or kills < 4:
-                raise fail(f"killed {kills} times, save does not hold each edit")
-    say(f"save: killed at each of {kills} calls on its files it leaves a map that is loaded")
-
-
-def _is_whole(saver: list[str], style: str, path: str, inject: str, made: int) -> bool:
-    """Whether a save came to its end though a kill was to come at a call; the file is whole then
-    or not."""
-    if add(f"added-{made}", made, PORT) != 200:
-        raise fail("no edit")
-    before = Path(path).read_bytes()
-    words = ["strace", "-f", "-qq", "-o", path + ".trace", "-P", path, "-P", path + ".new"]
-    done = subprocess.run(
-        [*words, "-e", "inject=" + inject, *saver], capture_output=True, check=False
-    )
-    if Path(path).read_bytes() != before and not loads(style, path):
-        raise fail(f"killed at {inject}, save leaves a map that is broken")
-    return done.returncode == 0
-
-
-@trial("killed")
-def stop_lets_go_late() -> None:
-    """`stop` with a pause before it ends the server: no edit is made in that pause."""
-    if not shutil.which("strace"):
-        say("strace is not installed: a pause before the end is not tried")
-        return
-    with folder() as at:
-        style, path = copy_map(at)
-        with bare_server(style, path) as server:
-            editors = Editors(4, PORT, 0.001)
-            time.sleep(0.5)
-            words = [
-                "strace",
-                "-f",
-                "-qq",
-                "-o",
-                str(at / "trace"),
-                "-e",
-                "inject=kill:delay_enter=2000000",
-            ]
-            stop = [str(DEPLOY / "stop"), str(server.process.pid), style, path, str(PORT)]
-            done = subprocess.run([*words, *stop], capture_output=True, text=True, check=False)
-            editors.end()
-            lost = set(editors.made) - ids_in(path)
-            if done.returncode != 0 or lost or server.is_running():
-                raise fail(
-                    f"stop with a pause before the kill: status {done.returncode}, lost"
-                    f" {len(lost)} of {len(editors.made)}: {done.stderr}"
-                )
-    say(f"stop: with two seconds before the kill none of {len(editors.made)} edits is lost")
-
-
-DOORS = ("ECONNABORTED", "EMFILE", "ENFILE", "ENOBUFS", "ENOMEM", "EPROTO", "EPERM")
-
-
-@trial("doors")
-def accept() -> None:
-    """A connection that fails while it is accepted: the server serves the next one."""
-    if not shutil.which("strace"):
-        say("strace is not installed: faults of accept are not tried")
-        return
-    for name in DOORS:
+@trial("hung")
+def idle() -> None:
+    """A server that runs, and takes no connection or reads nothing though some wait for it, is
+    started again too."""
+    for how in ("it takes no connection, though some wait", "it does not read what was sent to it"):
         with folder() as at:
-            style, path = copy_map(at)
-            inject = f"inject=accept,accept4:error={name}:when=2"
-            words = ["strace", "-f", "-qq", "-o", str(at / "trace"), "-e", inject]
-            with Child([*words, os.environ["MAPLABEL"], "serve", style, path, PORT, 100]) as child:
-                if child.first_line() != b"ready\n":
-                    raise fail("the server is not ready")
-                add("added-1", 1, PORT)
-                got = [ask("GET", "/rev", port=PORT, seconds=10)[0] for _ in range(3)]
-                if got[-1] != 200 or not child.is_running():
-                    raise fail(f"accept that fails once with {name}: {got}, {child.process.poll()}")
-    say(f"serve: accept that fails once with any of {', '.join(DOORS)} is tried again")
+            stub, mark = at / "stub", at / "mark"
+            stub.write_text(STUB.format(mark=str(mark), program=program()))
+            stub.chmod(0o755)
+            mark.write_text(how)
+            with running(at, "--save", "0.5", "--hung", "3", "--program", stub) as run:
+                wait_for(
+                    lambda: run.said("ready") == 2,
+                    lambda: f"a server that does nothing stays so: {run.lines()}",
+                )
+                is_told = any(" has hung for " in line and how in line for line in run.lines())
+                if not is_told or add("added-1", 1, PORT) != 200:
+                    raise fail(f"a server that does nothing: {run.lines()}")
+    say("run: a server that takes or reads nothing, though it runs, is started again")

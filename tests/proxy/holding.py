@@ -1,5 +1,7 @@
 """A client that holds the server while it is to be ended or restarted."""
 
+import os
+import pwd
 import signal
 import socket
 import subprocess
@@ -22,6 +24,7 @@ from stage import (
     ids_in,
     running,
     say,
+    town,
     wait_for,
 )
 from trials import trial
@@ -80,14 +83,66 @@ def run_waits() -> None:
         wait_for(lambda: run.said("ready") == 2, "a planned restart is not tried again")
         if add("added-x", port=PORT) != 200 or ask("GET", "/rev", port=PORT)[0] != 200:
             raise fail("the server is not there after a restart")
-        with hold():
+        with hold() as link:
+            edit_over(link, "added-y")
             status = run.end()
-        if status != 3 or ids_in(run.map):
+        if status != 3 or ids_in(run.map) or not run.said("is lost"):
             raise fail(f"run ended with {status} beside a held server: {run.lines()}")
     say(
         "run beside a client that holds the server: no restart until it goes; its end tells the"
         " loss"
     )
+
+
+def edit_over(link: socket.socket, name: str) -> None:
+    """An edit over a connection that stays open."""
+    text = town(name).encode()
+    link.sendall(
+        b"POST /feature HTTP/1.1\r\nHost: a\r\nContent-Length: %d\r\n\r\n%s" % (len(text), text)
+    )
+    if not link.recv(4096).startswith(b"HTTP/1.1 200 "):
+        raise fail("a client that holds the server cannot edit")
+
+
+@trial("holding")
+def run_never() -> None:
+    """With --never a client that holds the server is no reason to lose what it edited: the server
+    goes on, and takes edits."""
+    with folder() as at, running(at, "--wait", "2", "--never", "--drain", at / "drain") as run:
+        with hold() as link:
+            edit_over(link, "added-x")
+            run.process.terminate()
+            wait_for(lambda: run.said("goes on") > 0, "run --never is not told to go on", 30)
+            time.sleep(1.5)
+        if run.process.poll() is not None or (at / "drain").exists():
+            raise fail(f"run --never beside a held server: {run.lines()}")
+        if add("added-y", port=PORT) != 200:
+            raise fail("behind an end that did not come about no edit is made")
+        if run.end() != 0 or ids_in(run.map) != {"added-x", "added-y"}:
+            raise fail(f"run --never loses an edit: {run.lines()}")
+    say("run --never: beside a client that holds it the server goes on, and nothing is lost")
+
+
+@trial("holding")
+def run_held_long() -> None:
+    """While a client holds the server nothing is saved, and that client alone can edit; behind it
+    all is saved, and an edit whose client gave up is made."""
+    with folder() as at, running(at, "--save", "0.5") as run:
+        with hold() as link:
+            edit_over(link, "added-x")
+            late = ask("POST", "/feature", town("added-y"), port=PORT, seconds=1)[0]
+            time.sleep(3)
+            edit_over(link, "added-z")
+            if late != 0 or ids_in(run.map) or not run.said("no save has succeeded"):
+                raise fail(f"beside a client that holds it: {late}, {run.lines()}")
+            who = f"port {link.getsockname()[1]} of user {pwd.getpwuid(os.getuid()).pw_name} has"
+            if not run.said(who):
+                raise fail(f"it is not told that {who} held the server: {run.lines()}")
+        wait_for(
+            lambda: ids_in(run.map) == {"added-x", "added-y", "added-z"},
+            lambda: f"behind a client that held it {ids_in(run.map)} is saved",
+        )
+    say("run: a client that holds the server edits alone, and nothing is saved until it goes")
 
 
 @trial("holding")

@@ -2,9 +2,13 @@
 and what a restart costs."""
 
 import contextlib
+import json
 import os
+import signal
 import socket
+import subprocess
 import time
+import tomllib
 from collections.abc import Callable, Iterator
 from contextlib import AbstractContextManager
 from dataclasses import dataclass
@@ -15,6 +19,7 @@ from maplabel_kit.files import TOP, folder
 from maplabel_kit.ports import HOST
 from maplabel_run.process import opened
 from stage import (
+    DEPLOY,
     PORT,
     PROXY,
     Run,
@@ -29,6 +34,7 @@ from stage import (
     nginx,
     running,
     say,
+    served_map,
     town,
     wait_for,
 )
@@ -85,13 +91,22 @@ REFUSALS: tuple[Wanted, ...] = (
 
 def refusals(front: Front) -> None:
     """What the proxy refuses by itself; and that the same edit passes with its field."""
-    with front.served():
+    with front.served() as run:
         for method, target, body, fields, want in REFUSALS:
             got, text = ask(method, target, body, fields)
             if got != want:
                 raise fail(
                     f"{front.name}: {method} {target} {fields}: {got}, not {want}: {text[:200]!r}"
                 )
+        got = ask("POST", "/feature", town("added-a"), EDIT, source="127.0.0.9")[0]
+        if got != 403:
+            raise fail(f"{front.name}: an edit from another address was answered with {got}")
+        if front.has_pages:
+            (Path(run.map).parent / "drain").touch()
+            if (got := ask("POST", "/feature", town("added-d"), EDIT)[0]) != 503:
+                raise fail(f"{front.name}: an edit during a restart was answered with {got}")
+        if there := ids(ask("GET", "/map", port=PORT)[1]):
+            raise fail(f"{front.name}: edits that were refused were made: {there}")
     say(f"{front.name}: edits without the field, other methods and other paths are refused")
 
 
@@ -169,6 +184,35 @@ def pages(front: Front) -> None:
     say(f"{front.name}: the {count} pages of web/ are served, and nothing else of it")
 
 
+def style_told(front: Front) -> None:
+    """Pages are told the style that is served, also once `deploy/style` has put another one in its
+    place."""
+    with front.served("--save", "0.5") as run:
+        new = Path(run.map).parent / "new.toml"
+        new.write_text(Path(run.style).read_text().replace("size = ", "size = 1"))
+        for is_new in (False, True):
+            if is_new:
+                words = [str(DEPLOY / "style"), str(new), run.style, run.map, str(PORT)]
+                subprocess.run(words, stdout=subprocess.DEVNULL, check=True)
+            tree = tomllib.loads(Path(run.style).read_text())
+            want = [(one.get("value"), one["size"]) for one in tree["class"]], set(tree["fonts"])
+            wait_for(lambda: _told_style() == want, lambda: f"pages are told {_told_style()}", 20)
+        run.process.send_signal(signal.SIGHUP)
+        wait_for(lambda: run.said("ready") == 2, "SIGHUP does not restart the server")
+        if _told_style() != want or ask("PUT", "/style.json", "x")[0] != 403:
+            raise fail(f"{front.name}: behind a restart pages are told {_told_style()}")
+    say(f"{front.name}: pages are told the style, and another one that takes its place")
+
+
+def _told_style() -> object:
+    """The classes with their sizes, and the fonts, as pages are told."""
+    status, text = ask("GET", "/style.json")
+    if status != 200:
+        return status
+    told = json.loads(text)
+    return [(one.get("value"), one["size"]) for one in told["classes"]], set(told["fonts"])
+
+
 def limited(front: Front) -> None:
     """One client that asks too often is told so, and another one is answered."""
     with front.served():
@@ -213,7 +257,7 @@ def fields(front: Front) -> None:
         status, body = ask("GET", "/rev", fields=many)
         if status == 400 and body.startswith(b'{"error":'):
             raise fail(f"{front.name}: 70 fields reached the engine")
-        if status not in (200, 400):
+        if status != (400 if front.start is haproxy else 200):
             raise fail(f"{front.name}: 70 fields were answered with {status}")
     say(f"{front.name}: 70 fields are answered with {status}, and the engine does not see them")
 
@@ -263,8 +307,7 @@ def restarts(front: Front) -> None:
             time.sleep(1)
         editors.end()
         said, seconds = lookers.end(), time.monotonic() - begin
-        wait_for(lambda: ask("GET", "/rev", port=PORT)[0] == 200, "the server does not come back")
-        there, made = ids(ask("GET", "/map", port=PORT)[1]), set(editors.made)
+        there, made = ids(served_map()), set(editors.made)
         times, crashes = run.said("are used up"), run.said("by itself")
         say(f"{front.name}: {times} restarts in {seconds:.0f} s: {said}")
         say(
@@ -272,9 +315,12 @@ def restarts(front: Front) -> None:
             f"{editors.refused or 'none'}; lost {len(made - there)}, made without an answer "
             f"{len(there - made)}"
         )
-        if made - there or crashes or times < 3:
-            raise fail(f"{front.name}: lost {len(made - there)}, {crashes} ends, {times} restarts")
-        if front.start is not nginx and set(lookers.bad) - {502, 503}:
+        if made != there or crashes or times < 3:
+            raise fail(
+                f"{front.name}: lost {len(made - there)}, {len(there - made)} made without an"
+                f" answer, {crashes} ends, {times} restarts"
+            )
+        if front.start is not nginx and lookers.bad:
             raise fail(f"{front.name}: a restart is seen")
         if run.end() != 0 or made - ids_in(run.map):
             raise fail(f"{front.name}: the planned end lost an edit: {run.lines()[-3:]}")
@@ -296,7 +342,7 @@ def _enter() -> None:
         for function in (refusals, hosts, cached, chunked, fields, held, crowd, restarts):
             TRIALS[f"{front.name}.{function.__name__}"] = _bound(function, front)
         if front.has_pages:
-            for function in (pages, limited):
+            for function in (pages, style_told, limited):
                 TRIALS[f"{front.name}.{function.__name__}"] = _bound(function, front)
 
 

@@ -14,6 +14,7 @@ from stage import (
     DATA,
     DEPLOY,
     PORT,
+    Run,
     add,
     ask,
     bare_server,
@@ -71,6 +72,67 @@ def killed_saver() -> None:
     )
     if changed < 5:
         raise fail("no save came to its end")
+
+
+@trial("saving")
+def planned() -> None:
+    """A planned restart, SIGTERM and Ctrl-C while clients edit: no edit that was answered is lost,
+    and none is made without an answer."""
+    for number in (signal.SIGHUP, signal.SIGTERM, signal.SIGINT):
+        with folder() as at, running(at, "--save", "1") as run:
+            editors = Editors(4, PORT)
+            time.sleep(2)
+            if number == signal.SIGHUP:
+                run.process.send_signal(number)
+                wait_for(lambda: run.said("ready") == 2, "SIGHUP does not restart the server")
+                time.sleep(0.5)
+            elif run.end(number) != 0:
+                raise fail(f"{number.name}: run ends with {run.process.returncode}")
+            editors.end()
+            if number == signal.SIGHUP and run.end() != 0:
+                raise fail("run does not end well behind a restart")
+            made, there = set(editors.made), ids_in(run.map)
+            if made != there or not made:
+                raise fail(
+                    f"{number.name}: of {len(made)} edits {len(made - there)} are lost, and"
+                    f" {len(there - made)} were made without an answer"
+                )
+        say(f"run: {number.name} while clients edit: none of {len(made)} edits is lost")
+
+
+@trial("saving")
+def ended_while_loading() -> None:
+    """Told to end while the server loads its map, at the start and at a planned restart, it ends at
+    once, with each edit in the file and no server left."""
+    with folder() as at:
+        run = Run(at, "--save", "3600", towns=32_000)
+        try:
+            add("added-1", 1, PORT)
+            run.process.send_signal(signal.SIGHUP)
+            wait_for(lambda: run.said("nothing is lost") > 0, "no planned restart")
+            for name, wanted in (("a restart", {"added-1"}), ("a start", {"added-1"})):
+                if name == "a start":
+                    run.launch()
+                    wait_for(lambda: bool(_servers(run)), "no server is started")
+                run.process.terminate()
+                seconds = wait_for(
+                    lambda: run.process.poll() is not None,
+                    f"told to end during {name} it stays",
+                    30,
+                )
+                if run.process.returncode != 0 or ids_in(run.map) != wanted or _servers(run):
+                    raise fail(
+                        f"told to end during {name}: {run.process.returncode}, {run.lines()}"
+                    )
+        finally:
+            run.surely_end()
+    say(f"run: told to end while the server loads 32,000 towns it ends in {seconds:.1f} s")
+
+
+def _servers(run: Run) -> list[str]:
+    """The processes that serve the map of a `run`."""
+    words = ["pgrep", "-f", f" serve {run.style} {run.map} "]
+    return subprocess.run(words, capture_output=True, text=True, check=False).stdout.split()
 
 
 @trial("saving")
@@ -135,7 +197,15 @@ def kept_style() -> None:
         wait_for(lambda: run.said("ready") == 2, "SIGHUP does not restart the server")
         if ask("GET", "/state", port=PORT)[1].split(b"\n", 1)[1] != states:
             raise fail("the style is another one after a restart")
-    say("style: kept over a restart; a bad one changes nothing")
+        if ask("PUT", "/style", text, port=PORT)[0] != 200:
+            raise fail("a style is not taken")
+        if ask("GET", "/state", port=PORT)[1].split(b"\n", 1)[1] == states:
+            raise fail("the styles of this test are alike")
+        run.process.send_signal(signal.SIGHUP)
+        wait_for(lambda: run.said("ready") == 3, "SIGHUP does not restart the server")
+        if ask("GET", "/state", port=PORT)[1].split(b"\n", 1)[1] != states:
+            raise fail("a style that came by PUT is there after a restart")
+    say("style: kept over a restart; a bad one changes nothing; one that came by PUT is gone")
 
 
 @trial("saving")

@@ -3,6 +3,7 @@ be seen."""
 
 import argparse
 import os
+import re
 import shutil
 import subprocess
 from collections.abc import Callable, Sequence
@@ -12,7 +13,7 @@ from pathlib import Path
 from maplabel_kit import files, program
 from maplabel_kit.faults import Fault
 
-FOLDERS = ("deploy", "python", "web", "tests/proxy", "tests/sync", "tests/postgis")
+FOLDERS = ("deploy", "docs", "python", "web", "tests/proxy", "tests/sync", "tests/postgis")
 DATA = "crates/maplabel/data"
 LIMIT = 420  # seconds that a trial of a spoilt copy may take
 
@@ -73,40 +74,58 @@ def copy(to: Path) -> None:
 def see_all(spoilt: Sequence[Spoilt], script: str) -> None:
     """Each spoilt copy must be seen by its trial, which must pass on a copy that is not spoilt;
     which are not is told."""
-    for trial in dict.fromkeys(one.trial for one in spoilt):
-        with files.folder() as at:
-            copy(at)
-            at.chmod(0o755)
-            if said := _fault_of(at / script, trial):
-                raise Fault(f"{trial} fails on a copy that is not spoilt: {said}")
     unseen = []
-    for number, one in enumerate(spoilt, 1):
-        with files.folder() as at:
-            copy(at)
-            at.chmod(0o755)
-            path = at / one.file
-            text = path.read_text()
-            if text.count(one.here) < 1:
-                raise Fault(f"{one.file} has no longer {one.here!r}, which was to be spoilt")
-            path.write_text(text.replace(one.here, one.there))
-            said = _fault_of(at / script, one.trial)
-        told = " ".join(f"{one.file}: {one.there or 'nothing in the place of ' + one.here}".split())
-        print(f"{number}. {told[:110]}: {said or 'NOT SEEN'}", flush=True)
-        if not said:
-            unseen.append(told)
+    for trial in dict.fromkeys(one.trial for one in spoilt):
+        if said := _fault_in_copy(script, trial):
+            unseen.append(f"{trial} fails on a copy that is not spoilt: {said}")
+            print(unseen[-1], flush=True)
+            continue
+        for one in spoilt:
+            if one.trial == trial and not _is_seen(script, one):
+                unseen.append(told(one))
     if unseen:
-        raise Fault(
-            f"{len(unseen)} of {len(spoilt)} spoilt copies are not seen: {'; '.join(unseen)}"
-        )
+        raise Fault(f"of {len(spoilt)} spoilt copies are not seen: {'; '.join(unseen)}")
     print(f"each of {len(spoilt)} spoilt copies is seen")
 
 
-def _fault_of(script: Path, trial: str) -> str:
-    """What the trial finds, or nothing."""
+def told(one: Spoilt) -> str:
+    """A spoilt copy in words."""
+    text = f"{one.file}: {one.there or 'nothing in the place of ' + one.here}"
+    return " ".join(text.split())[:110]
+
+
+def _is_seen(script: str, one: Spoilt) -> bool:
+    """Whether a spoilt copy is seen, which is told."""
+    said = _fault_in_copy(script, one.trial, one)
+    print(f"{one.trial} of {told(one)}: {said or 'NOT SEEN'}", flush=True)
+    return said != ""
+
+
+def _fault_in_copy(script: str, trial: str, one: Spoilt | None = None) -> str:
+    """What a trial finds in a copy, which may be spoilt."""
+    with files.folder() as at:
+        copy(at)
+        at.chmod(0o755)
+        if one is not None:
+            text = (at / one.file).read_text()
+            if one.here not in text:
+                raise Fault(f"{one.file} has no longer {one.here!r}, which was to be spoilt")
+            (at / one.file).write_text(text.replace(one.here, one.there))
+        return _fault_of(at / script, trial, is_whole=one is None)
+
+
+def _fault_of(script: Path, trial: str, is_whole: bool = False) -> str:
+    """What the trial finds, in a sentence of its own, or nothing. That it takes too long, or breaks
+    off, may be the machine's fault: of a copy that is whole that is told too, and of one that is
+    spoilt it does not count as seen."""
     words = [str(script), trial, "--seconds", "12"]
     try:
         done = subprocess.run(words, capture_output=True, text=True, timeout=LIMIT, check=False)
     except subprocess.TimeoutExpired:
-        return ""  # that it takes too long may be the machine's fault
-    lines = done.stderr.strip().splitlines() or [f"status {done.returncode}"]
-    return "" if done.returncode == 0 else lines[-1][:160]
+        return "it is not done in time" if is_whole else ""
+    if done.returncode == 0:
+        return ""
+    said = re.search(rf"^tests/{script.parent.name}: (.*)", done.stderr, re.M | re.S)
+    if said:
+        return " ".join(said[1].split())[:160]
+    return done.stderr.strip()[-160:] or f"status {done.returncode}" if is_whole else ""

@@ -133,6 +133,43 @@ def expect() -> None:
     say(f"Expect: 100-continue is passed over; curl waits {seconds:.1f} s for leave")
 
 
+CURLS = {
+    "curl -Z --parallel-immediate": ["curl", "-Z", "--parallel-immediate"],
+    "with -H 'Connection: close'": [
+        "curl",
+        "-Z",
+        "--parallel-immediate",
+        "-H",
+        "Connection: close",
+    ],
+    "in one call without -Z": ["curl"],
+    "by xargs -P": ["xargs", "-P", "8", "-n", "1", "curl"],
+}
+
+
+@trial("sockets")
+def curl() -> None:
+    """Eight addresses asked for by curl in several ways: all are answered but where curl opens
+    connections that it does not use."""
+    told = {}
+    for name, words in CURLS.items():
+        with served() as at:
+            urls = [f"http://{HOST}:{PORT}/rev?n={number}" for number in range(8)]
+            many = words if words[0] == "curl" else words + ["-s", "-m", "10"]
+            more = ["-s", "-m", "10", *urls] if words[0] == "curl" else []
+            text = "" if more else "\n".join(urls)
+            path = at / "got"
+            with open(path, "wb") as out:
+                words, data = [*many, *more], text.encode()
+                subprocess.run(
+                    words, input=data, stdout=out, stderr=subprocess.DEVNULL, check=False
+                )
+            told[name] = path.read_bytes().count(b'"rev"')
+    say("of eight addresses are answered: " + ", ".join(f"{n} {name}" for name, n in told.items()))
+    if list(told.values())[1:] != [8, 8, 8]:
+        raise fail("not all are answered")
+
+
 NODE = """
 const http = require('http'), url = 'http://%s:%d/rev'
 const agent = new http.Agent({ keepAlive: true, maxSockets: 1 })

@@ -13,6 +13,7 @@ import time
 from collections.abc import Callable, Iterator, Mapping
 from pathlib import Path
 from typing import IO
+from urllib.parse import quote
 
 from maplabel_kit import program as kit_program
 from maplabel_kit.faults import Fault
@@ -265,13 +266,27 @@ def ask(
         HOST, PROXY if port is None else port, timeout=seconds, source_address=(source, 0)
     )
     try:
-        link.request(method, target, body, dict(fields or {}))
+        data = body.encode() if isinstance(body, str) else body
+        link.request(method, target, data, dict(fields or {}))
         reply = link.getresponse()
         return reply.status, reply.read()
     except (OSError, http.client.HTTPException):
         return 0, b""
     finally:
         link.close()
+
+
+def served_map() -> bytes:
+    """The map, also where the server is just being restarted."""
+    got: list[bytes] = []
+
+    def is_there() -> bool:
+        status, text = ask("GET", "/map", port=PORT)
+        got.append(text)
+        return status == 200
+
+    wait_for(is_there, "the server does not come back")
+    return got[-1]
 
 
 def hold(port: int | None = None) -> socket.socket:
@@ -295,6 +310,11 @@ def town(name: str, number: int = 0) -> str:
 def add(name: str, number: int = 0, port: int | None = None) -> int:
     """Adds a town; the status of the reply."""
     return ask("POST", "/feature", town(name, number), {"X-Edit": "1"}, port)[0]
+
+
+def remove(name: str, port: int | None = None) -> int:
+    """Removes a town; the status of the reply."""
+    return ask("DELETE", f"/feature?id={quote(name)}", None, {"X-Edit": "1"}, port)[0]
 
 
 def ids(text: str | bytes) -> set[str]:

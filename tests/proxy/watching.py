@@ -19,9 +19,24 @@ from urllib.parse import quote
 from maplabel_kit.files import folder
 from maplabel_kit.ports import HOST
 from maplabel_kit.server import Child
-from stage import DEPLOY, PORT, Run, add, copy_map, fail, hold, low_ports, running, say, wait_for
+from maplabel_run.process import opened
+from stage import (
+    DEPLOY,
+    PORT,
+    Run,
+    add,
+    copy_map,
+    fail,
+    hold,
+    low_ports,
+    program,
+    running,
+    say,
+    wait_for,
+)
 from trials import trial
 
+Done = subprocess.CompletedProcess[bytes]
 UNITS = ("maplabel.service", "maplabel-restart.service", "maplabel-restart.timer")
 EXPOSURE = 2.0  # what systemd-analyze security may tell at most
 
@@ -82,6 +97,7 @@ def figures(path: Path) -> dict[str, float]:
 @trial("watching")
 def figures_file() -> None:
     """The figures are those that were brought about."""
+    before = opened()
     with folder() as at, running(at, "--save", "0.5", "--metrics", at / "x.prom") as run:
         path = at / "x.prom"
         for number in range(3):
@@ -97,7 +113,7 @@ def figures_file() -> None:
         with hold():
             wait_for(lambda: figures(path)["maplabel_held_seconds"] > 5, "held is not told")
         left = figures(path)["maplabel_connections_left"]
-        if not 0 <= age < 12 or not 999_000 < left < 1_000_000:
+        if not 0 <= age < 12 or not 1_000_000 - (opened() - before) <= left < 1_000_000:
             raise fail(f"saved {age:.1f} s ago, {left} connections left")
     say("run: the figures of a file tell revisions, saves, restarts, and a server that is held")
 
@@ -141,6 +157,76 @@ def prometheus() -> None:
             raise fail("run ended")
     say(
         "Prometheus reads the figures by way of the node exporter; the alarm of a held server comes"
+    )
+
+
+# Figures that bring about each alarm; values at every ten seconds.
+FILE = 'node_textfile_mtime_seconds{file="/run/maplabel/maplabel.prom"}'
+BROUGHT = (
+    ("MaplabelDown", {"maplabel_up": "0x30", FILE: "0+10x30"}, "2m"),
+    ("MaplabelDown", {"maplabel_up": "1x30", FILE: "0x30"}, "2m"),
+    ("MaplabelNotSaved", {"maplabel_saved_timestamp_seconds": "0x30"}, "2m"),
+    ("MaplabelHeld", {"maplabel_held_seconds": "0+10x30"}, "40s"),
+    ("MaplabelStartedAgain", {'maplabel_restarts_total{why="ended"}': "0 0 1x30"}, "2m"),
+    ("MaplabelStartedAgain", {'maplabel_restarts_total{why="hung"}': "0 0 1x30"}, "2m"),
+    ("MaplabelConnectionsLow", {"maplabel_connections_left": "99999x90"}, "6m"),
+)
+WELL = {
+    "maplabel_up": "1x90",
+    FILE: "0+10x90",
+    "maplabel_saved_timestamp_seconds": "0+10x90",
+    "maplabel_held_seconds": "20x90",
+    'maplabel_restarts_total{why="planned"}': "0+1x90",
+    'maplabel_restarts_total{why="ended"}': "1x90",
+    "maplabel_connections_left": "100000x90",
+}
+
+
+@trial("watching")
+def alarms() -> None:
+    """Each alarm comes by the figures that it is for, and none where all is well, as Prometheus'
+    own tool reckons them."""
+    if not shutil.which("promtool"):
+        say("promtool is not installed: the alarms are not reckoned")
+        return
+    rules = DEPLOY / "maplabel-alarms.yml"
+    told = dict(re.findall(r"alert: (\w+)\n(?:.*\n)*?.*summary: (\".*\")", rules.read_text()))
+    with folder() as at:
+        tests = [_reckoned(name, series, when, told[name]) for name, series, when in BROUGHT]
+        tests += [_reckoned(name, WELL, "10m", None) for name in told]
+        lines = [f"rule_files: [{rules}]", "evaluation_interval: 10s", "tests:", *tests]
+        (at / "tests.yml").write_text("\n".join(lines) + "\n")
+        words = ["promtool", "test", "rules", str(at / "tests.yml")]
+        done = subprocess.run(words, capture_output=True, text=True, check=False)
+        if done.returncode != 0:
+            raise fail(f"promtool test rules: {done.stdout} {done.stderr}")
+    if set(told) != {name for name, _, _ in BROUGHT}:
+        raise fail(f"an alarm is not tried: {set(told)}")
+    page = (DEPLOY.parent / "docs" / "DEPLOYMENT.md").read_text()
+    rows = dict(re.findall(r"^\| (Maplabel\w+) \| `([^`]*)`", page, re.M))
+    kept = dict(re.findall(r"alert: (\w+)\n    expr: (.*)", rules.read_text()))
+    if rows.keys() != told.keys() or any(rows[name] not in kept[name] for name in rows):
+        raise fail(f"docs/DEPLOYMENT.md gives other alarms: {rows}, not {kept}")
+    say(f"promtool: each of {len(told)} alarms comes when it should, and not when all is well")
+
+
+def _reckoned(name: str, series: dict[str, str], when: str, summary: str | None) -> str:
+    """A test of promtool: with these figures the alarm is there at that time, or not."""
+    given = [f"  - {{series: '{one}', values: '{values}'}}" for one, values in series.items()]
+    labels = [found for one in series for found in re.findall(r"(why|file)=(\"[^\"]*\")", one)]
+    # The alarm has the labels of its figures; of MaplabelDown those of what is not as it should be.
+    is_up = series.get("maplabel_up", "").startswith("1")
+    mine = [f"{key}: {value}" for key, value in labels if key == "why" or is_up]
+    alert = f"{{exp_labels: {{{', '.join(mine)}}}, exp_annotations: {{summary: {summary}}}}}"
+    wanted = f"[{alert}]" if summary else "[]"
+    return "\n".join(
+        [
+            "- interval: 10s",
+            "  input_series:",
+            *given,
+            "  alert_rule_test:",
+            f"  - {{eval_time: {when}, alertname: {name}, exp_alerts: {wanted}}}",
+        ]
     )
 
 
@@ -250,3 +336,32 @@ def _for_users(rule: str) -> str:
         except KeyError:
             rule = rule.replace(f" {name},", "").replace(f", {name} ", " ")
     return rule
+
+
+STACKS = {"follow": 2048, "pipe": 64}  # kibibytes with which a command does all that it has to
+
+
+@trial("units")
+def stack() -> None:
+    """`follow` judges a state of 32,000 towns with a stack of 2 MiB, and what a server does needs
+    far less; with too little the system ends `follow`."""
+    with folder() as at:
+        style, path = copy_map(at, 32_000)
+        states = at / "states"
+        asked = b"GET /state HTTP/1.1\r\nHost: localhost\r\n\r\n"
+        said = _run_within(STACKS["pipe"], ["pipe", style, path], asked)
+        states.write_bytes(said.stdout.partition(b"\r\n\r\n")[2])
+        done = _run_within(STACKS["follow"], ["follow", str(states)])
+        if done.returncode != 0 or not done.stdout.startswith(b"adopted 0 32000\n"):
+            raise fail(f"follow with 2 MiB: {done.returncode}, {done.stdout[:100]!r}")
+        less = _run_within(STACKS["follow"] // 2, ["follow", str(states)])
+        if less.returncode != -signal.SIGSEGV:
+            raise fail(f"follow with 1 MiB ends with {less.returncode}: it needs less than is told")
+    say("follow judges 32,000 towns with a stack of 2 MiB, pipe serves them with 64 KiB")
+
+
+def _run_within(kibibytes: int, words: list[str], data: bytes = b"") -> Done:
+    """A run of the program with so much stack."""
+    limit = f'ulimit -s {kibibytes} && exec "$@"'
+    command = ["sh", "-c", limit, "sh", program(), *words]
+    return subprocess.run(command, input=data, capture_output=True, check=False)

@@ -429,7 +429,7 @@ def in_place(server: Served, folder: Path) -> None:
     path = write(folder, "place.geojson", collection(towns(range(400), pop=1)))
     sync(server.address, path, more=())
     with open(folder / "said", "wb") as said:
-        words = [str(SYNC), server.address, str(path), "--watch", "0.1"]
+        words = [str(SYNC), server.address, str(path), "--watch", "0.1", "--settle", "3"]
         watch = subprocess.Popen(words, stdout=said, stderr=said)
     try:
         for number in range(2, 6):
@@ -439,6 +439,9 @@ def in_place(server: Served, folder: Path) -> None:
                 if time.monotonic() > end:
                     raise fail(f"version {number} is not served, but {there}")
                 time.sleep(0.2)
+        end = time.monotonic() + 20
+        while len((folder / "said").read_text().splitlines()) < 4 and time.monotonic() < end:
+            time.sleep(0.2)  # what was sent is told once the server was asked for it again
     finally:
         watch.terminate()
         watch.wait()
