@@ -13,7 +13,7 @@ FIGURE = re.compile(
     r"\d (?:micro|milli)?seconds?\b|\d minutes?\b|\d hours?\b|\d (?:MiB|MB|GiB|GB)\b"
     r"|\d times\b|\d a second\b"
 )
-README_BYTES, SENTENCE_WORDS = 20_000, 30
+README_BYTES, SENTENCE_WORDS = 16_384, 30
 FIGURES_OF_SPEECH = (
     "by lot",
     "closest by",
@@ -48,7 +48,7 @@ def figures_name_scripts(pages: list[Page], _names: Names) -> Iterator[Any]:
 
 
 def readme_is_short(pages: list[Page], names: Names) -> Iterator[Any]:
-    """README has at most 20,000 bytes."""
+    """README has at most 16,384 bytes."""
     size = os.path.getsize(os.path.join(names.root, "README.md"))
     if size > README_BYTES:
         page = next(page for page in pages if page.name == "README.md")
