@@ -12,8 +12,8 @@ use Rattle.ml_http.specs.Once.{AreLikeStates, EndsWell}
 use Rattle.ml_http.specs.Step.{LinkAnswer}
 use Rattle.ml_http.specs.declared.connection_end.ConnEnd.{ConnEnd}
 use Rattle.ml_http.specs.Connection.{Exchange}
-use Rattle.ml_serve.specs.Headline.{Headline, changes_in}
-use Rattle.ml_serve.specs.Once.{AreTold, AllEndWell}
+use Rattle.ml_serve.specs.Headline.{changes_in}
+use Rattle.ml_serve.specs.Once.{AreOverTheSame, AreTold, AllEndWell, Session}
 use Rattle.ml_serve.specs.Session.{Follow, Visit}
 use Rattle.ml_serve.specs.Visit.{IsVisit}
 
@@ -69,13 +69,14 @@ same_length f [] = refl
 same_length f (x ∷ xs) = let h = same_length f xs in omega (arith, h)
 
 -- the links that two sessions of as many visits took from one list
-pub same_links : {W I O : Type 0} (hearing : W → Hearing) (ends : LinkEnds I O) (first older last other : LinkState W) (door again : Passed I O) (visits others : List (Visit I O LinkAnswer)) (links : List (Link I O)) →
-    door.coming ≡ Some links → again.coming ≡ Some links → length visits ≡ length others → Headline hearing ends first last door visits → Headline hearing ends older other again others →
+same_links : {I O : Type 0} (door again : Passed I O) (visits others : List (Visit I O LinkAnswer)) (links : List (Link I O)) →
+    door.coming ≡ Some links → again.coming ≡ Some links → length visits ≡ length others →
+    Takes door.coming door.coming_after (map (λ (v : Visit I O LinkAnswer). v.came) visits) → Takes again.coming again.coming_after (map (λ (v : Visit I O LinkAnswer). v.came) others) →
     map (λ (v : Visit I O LinkAnswer). v.came) visits ≡ map (λ (v : Visit I O LinkAnswer). v.came) others
-same_links {W} {I} {O} hearing ends first older last other door again visits others links came also many x y =
+same_links {I} {O} door again visits others links came also many x y =
     let f : Visit I O LinkAnswer → Link I O = λ (v : Visit I O LinkAnswer). v.came in
-    let one : Takes (Some links) door.coming_after (map f visits) = subst (λ (coming : Option (List (Link I O))). Takes coming door.coming_after (map f visits)) came x.came in
-    let two : Takes (Some links) again.coming_after (map f others) = subst (λ (coming : Option (List (Link I O))). Takes coming again.coming_after (map f others)) also y.came in
+    let one : Takes (Some links) door.coming_after (map f visits) = subst (λ (coming : Option (List (Link I O))). Takes coming door.coming_after (map f visits)) came x in
+    let two : Takes (Some links) again.coming_after (map f others) = subst (λ (coming : Option (List (Link I O))). Takes coming again.coming_after (map f others)) also y in
     same_front (map f visits) (map f others) one.0 two.0 (same_length f visits ∙ many ∙ sym (same_length f others)) (sym one.2 ∙ two.2)
 
 module _ {W I O : Type 0} (stays : StaysReached W) (writes : OneWritten W) (leaves : OneStates W) (tells : OneTold W) (hearing : W → Hearing) (ends : LinkEnds I O) where
@@ -133,14 +134,18 @@ module _ {W I O : Type 0} (stays : StaysReached W) (writes : OneWritten W) (leav
         states = later.states;
       }
 
-  pub one_replies : (visits others : List (Visit I O LinkAnswer)) (u v p q : LinkState W) → IsState u.map_state → AreLikeStates u v → links_of visits ≡ links_of others → AreTold ends visits → AllEndWell visits → AllEndWell others
-      → Follow (IsVisit hearing ends) u visits p → Follow (IsVisit hearing ends) v others q → written visits ≡ written others
-  one_replies visits others u v p q is like same told good fine x y = (sessions visits others u v p q is like same told good fine x y).replies
+  -- the same of sessions as their headlines tell them
+  both : (links : List (Link I O)) (one other : Session W I O) → AreOverTheSame hearing ends links one other → AreOne one.visits other.visits one.last other.last
+  both links one other same =
+      sessions one.visits other.visits one.first other.first one.last other.last same.reached same.alike
+      (same_links one.door other.door one.visits other.visits links same.coming same.coming_too same.as_many same.headline.came same.headline_too.came)
+      same.told same.well same.well_too same.headline.replies same.headline_too.replies
 
-  pub one_states : (visits others : List (Visit I O LinkAnswer)) (u v p q : LinkState W) → IsState u.map_state → AreLikeStates u v → links_of visits ≡ links_of others → AreTold ends visits → AllEndWell visits → AllEndWell others
-      → Follow (IsVisit hearing ends) u visits p → Follow (IsVisit hearing ends) v others q → AreLikeStates p q
-  one_states visits others u v p q is like same told good fine x y = (sessions visits others u v p q is like same told good fine x y).states
+  pub one_replies : (links : List (Link I O)) (one other : Session W I O) → AreOverTheSame hearing ends links one other → written one.visits ≡ written other.visits
+  one_replies links one other same = (both links one other same).replies
 
-  pub one_told : (visits others : List (Visit I O LinkAnswer)) (u v p q : LinkState W) → IsState u.map_state → AreLikeStates u v → links_of visits ≡ links_of others → AreTold ends visits → AllEndWell visits → AllEndWell others
-      → Follow (IsVisit hearing ends) u visits p → Follow (IsVisit hearing ends) v others q → flat_map changes_in visits ≡ flat_map changes_in others
-  one_told visits others u v p q is like same told good fine x y = (sessions visits others u v p q is like same told good fine x y).told
+  pub one_told : (links : List (Link I O)) (one other : Session W I O) → AreOverTheSame hearing ends links one other → flat_map changes_in one.visits ≡ flat_map changes_in other.visits
+  one_told links one other same = (both links one other same).told
+
+  pub one_states : (links : List (Link I O)) (one other : Session W I O) → AreOverTheSame hearing ends links one other → AreLikeStates one.last other.last
+  one_states links one other same = (both links one other same).states

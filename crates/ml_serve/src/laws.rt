@@ -1,15 +1,15 @@
 //! Laws over the definitions alone. Each function takes nothing and does nothing but call the laws below that it
 //! stands on: its contract is the law, for all values.
-ghost use Rattle.std.specs.Prelude.{◌≡◌, List, Option, Some, flat_map, length, map};
-ghost use Rattle.ml_io.specs.Calls.{LinkEnds, Passed};
+ghost use Rattle.std.specs.Prelude.{◌≡◌, List, flat_map};
+ghost use Rattle.ml_io.specs.Calls.{LinkEnds};
 ghost use Rattle.ml_io.specs.declared.link.Link.{Link};
 ghost use Rattle.ml_watch.specs.Hearing.{Hearing};
 ghost use Rattle.ml_editor.specs.State.{IsState};
 ghost use Rattle.ml_http.specs.Link.{LinkState};
 ghost use Rattle.ml_http.specs.Once.{AreLikeStates};
 ghost use Rattle.ml_http.specs.Step.{LinkAnswer};
-ghost use Rattle.ml_serve.specs.Headline.{Headline, changes_in};
-ghost use Rattle.ml_serve.specs.Once.{AreTold, AllEndWell};
+ghost use Rattle.ml_serve.specs.Headline.{changes_in};
+ghost use Rattle.ml_serve.specs.Once.{AreOverTheSame, Session, written_in};
 ghost use Rattle.ml_serve.specs.Session.{Follow, Visit};
 ghost use Rattle.ml_serve.specs.Visit.{IsVisit};
 
@@ -23,23 +23,16 @@ pub fn session_stays_reached<W, I, O>()
     stays_reached::<W>();
 }
 
-/// Each session gives the replies: two sessions over the same links, which tell what they bring, from states
-/// that are alike, have written the same to each of them, where both served as many and each connection ended
-/// well. They leave states that are alike.
+/// Each session gives the replies: two sessions over the same links, which tell what they bring, from states that
+/// are alike, have written the same to each of them, where both served as many and each connection ended
+/// well. They tell the watchers the same changes, and leave states that are alike.
 pub fn one_session<W, I, O>()
-    ensures replies { (hearing : W → Hearing) (ends : LinkEnds I O) (first older last other : LinkState W) (door again : Passed I O) (visits others : List (Visit I O LinkAnswer)) (links : List (Link I O)) →
-        IsState first.map_state → AreLikeStates first older → door.coming ≡ Some links → again.coming ≡ Some links → length visits ≡ length others →
-        Headline hearing ends first last door visits → Headline hearing ends older other again others →
-        AreTold ends visits → AllEndWell visits → AllEndWell others →
-        map (λ (v : Visit I O LinkAnswer). ends.written v.gone.sink) visits ≡ map (λ (v : Visit I O LinkAnswer). ends.written v.gone.sink) others }
-    ensures told { (hearing : W → Hearing) (ends : LinkEnds I O) (first older last other : LinkState W) (door again : Passed I O) (visits others : List (Visit I O LinkAnswer)) (links : List (Link I O)) →
-        IsState first.map_state → AreLikeStates first older → door.coming ≡ Some links → again.coming ≡ Some links → length visits ≡ length others →
-        Headline hearing ends first last door visits → Headline hearing ends older other again others →
-        AreTold ends visits → AllEndWell visits → AllEndWell others → flat_map changes_in visits ≡ flat_map changes_in others }
-    ensures states { (hearing : W → Hearing) (ends : LinkEnds I O) (first older last other : LinkState W) (door again : Passed I O) (visits others : List (Visit I O LinkAnswer)) (links : List (Link I O)) →
-        IsState first.map_state → AreLikeStates first older → door.coming ≡ Some links → again.coming ≡ Some links → length visits ≡ length others →
-        Headline hearing ends first last door visits → Headline hearing ends older other again others →
-        AreTold ends visits → AllEndWell visits → AllEndWell others → AreLikeStates last other }
+    ensures replies { (hearing : W → Hearing) (ends : LinkEnds I O) (links : List (Link I O)) (one other : Session W I O) →
+        AreOverTheSame hearing ends links one other → written_in ends one.visits ≡ written_in ends other.visits }
+    ensures told { (hearing : W → Hearing) (ends : LinkEnds I O) (links : List (Link I O)) (one other : Session W I O) →
+        AreOverTheSame hearing ends links one other → flat_map changes_in one.visits ≡ flat_map changes_in other.visits }
+    ensures states { (hearing : W → Hearing) (ends : LinkEnds I O) (links : List (Link I O)) (one other : Session W I O) →
+        AreOverTheSame hearing ends links one other → AreLikeStates one.last other.last }
 {
     one_account::<W>();
     stays_reached::<W>();
