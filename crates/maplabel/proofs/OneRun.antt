@@ -19,7 +19,7 @@ use Rattle.ml_http.specs.Step.{LinkAnswer}
 use Rattle.ml_http.specs.declared.connection_end.ConnEnd.{ConnEnd}
 use Rattle.ml_http.specs.declared.connection_end.ConnEnd.TheVariants as ends
 use Rattle.ml_serve.specs.Headline.{Headline, changes_in}
-use Rattle.ml_serve.specs.Once.{AllEndWell, AreTold}
+use Rattle.ml_serve.specs.Once.{AllEndWell, AreOverTheSame, AreTold, Session, written_in}
 use Rattle.ml_serve.specs.Printed.{AreDone, IsEndOfServing, served_line}
 use Rattle.ml_serve.specs.Session.{Visit}
 use Rattle.ml_serve.specs.declared.serve_end.ServeEnd.{ServeEnd}
@@ -41,7 +41,7 @@ use Rattle.ml_command.specs.declared.following.FollowEnd.TheVariants as follow_e
 use Rattle.ml_command.specs.declared.stop.Stop.{Stop}
 use Rattle.ml_command.specs.declared.stop.Stop.TheVariants as stop
 use Rattle.maplabel.specs.Making.{IsTotalsOf}
-use Rattle.maplabel.specs.Once.{DoAlike, FindAlike, ServeAlike, TellAlike, TellBytes}
+use Rattle.maplabel.specs.Once.{DoAlike, FindAlike, FindLinks, ReadAlike, ServeAlike, TellAlike, TellBytes}
 use Rattle.maplabel.specs.Outcome.{IsCheckAnswer, IsPrinted, IsStopLine, IsStopPrinted, status_of, usage_line}
 use Rattle.maplabel.specs.Run.{AreFollowed, Call, IsDone, IsRun, IsSiteServed, IsStopped, IsTextEnd, IsTold, status_of_following}
 use Rattle.maplabel.specs.Serving.{IsAllServed, IsPiped, at_first, status_of_link, status_of_serving}
@@ -184,30 +184,8 @@ pub record KnownRuns (W I O : Type 0) : Type 0 where
       IsState old.map_state → AreLikeStates old older → EndsWell end → EndsWell ending →
       (x : IsLinkServed hearing old one (Some bytes) left written first end) → (y : IsLinkServed hearing older other (Some bytes) rest writing second ending) →
       flat_map (λ (a : LinkAnswer). a.changes) x.served.exchange.answers ≡ flat_map (λ (a : LinkAnswer). a.changes) y.served.exchange.answers
-  pub replies : (hearing : W → Hearing) (ends : LinkEnds I O) (first older last other : LinkState W) (door again : Passed I O) (visits others : List (Visit I O LinkAnswer)) (links : List (Link I O)) →
-      IsState first.map_state → AreLikeStates first older → door.coming ≡ Some links → again.coming ≡ Some links → length visits ≡ length others →
-      Headline hearing ends first last door visits → Headline hearing ends older other again others →
-      AreTold ends visits → AllEndWell visits → AllEndWell others →
-      map (λ (v : Visit I O LinkAnswer). ends.written v.gone.sink) visits ≡ map (λ (v : Visit I O LinkAnswer). ends.written v.gone.sink) others
-  pub session_told : (hearing : W → Hearing) (ends : LinkEnds I O) (first older last other : LinkState W) (door again : Passed I O) (visits others : List (Visit I O LinkAnswer)) (links : List (Link I O)) →
-      IsState first.map_state → AreLikeStates first older → door.coming ≡ Some links → again.coming ≡ Some links → length visits ≡ length others →
-      Headline hearing ends first last door visits → Headline hearing ends older other again others →
-      AreTold ends visits → AllEndWell visits → AllEndWell others → flat_map changes_in visits ≡ flat_map changes_in others
-
--- lists that stand at the front of one, and are as long, are one
-same_front : {A : Type 0} (xs ys r t : List A) → length xs ≡ length ys → xs ++ r ≡ ys ++ t → xs ≡ ys
-same_front [] [] r t n e = refl
-same_front [] (y ∷ ys) r t n e = absurd (omega (arith, n))
-same_front (x ∷ xs) [] r t n e = absurd (omega (arith, n))
-same_front (x ∷ xs) (y ∷ ys) r t n e =
-    let head : x ≡ y = cc (e) in
-    let behind : xs ++ r ≡ ys ++ t = cc (e) in
-    let tail : xs ≡ ys = same_front xs ys r t (omega (arith, n)) behind in
-    cc (head, tail)
-
-same_length : {A B : Type 0} (f : A → B) (xs : List A) → length (map f xs) ≡ length xs
-same_length f [] = refl
-same_length f (x ∷ xs) = let h = same_length f xs in omega (arith, h)
+  pub replies : (hearing : W → Hearing) (ends : LinkEnds I O) (links : List (Link I O)) (one other : Session W I O) → AreOverTheSame hearing ends links one other → written_in ends one.visits ≡ written_in ends other.visits
+  pub session_told : (hearing : W → Hearing) (ends : LinkEnds I O) (links : List (Link I O)) (one other : Session W I O) → AreOverTheSame hearing ends links one other → flat_map changes_in one.visits ≡ flat_map changes_in other.visits
 
 -- where its names stand in memory is nothing to what a command does
 done_plain : {S D I O W : Type 0} (r : Call S D I O W) (c : Command) → IsDone r c Done → IsDone r (plain c) Done
@@ -218,6 +196,15 @@ done_plain r (Live style map Pipe) x = x
 done_plain r (Live style map (Serve port count)) x = x
 done_plain r (Make groups seed) x = x
 done_plain r (Follow states) x = x
+
+read_plain : {S D I O W : Type 0} (r o : Call S D I O W) (c : Command) → ReadAlike r o c → ReadAlike r o (plain c)
+read_plain r o (OnTable table task) x = x
+read_plain r o (Judge table slots) x = x
+read_plain r o (OnMap style map task) x = x
+read_plain r o (Live style map Pipe) x = x
+read_plain r o (Live style map (Serve port count)) x = x
+read_plain r o (Make groups seed) x = x
+read_plain r o (Follow states) x = x
 
 alike_plain : {S D I O W : Type 0} (r o : Call S D I O W) (c : Command) → DoAlike r o (plain c) → DoAlike r o c
 alike_plain r o (OnTable table task) x = x
@@ -254,7 +241,7 @@ served_lines hearing ends first crowd after port count door out x =
 like_first : {W : Type 0} (first : State) (crowd others : List W) → AreLikeStates (at_first first crowd) (at_first first others)
 like_first first crowd others = record { map_state = refl; spent = refl }
 
-module _ {S D I O W : Type 0} (known : KnownRuns W I O) (r o : Call S D I O W) (found : FindAlike r o) where
+module _ {S D I O W : Type 0} (known : KnownRuns W I O) (r o : Call S D I O W) (words : List (List ℕ)) (found : FindAlike r o words) where
   -- what is told of files, in both
   of_r : (P : Option FileSet → Type 0) → P r.files.told → P (Some found.files)
   of_r P is = subst P found.files_are.0 is
@@ -268,20 +255,20 @@ module _ {S D I O W : Type 0} (known : KnownRuns W I O) (r o : Call S D I O W) (
 
   -- ---- one connection
 
-  record Piped (first : State) : Type 0 where
+  record Piped (bytes : List ℕ) (first : State) : Type 0 where
     last : LinkState W
     again : LinkState W
     end : ConnEnd
     ending : ConnEnd
     well : EndsWell end
     fine : EndsWell ending
-    one : IsLinkServed r.hearing (at_first first r.old.crowd) last (Some found.bytes) r.input.left_after r.out.written r.out.written_after end
-    other : IsLinkServed r.hearing (at_first first o.old.crowd) again (Some found.bytes) o.input.left_after o.out.written o.out.written_after ending
+    one : IsLinkServed r.hearing (at_first first r.old.crowd) last (Some bytes) r.input.left_after r.out.written r.out.written_after end
+    other : IsLinkServed r.hearing (at_first first o.old.crowd) again (Some bytes) o.input.left_after o.out.written o.out.written_after ending
     crowd : last.crowd ≡ r.new.crowd
     crowd_too : again.crowd ≡ o.new.crowd
 
-  piped : (first start : State) → start ≡ first → IsPiped r.hearing first r.old.crowd r.new.crowd r.input r.out Done → IsPiped o.hearing start o.old.crowd o.new.crowd o.input o.out Done → Piped first
-  piped first start same x y =
+  piped : (bytes : List ℕ) → r.input.left ≡ Some bytes → o.input.left ≡ Some bytes → (first start : State) → start ≡ first → IsPiped r.hearing first r.old.crowd r.new.crowd r.input r.out Done → IsPiped o.hearing start o.old.crowd o.new.crowd o.input o.out Done → Piped bytes first
+  piped bytes told told_too first start same x y =
       let moved : IsLinkServed o.hearing (at_first first o.old.crowd) y.last o.input.left o.input.left_after o.out.written o.out.written_after y.end =
       subst (λ (s : State). IsLinkServed o.hearing (at_first s o.old.crowd) y.last o.input.left o.input.left_after o.out.written o.out.written_after y.end) same y.served in
       let heard : IsLinkServed r.hearing (at_first first o.old.crowd) y.last o.input.left o.input.left_after o.out.written o.out.written_after y.end =
@@ -293,25 +280,25 @@ module _ {S D I O W : Type 0} (known : KnownRuns W I O) (r o : Call S D I O W) (
         ending = y.end;
         well = ended_well x.end x.status_is;
         fine = ended_well y.end y.status_is;
-        one = subst (λ (s : Option (List ℕ)). IsLinkServed r.hearing (at_first first r.old.crowd) x.last s r.input.left_after r.out.written r.out.written_after x.end) found.input_is.0 x.served;
-        other = subst (λ (s : Option (List ℕ)). IsLinkServed r.hearing (at_first first o.old.crowd) y.last s o.input.left_after o.out.written o.out.written_after y.end) found.input_is.1 heard;
+        one = subst (λ (s : Option (List ℕ)). IsLinkServed r.hearing (at_first first r.old.crowd) x.last s r.input.left_after r.out.written r.out.written_after x.end) told x.served;
+        other = subst (λ (s : Option (List ℕ)). IsLinkServed r.hearing (at_first first o.old.crowd) y.last s o.input.left_after o.out.written o.out.written_after y.end) told_too heard;
         crowd = x.crowd_is;
         crowd_too = y.crowd_is;
       }
 
-  piped_printed : (first : State) → IsState first → r.out.written ≡ o.out.written → Piped first → r.out.written_after ≡ o.out.written_after
-  piped_printed first is same p =
-      let other : IsLinkServed r.hearing (at_first first o.old.crowd) p.again (Some found.bytes) o.input.left_after r.out.written o.out.written_after p.ending =
-      subst (λ (w : Option (List ℕ)). IsLinkServed r.hearing (at_first first o.old.crowd) p.again (Some found.bytes) o.input.left_after w o.out.written_after p.ending) (sym same) p.other in
-      known.written r.hearing (at_first first r.old.crowd) (at_first first o.old.crowd) p.last p.again found.bytes r.input.left_after o.input.left_after r.out.written r.out.written_after o.out.written_after p.end p.ending
+  piped_printed : (bytes : List ℕ) (first : State) → IsState first → r.out.written ≡ o.out.written → Piped bytes first → r.out.written_after ≡ o.out.written_after
+  piped_printed bytes first is same p =
+      let other : IsLinkServed r.hearing (at_first first o.old.crowd) p.again (Some bytes) o.input.left_after r.out.written o.out.written_after p.ending =
+      subst (λ (w : Option (List ℕ)). IsLinkServed r.hearing (at_first first o.old.crowd) p.again (Some bytes) o.input.left_after w o.out.written_after p.ending) (sym same) p.other in
+      known.written r.hearing (at_first first r.old.crowd) (at_first first o.old.crowd) p.last p.again bytes r.input.left_after o.input.left_after r.out.written r.out.written_after o.out.written_after p.end p.ending
       is (like_first first r.old.crowd o.old.crowd) p.well p.fine p.one other
 
-  piped_told : (first : State) → IsState first → Piped first → TellAlike r o
-  piped_told first is p =
+  piped_told : (bytes : List ℕ) (first : State) → IsState first → Piped bytes first → TellAlike r o
+  piped_told bytes first is p =
       let changes = flat_map (λ (a : LinkAnswer). a.changes) p.one.served.exchange.answers in
       let others = flat_map (λ (a : LinkAnswer). a.changes) p.other.served.exchange.answers in
       let same : changes ≡ others =
-      known.told r.hearing (at_first first r.old.crowd) (at_first first o.old.crowd) p.last p.again found.bytes r.input.left_after o.input.left_after r.out.written r.out.written_after o.out.written o.out.written_after p.end p.ending
+      known.told r.hearing (at_first first r.old.crowd) (at_first first o.old.crowd) p.last p.again bytes r.input.left_after o.input.left_after r.out.written r.out.written_after o.out.written o.out.written_after p.end p.ending
       is (like_first first r.old.crowd o.old.crowd) p.well p.fine p.one p.other in
       let second : AllHear r.hearing changes o.old.crowd p.again.crowd = subst (λ (cs : List Change). AllHear r.hearing cs o.old.crowd p.again.crowd) (sym same) p.other.hears in (
         changes,
@@ -337,16 +324,16 @@ module _ {S D I O W : Type 0} (known : KnownRuns W I O) (r o : Call S D I O W) (
     crowd : last.crowd ≡ r.new.crowd
     crowd_too : again.crowd ≡ o.new.crowd
 
-  served : (first start : State) (port count : ℕ) → start ≡ first → IsAllServed r.hearing r.ends first r.old.crowd r.new.crowd port count r.door r.out Done → IsAllServed o.hearing o.ends start o.old.crowd o.new.crowd port count o.door o.out Done → Served first
-  served first start port count same x y =
+  served : FindLinks r o → (first start : State) (port count : ℕ) → start ≡ first → IsAllServed r.hearing r.ends first r.old.crowd r.new.crowd port count r.door r.out Done → IsAllServed o.hearing o.ends start o.old.crowd o.new.crowd port count o.door o.out Done → Served first
+  served came first start port count same x y =
       let moved : Headline o.hearing o.ends (at_first first o.old.crowd) y.last o.door y.visits = subst (λ (s : State). Headline o.hearing o.ends (at_first s o.old.crowd) y.last o.door y.visits) same y.headline in
       let heard : Headline r.hearing o.ends (at_first first o.old.crowd) y.last o.door y.visits = subst (λ (h : W → Hearing). Headline h o.ends (at_first first o.old.crowd) y.last o.door y.visits) found.hearing_is moved in
       let ended : Headline r.hearing r.ends (at_first first o.old.crowd) y.last o.door y.visits = subst (λ (e : LinkEnds I O). Headline r.hearing e (at_first first o.old.crowd) y.last o.door y.visits) found.ends_are heard in
       let p = served_lines r.hearing r.ends first r.old.crowd r.new.crowd port count r.door r.out x in
       let q = served_lines o.hearing o.ends start o.old.crowd o.new.crowd port count o.door o.out y in
-      let m = how_many count found.links r.door.coming r.door.coming_after x.visits p.0 found.door_is.0 x.headline.came p.1 in
-      let n = how_many count found.links o.door.coming o.door.coming_after y.visits q.0 found.door_is.1 ended.came q.1 in
-      let many = same_count count (length x.visits) (length y.visits) (length found.links) p.1.few q.1.few m.0 n.0 m.1 n.1 in
+      let m = how_many count came.links r.door.coming r.door.coming_after x.visits p.0 came.door_is.0 x.headline.came p.1 in
+      let n = how_many count came.links o.door.coming o.door.coming_after y.visits q.0 came.door_is.1 ended.came q.1 in
+      let many = same_count count (length x.visits) (length y.visits) (length came.links) p.1.few q.1.few m.0 n.0 m.1 n.1 in
       record {
         last = x.last;
         again = y.last;
@@ -369,25 +356,37 @@ module _ {S D I O W : Type 0} (known : KnownRuns W I O) (r o : Call S D I O W) (
       appended r.out.written o.out.written r.out.written_after o.out.written_after (flat_map (λ (line : List ℕ). line) p.lines) (flat_map (λ (line : List ℕ). line) p.lines_too)
       same (ap (λ (ls : List (List ℕ)). flat_map (λ (line : List ℕ). line) ls) p.same_lines) p.wrote p.wrote_too
 
-  served_alike : (first : State) → IsState first → Served first → ServeAlike r o
-  served_alike first is p =
+  served_alike : FindLinks r o → (style name : List ℕ) (first : State) → IsFirstState r.files.told style name first → Served first → ServeAlike r o style name
+  served_alike came style name first loaded p =
       let f : Visit I O LinkAnswer → Link I O = λ (v : Visit I O LinkAnswer). v.came in
-      let one : Takes (Some found.links) r.door.coming_after (map f p.visits) = subst (λ (c : Option (List (Link I O))). Takes c r.door.coming_after (map f p.visits)) found.door_is.0 p.one.came in
-      let two : Takes (Some found.links) o.door.coming_after (map f p.others) = subst (λ (c : Option (List (Link I O))). Takes c o.door.coming_after (map f p.others)) found.door_is.1 p.other.came in
-      let told : AreTold r.ends p.visits = front_tells r.ends p.visits found.links one.0 one.2 found.links_tell in
+      let one : Takes (Some came.links) r.door.coming_after (map f p.visits) = subst (λ (c : Option (List (Link I O))). Takes c r.door.coming_after (map f p.visits)) came.door_is.0 p.one.came in
+      let told : AreTold r.ends p.visits = front_tells r.ends p.visits came.links one.0 one.2 came.links_tell in
+      let session : Session W I O = record { first = at_first first r.old.crowd; last = p.last; door = r.door; visits = p.visits } in
+      let again : Session W I O = record { first = at_first first o.old.crowd; last = p.again; door = o.door; visits = p.others } in
+      let same : AllEndWell p.visits → AllEndWell p.others → AreOverTheSame r.hearing r.ends came.links session again = λ well fine. record {
+        reached = known.reached r.files.told style name first loaded;
+        alike = like_first first r.old.crowd o.old.crowd;
+        coming = came.door_is.0;
+        coming_too = came.door_is.1;
+        as_many = p.many;
+        headline = p.one;
+        headline_too = p.other;
+        told = told;
+        well = well;
+        well_too = fine;
+      } in
+      let ended : Headline r.hearing o.ends (at_first first o.old.crowd) p.again o.door p.others = subst (λ (e : LinkEnds I O). Headline r.hearing e (at_first first o.old.crowd) p.again o.door p.others) (sym found.ends_are) p.other in
+      let heard : Headline o.hearing o.ends (at_first first o.old.crowd) p.again o.door p.others = subst (λ (h : W → Hearing). Headline h o.ends (at_first first o.old.crowd) p.again o.door p.others) (sym found.hearing_is) ended in
       record {
+        first = first;
+        loaded = loaded;
         visits = p.visits;
         others = p.others;
-        came = same_front (map f p.visits) (map f p.others) one.0 two.0 (same_length f p.visits ∙ p.many ∙ sym (same_length f p.others)) (sym one.2 ∙ two.2);
-        gone = p.one.gone;
-        gone_too = p.other.gone;
-        hears = subst (λ (c : List W). AllHear r.hearing (flat_map changes_in p.visits) r.old.crowd c) p.crowd p.one.hears;
-        hears_too = subst (λ (h : W → Hearing). AllHear h (flat_map changes_in p.others) o.old.crowd o.new.crowd) (sym found.hearing_is)
-            (subst (λ (c : List W). AllHear r.hearing (flat_map changes_in p.others) o.old.crowd c) p.crowd_too p.other.hears);
-        replies = λ well fine. known.replies r.hearing r.ends (at_first first r.old.crowd) (at_first first o.old.crowd) p.last p.again r.door o.door p.visits p.others found.links is (like_first first r.old.crowd o.old.crowd)
-            found.door_is.0 found.door_is.1 p.many p.one p.other told well fine;
-        told = λ well fine. known.session_told r.hearing r.ends (at_first first r.old.crowd) (at_first first o.old.crowd) p.last p.again r.door o.door p.visits p.others found.links is (like_first first r.old.crowd o.old.crowd)
-            found.door_is.0 found.door_is.1 p.many p.one p.other told well fine;
+        serves = record { last = p.last; headline = p.one; crowd_is = p.crowd };
+        serves_too = record { last = p.again; headline = heard; crowd_is = p.crowd_too };
+        as_many = p.many;
+        replies = λ well fine. known.replies r.hearing r.ends came.links session again (same well fine) ∙ ap (λ (e : LinkEnds I O). written_in e p.others) (sym found.ends_are);
+        told = λ well fine. known.session_told r.hearing r.ends came.links session again (same well fine);
       }
 
   -- ---- states that are followed
@@ -425,61 +424,63 @@ module _ {S D I O W : Type 0} (known : KnownRuns W I O) (r o : Call S D I O W) (
 
   -- ---- any command
 
-  printed_by : r.out.written ≡ o.out.written → (c : Command) → IsDone r c Done → IsDone o c Done → r.out.written_after ≡ o.out.written_after
-  printed_by same (OnTable table task) x y =
+  printed_by : r.out.written ≡ o.out.written → (c : Command) → ReadAlike r o c → IsDone r c Done → IsDone o c Done → r.out.written_after ≡ o.out.written_after
+  printed_by same (OnTable table task) reads x y =
       one_text r o _ _ _ _ same (λ a b p q. known.table found.files table.now task a b (of_r (λ t. IsTableAnswer t table.now task a) p.0) (of_o (λ t. IsTableAnswer t table.now task b) q.0)) x y
-  printed_by same (Judge table slots) x y = one_text r o _ _ _ _ same (λ a b p q. check_text r.files.told table.now slots.now a p ∙ sym (check_text o.files.told table.now slots.now b q)) x y
-  printed_by same (OnMap style map task) x y =
+  printed_by same (Judge table slots) reads x y = one_text r o _ _ _ _ same (λ a b p q. check_text r.files.told table.now slots.now a p ∙ sym (check_text o.files.told table.now slots.now b q)) x y
+  printed_by same (OnMap style map task) reads x y =
       one_text r o _ _ _ _ same (λ a b p q. known.map_text found.files style.now map.now task a b (of_r (λ t. IsMapAnswer t style.now map.now task a) p.0) (of_o (λ t. IsMapAnswer t style.now map.now task b) q.0)) x y
-  printed_by same (Make groups seed) x y = one_text r o _ _ _ _ same (λ a b p q. known.totals groups seed a b p.0 q.0) x y
-  printed_by same (Live style map Pipe) (inl x) y = absurd (not_stopped r _ x.0)
-  printed_by same (Live style map Pipe) (inr x) (inl y) = absurd (not_stopped o _ y.0)
-  printed_by same (Live style map Pipe) (inr (first, is, kept, x)) (inr (start, was, still, y)) =
-      piped_printed first (known.reached r.files.told style.now map.now first is) same (piped first start (same_first style.now map.now first start is was) x.0 y.0)
-  printed_by same (Live style map (Serve port count)) (inl x) y = absurd (not_stopped r _ x.0)
-  printed_by same (Live style map (Serve port count)) (inr x) (inl y) = absurd (not_stopped o _ y.0)
-  printed_by same (Live style map (Serve port count)) (inr (first, is, kept, x)) (inr (start, was, still, y)) =
-      served_printed first same (served first start port count (same_first style.now map.now first start is was) x.0 y.0)
-  printed_by same (Follow name) (inl x) y = absurd (not_stopped r _ x.0)
-  printed_by same (Follow name) (inr x) (inl y) = absurd (not_stopped o _ y.0)
-  printed_by same (Follow name) (inr (states, has, kept, x, input, door)) (inr (others, had, still, y, source, gate)) = followed_printed same (both_followed name.now states others has had x y)
+  printed_by same (Make groups seed) reads x y = one_text r o _ _ _ _ same (λ a b p q. known.totals groups seed a b p.0 q.0) x y
+  printed_by same (Live style map Pipe) reads (inl x) y = absurd (not_stopped r _ x.0)
+  printed_by same (Live style map Pipe) reads (inr x) (inl y) = absurd (not_stopped o _ y.0)
+  printed_by same (Live style map Pipe) reads (inr (first, is, kept, x)) (inr (start, was, still, y)) =
+      piped_printed reads.0 first (known.reached r.files.told style.now map.now first is) same (piped reads.0 reads.1 reads.2 first start (same_first style.now map.now first start is was) x.0 y.0)
+  printed_by same (Live style map (Serve port count)) reads (inl x) y = absurd (not_stopped r _ x.0)
+  printed_by same (Live style map (Serve port count)) reads (inr x) (inl y) = absurd (not_stopped o _ y.0)
+  printed_by same (Live style map (Serve port count)) reads (inr (first, is, kept, x)) (inr (start, was, still, y)) =
+      served_printed first same (served reads first start port count (same_first style.now map.now first start is was) x.0 y.0)
+  printed_by same (Follow name) reads (inl x) y = absurd (not_stopped r _ x.0)
+  printed_by same (Follow name) reads (inr x) (inl y) = absurd (not_stopped o _ y.0)
+  printed_by same (Follow name) reads (inr (states, has, kept, x, input, door)) (inr (others, had, still, y, source, gate)) = followed_printed same (both_followed name.now states others has had x y)
 
-  alike_by : (c : Command) → IsDone r c Done → IsDone o c Done → DoAlike r o c
-  alike_by (OnTable table task) x y = (x.1, y.1)
-  alike_by (Judge table slots) x y = (x.1, y.1)
-  alike_by (OnMap style map task) x y = (x.1, y.1)
-  alike_by (Make groups seed) x y = (x.1, y.1)
-  alike_by (Live style map Pipe) (inl x) y = absurd (not_stopped r _ x.0)
-  alike_by (Live style map Pipe) (inr x) (inl y) = absurd (not_stopped o _ y.0)
-  alike_by (Live style map Pipe) (inr (first, is, kept, x)) (inr (start, was, still, y)) =
-      piped_told first (known.reached r.files.told style.now map.now first is) (piped first start (same_first style.now map.now first start is was) x.0 y.0)
-  alike_by (Live style map (Serve port count)) (inl x) y = absurd (not_stopped r _ x.0)
-  alike_by (Live style map (Serve port count)) (inr x) (inl y) = absurd (not_stopped o _ y.0)
-  alike_by (Live style map (Serve port count)) (inr (first, is, kept, x)) (inr (start, was, still, y)) =
-      served_alike first (known.reached r.files.told style.now map.now first is) (served first start port count (same_first style.now map.now first start is was) x.0 y.0)
-  alike_by (Follow name) (inl x) y = absurd (not_stopped r _ x.0)
-  alike_by (Follow name) (inr x) (inl y) = absurd (not_stopped o _ y.0)
-  alike_by (Follow name) (inr (states, has, kept, x, input, door)) (inr (others, had, still, y, source, gate)) = followed_told (both_followed name.now states others has had x y)
+  alike_by : (c : Command) → ReadAlike r o c → IsDone r c Done → IsDone o c Done → DoAlike r o c
+  alike_by (OnTable table task) reads x y = (x.1, y.1)
+  alike_by (Judge table slots) reads x y = (x.1, y.1)
+  alike_by (OnMap style map task) reads x y = (x.1, y.1)
+  alike_by (Make groups seed) reads x y = (x.1, y.1)
+  alike_by (Live style map Pipe) reads (inl x) y = absurd (not_stopped r _ x.0)
+  alike_by (Live style map Pipe) reads (inr x) (inl y) = absurd (not_stopped o _ y.0)
+  alike_by (Live style map Pipe) reads (inr (first, is, kept, x)) (inr (start, was, still, y)) =
+      piped_told reads.0 first (known.reached r.files.told style.now map.now first is) (piped reads.0 reads.1 reads.2 first start (same_first style.now map.now first start is was) x.0 y.0)
+  alike_by (Live style map (Serve port count)) reads (inl x) y = absurd (not_stopped r _ x.0)
+  alike_by (Live style map (Serve port count)) reads (inr x) (inl y) = absurd (not_stopped o _ y.0)
+  alike_by (Live style map (Serve port count)) reads (inr (first, is, kept, x)) (inr (start, was, still, y)) =
+      served_alike reads style.now map.now first is (served reads first start port count (same_first style.now map.now first start is was) x.0 y.0)
+  alike_by (Follow name) reads (inl x) y = absurd (not_stopped r _ x.0)
+  alike_by (Follow name) reads (inr x) (inl y) = absurd (not_stopped o _ y.0)
+  alike_by (Follow name) reads (inr (states, has, kept, x, input, door)) (inr (others, had, still, y, source, gate)) = followed_told (both_followed name.now states others has had x y)
 
-  -- the command of words, done in both
-  record Both (words : List (List ℕ)) : Type 0 where
+  -- the command of the words, done in both
+  record Both : Type 0 where
     command : Command
     asks : Ask words command
+    reads : ReadAlike r o (plain command)
     one : IsDone r (plain command) Done
     other : IsDone o (plain command) Done
 
-  both : (words : List (List ℕ)) → IsRun r words Done → IsRun o words Done → Both words
-  both words (inl (c, asks, x)) (inl (d, also, y)) = record {
+  both : IsRun r words Done → IsRun o words Done → Both
+  both (inl (c, asks, x)) (inl (d, also, y)) = record {
     command = c;
     asks = asks;
+    reads = read_plain r o c (found.reads c asks);
     one = done_plain r c x;
     other = subst (λ (k : Command). IsDone o k Done) (known.one_command words d c also asks) (done_plain o d y);
   }
-  both words (inr (none, kept, printed, same)) y = absurd (no_usage r printed)
-  both words (inl x) (inr (none, kept, printed, same)) = absurd (no_usage o printed)
+  both (inr (none, kept, printed, same)) y = absurd (no_usage r printed)
+  both (inl x) (inr (none, kept, printed, same)) = absurd (no_usage o printed)
 
-  pub printed : (words : List (List ℕ)) → IsRun r words Done → IsRun o words Done → r.out.written ≡ o.out.written → r.out.written_after ≡ o.out.written_after
-  printed words x y same = let p = both words x y in printed_by same (plain p.command) p.one p.other
+  pub printed : IsRun r words Done → IsRun o words Done → r.out.written ≡ o.out.written → r.out.written_after ≡ o.out.written_after
+  printed x y same = let p = both x y in printed_by same (plain p.command) p.reads p.one p.other
 
-  pub alike : (words : List (List ℕ)) → IsRun r words Done → IsRun o words Done → (c : Command) × Ask words c × DoAlike r o c
-  alike words x y = let p = both words x y in (p.command, p.asks, alike_plain r o p.command (alike_by (plain p.command) p.one p.other))
+  pub alike : IsRun r words Done → IsRun o words Done → (c : Command) × Ask words c × DoAlike r o c
+  alike x y = let p = both x y in (p.command, p.asks, alike_plain r o p.command (alike_by (plain p.command) p.reads p.one p.other))

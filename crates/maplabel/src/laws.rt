@@ -65,15 +65,17 @@ pub fn one_totals()
     one_edit();
 }
 
-/// Two runs of the same words that find the same told files, the same bytes of the input and the same links of the
-/// door, and are both done, print the same bytes.
+/// Two runs of the same words that find the same told files, and are both done, print the same bytes; on `pipe`
+/// where the input brings the same bytes, on `serve` where the door brings the same links, all of them told.
 ///
-/// They tell their watchers the same changes, or nobody anything; and where connections of a door are served, and
+/// They tell their watchers the same changes, or nobody anything. On `serve` both serve as many connections; where
 /// each of them ended by neither a fault nor want of memory, they wrote the same to each.
 pub fn one_run<S, D, I, O, W>()
-    ensures printed { (one other : Call S D I O W) (words : List (List ℕ)) → FindAlike one other → IsRun one words Done → IsRun other words Done →
+    ensures printed { (one other : Call S D I O W) (words : List (List ℕ)) → FindAlike one other words →
+        IsRun one words Done → IsRun other words Done →
         one.out.written ≡ other.out.written → one.out.written_after ≡ other.out.written_after }
-    ensures alike { (one other : Call S D I O W) (words : List (List ℕ)) → FindAlike one other → IsRun one words Done → IsRun other words Done →
+    ensures alike { (one other : Call S D I O W) (words : List (List ℕ)) → FindAlike one other words →
+        IsRun one words Done → IsRun other words Done →
         (command : Command) × Ask words command × DoAlike one other command }
 {
     one_command();

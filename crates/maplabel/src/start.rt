@@ -1,5 +1,5 @@
 //! The whole program, over what the process was given.
-ghost use Rattle.std.specs.Prelude.{◌≡◌, ◌⊎◌, List, None, false};
+ghost use Rattle.std.specs.Prelude.{◌≡◌, ◌⊎◌, ◌≤◌, List, None, false};
 ghost use Rattle.std.specs.Process.{exit_status};
 ghost use Rattle.ml_io.specs.Files.{seen};
 ghost use Rattle.ml_io.specs.Calls.{put, taken, passed, link_ends};
@@ -18,8 +18,8 @@ use std::process::ExitCode;
 /// ends with. Changes are told to `errors`, where the words ask for a command that tells them.
 ///
 /// `values` is the program's name and the words behind it, or why there are none. Where one of them is no text,
-/// the program behaves as if no words were given, since such words have none of the forms. Where memory was
-/// wanting for the values or for who is told, nothing is done, and the code says so.
+/// the program behaves as if no words were given, since such words have none of the forms. Where there is no
+/// memory for the values or for the watcher, nothing is done, and the code says so.
 pub fn start<E: Sink + Drop, F: Files, S: Source, K: Sink, D: Door>(
     alloc: Global,
     values: io::Result<Vec<String>>,
@@ -44,6 +44,10 @@ pub fn start<E: Sink + Drop, F: Files, S: Source, K: Sink, D: Door>(
         })
         values errors (exit_status result))
         ⊎ (IsNotStarted values (exit_status result) × (files.new ≡ files.old) × (input.new ≡ input.old) × (out.new ≡ out.old) × (door.new ≡ door.old)) }
+    ensures same { F.told files.new ≡ F.told files.old }
+    ensures later { (F.faults files.old ≤ F.faults files.new) × (K.faults out.old ≤ K.faults out.new)
+        × (S.faults input.old ≤ S.faults input.new) × (D.faults door.old ≤ D.faults door.new) }
+    ensures out { D.is_out door.new ≡ false }
 {
     let given = match values {
         Ok(given) => given,

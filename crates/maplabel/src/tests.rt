@@ -297,6 +297,14 @@ fn values_that_are_no_text_are_no_words(rt: HostRuntime) {
 }
 
 #[test]
+fn without_memory_for_the_values_nothing_is_run(rt: HostRuntime) {
+    let error = io::Error::from(io::ErrorKind::OutOfMemory);
+    let (code, out) = started(&rt, rt.alloc(), Err(error));
+    assert!(rt; code == ExitCode::from(9));
+    assert!(rt; out.bytes().is_empty());
+}
+
+#[test]
 fn words_stand_behind_the_name(rt: HostRuntime) {
     let values = words_of(&rt, rt.alloc(), "maplabel slots t");
     assert!(rt; program::words_of(&values).len() == 2);

@@ -19,6 +19,6 @@ returns g c =
       session_told = c.one_session.ensures.told;
     } in
     record {
-      printed = λ one other words found x y same. printed known one other found words x y same;
-      alike = λ one other words found x y. alike known one other found words x y;
+      printed = λ one other words found x y same. printed known one other words found x y same;
+      alike = λ one other words found x y. alike known one other words found x y;
     }

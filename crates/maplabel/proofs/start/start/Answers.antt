@@ -15,4 +15,9 @@ returns g c =
       | in-Err+in_default w ↦ λ missing. (let wanting = rw w.in-Err.is at missing in w.in_default.not-OutOfMemory (w.kind.ensures ∙ wanting))
     ] in
     let watchers = subst (λ (ws : List (List ℕ)). AreWatchers ws c.args.errors c.in-Ok-watchers_of.crowd) words c.in-Ok-watchers_of.ensures.ok in
-    record { end = inl (c.in-Ok-watchers_of.crowd, c.program.new.crowd, (given, watchers, rw words at c.program.ensures.end)) }
+    record {
+      end = inl (c.in-Ok-watchers_of.crowd, c.program.new.crowd, (given, watchers, rw words at c.program.ensures.end));
+      same = c.program.ensures.same;
+      later = c.program.ensures.later;
+      out = c.program.ensures.out;
+    }
