@@ -81,10 +81,10 @@ far_labels a b r reach_a reach_b u bound far =
     let twice : 2 * r ≡ r + r = omega arith in
     far_on Across a b r r reach_a reach_b u bound (subst (λ (p : ℕ). IsFar a.x b.x p bound) twice far)
 
-pub distant_labels : (a b : Label) (r far : ℕ) (end : Fraction) → Reaches Along a r → Reaches Along b r → 2 * r * end.num ≤ far * end.den → far ≤ unsigned_abs (a.y -ℤ b.y) → (s : Fraction) → IsLess s end → ¬ (Overlap a b s)
-distant_labels a b r far end reach_a reach_b wide apart s less over =
-    let g : ℕ = unsigned_abs (a.y -ℤ b.y) in
+pub distant_labels : (axis : Axis) (a b : Label) (r far : ℕ) (end : Fraction) → Reaches axis a r → Reaches axis b r → 2 * r * end.num ≤ far * end.den → far ≤ unsigned_abs (anchor_on axis a -ℤ anchor_on axis b) → (s : Fraction) → IsLess s end → ¬ (Overlap a b s)
+distant_labels axis a b r far end reach_a reach_b wide apart s less over =
+    let g : ℕ = unsigned_abs (anchor_on axis a -ℤ anchor_on axis b) in
     let twice : 2 * r ≡ r + r = omega arith in
     let more = mul-le far end.den g end.den apart (omega arith) in
-    let near = labels_near Along a b r r reach_a reach_b s over in
+    let near = labels_near axis a b r r reach_a reach_b s over in
     no_room g (2 * r) end.num end.den s.num s.den end.positive (subst (λ (p : ℕ). g * s.den < p * s.num) (sym twice) near) (omega arith) (omega arith)

@@ -3,7 +3,7 @@ ghost use Rattle.std.specs.Prelude.{◌≡◌, ◌≤◌, ◌≤ℤ◌, IsTrue};
 ghost use Rattle.ml_ratio.specs.World.{IsInWorld};
 
 use crate::axis::Axis;
-use crate::far::{is_beyond, larger, reach_of};
+use crate::far::{anchor_on, is_beyond, larger, reach_of};
 use ml_cone::Label;
 use ml_ratio::Ratio;
 
@@ -30,10 +30,7 @@ impl Side {
     fn of(axis: Axis, label: &Label) -> Side
         ensures { IsOnSide axis label.now result }
     {
-        let at = match axis {
-            Axis::Across => label.x(),
-            Axis::Along => label.y(),
-        };
+        let at = anchor_on(axis, label);
         Side {
             from: at,
             to: at,

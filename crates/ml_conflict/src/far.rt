@@ -1,9 +1,9 @@
 //! How far labels reach from their anchors, and what is too far away for a limit.
-ghost use Rattle.std.specs.Prelude.{ℕ, ◌≤◌, All, IsTrue};
+ghost use Rattle.std.specs.Prelude.{ℕ, ◌≡◌, ◌≤◌, All, IsTrue};
 ghost use Rattle.ml_ratio.specs.World.{IsInWorld};
 ghost use Rattle.ml_cone.specs.Plane.{IsWideBox};
 ghost use Rattle.ml_conflict.specs.Field.{IsBeyond};
-ghost use Rattle.ml_conflict.specs.Reach.{IsWithin, Reaches, IsFar};
+ghost use Rattle.ml_conflict.specs.Reach.{IsWithin, Reaches, IsFar, anchor_on};
 
 use crate::axis::Axis;
 use ml_cone::{BoxPx, Label, widened};
@@ -32,6 +32,17 @@ pub fn reach_of(axis: Axis, label: &Label) -> u32
         reach = larger(reach, side_of(axis, &widened(label, p)));
     }
     reach
+}
+
+/// The coordinate of the label's anchor on the axis, in world units.
+pub fn anchor_on(axis: Axis, label: &Label) -> i64
+    ensures is { result ≡ anchor_on axis label.now }
+    ensures world { IsInWorld result }
+{
+    match axis {
+        Axis::Across => label.x(),
+        Axis::Along => label.y(),
+    }
 }
 
 // How many pixels from the anchor the box reaches on the axis.

@@ -14,9 +14,8 @@ ghost use Rattle.ml_cone.specs.declared.slot.Slot.{Slot};
 ghost use Rattle.ml_conflict.specs.Begin.{SetsNoneUpTo};
 ghost use Rattle.ml_conflict.specs.Carried.{holds, AreCarried, AreJoined};
 ghost use Rattle.ml_conflict.specs.Enough.{AreEnough};
-ghost use Rattle.ml_conflict.specs.Reach.{Reaches};
-
-use crate::axis::Axis;
+ghost use Rattle.ml_conflict.specs.Reach.{Reaches, anchor_on};
+ghost use Rattle.ml_conflict.specs.declared.axis.Axis.{Axis as AnAxis};
 
 /// A choice in which each label's end is the least of its maximum and the limits that the labels
 /// before it set is the longest choice.
@@ -104,11 +103,11 @@ pub fn idle_labels()
     ensures { (low high : Label) (u bound : Fraction) → IsAtMost u (value_of high.min) → SetsNoneUpTo low high u bound }
 {}
 
-/// Labels overlap at no scale below an end where their anchors are further apart, from south to north, than they
-/// reach toward each other up to it.
+/// Labels overlap at no scale below an end where their anchors are further apart on an axis than they reach
+/// toward each other there up to that end.
 pub fn distant_labels()
-    ensures { (a b : Label) (r far : ℕ) (end : Fraction) → Reaches Axis.Along a r → Reaches Axis.Along b r → 2 * r * end.num ≤ far * end.den → far ≤ unsigned_abs (a.y -ℤ b.y) →
-        (s : Fraction) → IsLess s end → ¬ (Overlap a b s) }
+    ensures { (axis : AnAxis) (a b : Label) (r far : ℕ) (end : Fraction) → Reaches axis a r → Reaches axis b r → 2 * r * end.num ≤ far * end.den →
+        far ≤ unsigned_abs (anchor_on axis a -ℤ anchor_on axis b) → (s : Fraction) → IsLess s end → ¬ (Overlap a b s) }
 {}
 
 /// A label has the same slot among some rivals as among all, where these are enough.

@@ -4,8 +4,9 @@
 //! - `begin`: where labels begin to overlap; `block`: the limit that one label sets another
 //!   ([`first_block`]), the same where a bound holds it ([`limit_up_to`]), and whether they are
 //!   rivals ([`are_rivals`]);
-//! - `far`: how far labels reach on an `axis` ([`greatest_reach`], [`Axis`]), and what is too far away for a limit; `field`: labels in order from west
-//!   to east ([`arrange_spots`], [`is_beyond`]), each a `spot` ([`Spot`]);
+//! - `far`: how far labels reach on an `axis` ([`greatest_reach`], [`Axis`]), where their anchors lie there
+//!   ([`anchor_on`]), and what is too far away for a limit; `field`: labels in order from west to east
+//!   ([`arrange_spots`], [`is_beyond`]), each a `spot` ([`Spot`]);
 //! - [`rivals`]: the list of rivals of a label, and its slot among them ([`evaluate`]);
 //! - `quotient`: fractions that are not reduced, for the comparisons in between;
 //! - [`laws`]: what makes a choice of active ranges the longest.
@@ -28,7 +29,7 @@ mod strip;
 pub use area::Area;
 pub use axis::Axis;
 pub use block::{are_rivals, first_block, limit_up_to};
-pub use far::{greatest_reach, is_beyond};
+pub use far::{anchor_on, greatest_reach, is_beyond};
 pub use field::{arrange_spots, spot_of};
 pub use rivals::{RivalList, evaluate};
 pub use scales::interval;

@@ -9,3 +9,4 @@ mod Pairing
 mod Blocking
 mod OneCutting
 mod Nears
+mod Strips

@@ -11,10 +11,9 @@ use Rattle.ml_ratio.proofs.lemmas.Fractions.{less_at_most}
 use Rattle.ml_cone.specs.Near.{AreApart, AreNear}
 use Rattle.ml_cone.specs.Overlap.{Overlap}
 use Rattle.ml_cone.specs.declared.label.Label.{Label}
-use Rattle.ml_gaps.specs.Near.{IsNearOf, IsStripFor, AreNears}
+use Rattle.ml_gaps.specs.Near.{IsNearOf, AreNears}
 use Rattle.ml_gaps.specs.declared.gap.Gap.{Gap}
 use Rattle.ml_gaps.specs.declared.near.Near.{Near}
-use Rattle.ml_gaps.specs.declared.near.Strip.{Strip}
 
 -- a quotient rounded up
 pub rounded_up : (n d : ℕ) → 0 < d → n ≤ ((n + (d - 1)) / d) * d
@@ -56,17 +55,15 @@ wide_enough r last until le = let m = mul-le (2 * r) until.num (2 * r) (last * u
 
 -- ---- one label more
 
-pub nears_none : (labels : List Label) (gaps : List Gap) (nears : List Near) (strips : List Strip) → gaps ≡ [] → nears ≡ [] → strips ≡ [] → AreNears labels gaps nears strips
-nears_none labels gaps nears strips e f h =
+pub nears_none : (labels : List Label) (gaps : List Gap) (nears : List Near) → gaps ≡ [] → nears ≡ [] → AreNears labels gaps nears
+nears_none labels gaps nears e f =
     let n = ap length e in
     record {
       one_each = ap length f ∙ sym n;
-      one_strip = ap length h ∙ sym n;
       own = λ k a g near lt. absurd (omega arith);
-      strip = λ k m a b g t lt in'. absurd (omega arith);
     }
 
-module _ (labels : List Label) (gaps : List Gap) (nears : List Near) (strips : List Strip) (i : ℕ) (a : Label) (gap : Gap) (near : Near) (strip : Strip) (one : length gaps ≡ i) (in' : i < length labels) (own : a ≡ get_or labels i a) (so_far : AreNears labels gaps nears strips) where
+module _ (labels : List Label) (gaps : List Gap) (nears : List Near) (i : ℕ) (a : Label) (gap : Gap) (near : Near) (one : length gaps ≡ i) (in' : i < length labels) (own : a ≡ get_or labels i a) (so_far : AreNears labels gaps nears) where
   -- what stands at i is the label
   its : (k : ℕ) (b : Label) → i ≡ k → a ≡ get_or labels k b
   its k b same = own ∙ (get_or_default labels i a b in' ∙ ap (λ (m : ℕ). get_or labels m b) same)
@@ -82,26 +79,11 @@ module _ (labels : List Label) (gaps : List Gap) (nears : List Near) (strips : L
             rw (get_or_push gaps gap g k (omega arith), get_or_push nears near f k (omega arith)) (subst (λ (c : Label). IsNearOf c (value_of gap.until) near) (its k b same) is)
       ]
 
-  strip_more : ((c : Label) (m : ℕ) → m < length labels → IsStripFor (get_or labels m c) a (value_of gap.until) strip) → (k m : ℕ) (c b : Label) (g : Gap) (t : Strip) → k < length (gaps ++ gap ∷ []) → m < length labels →
-      IsStripFor (get_or labels m c) (get_or labels k b) (value_of (get_or (gaps ++ gap ∷ []) k g).until) (get_or (strips ++ strip ∷ []) k t)
-  strip_more is k m c b g t lt there =
-      let n = so_far.one_strip in
-      let l = length-append gaps (gap ∷ []) in
-      elim (cases_lt k i) [
-        | inl less ↦ rw (get_or-append gaps (gap ∷ []) g k (omega arith), get_or-append strips (strip ∷ []) t k (omega arith)) (so_far.strip k m c b g t (omega arith) there)
-        | inr more ↦
-            let same : i ≡ k = omega arith in
-            rw (get_or_push gaps gap g k (omega arith), get_or_push strips strip t k (omega arith)) (subst (λ (x : Label). IsStripFor (get_or labels m c) x (value_of gap.until) strip) (its k b same) (is c m there))
-      ]
-
-  pub nears_more : IsNearOf a (value_of gap.until) near → ((c : Label) (m : ℕ) → m < length labels → IsStripFor (get_or labels m c) a (value_of gap.until) strip) → AreNears labels (gaps ++ gap ∷ []) (nears ++ near ∷ []) (strips ++ strip ∷ [])
-  nears_more is for =
+  pub nears_more : IsNearOf a (value_of gap.until) near → AreNears labels (gaps ++ gap ∷ []) (nears ++ near ∷ [])
+  nears_more is =
       let n = so_far.one_each in
-      let s = so_far.one_strip in
       let m = length-append gaps (gap ∷ []) in
       record {
         one_each = length-append nears (near ∷ []) ∙ omega arith;
-        one_strip = length-append strips (strip ∷ []) ∙ omega arith;
         own = own_more is;
-        strip = strip_more for;
       }

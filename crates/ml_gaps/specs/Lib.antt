@@ -5,3 +5,4 @@ pub mod Gaps
 pub mod Longest
 pub mod Pairs
 pub mod Near
+pub mod Strip

@@ -2,22 +2,21 @@
 ghost use Rattle.std.specs.Prelude.{ℕ, ◌≡◌, ◌≤◌, ◌<◌, ◌*◌, ◌↔◌, [], length, slice_index_or, IfOk, OnOk};
 ghost use Rattle.ml_ratio.specs.Fraction.{Fraction, value_of};
 ghost use Rattle.ml_cone.specs.Choice.{ActiveUntil};
-ghost use Rattle.ml_cone.specs.declared.label.Label.{Label as ALabel};
 ghost use Rattle.ml_gaps.specs.Blocked.{IsBlocked, IsPairPiece, IsBlockedBy};
 ghost use Rattle.ml_gaps.specs.Gaps.{AreGaps};
 ghost use Rattle.ml_gaps.specs.Longest.{IsLongestOf};
-ghost use Rattle.ml_gaps.specs.Near.{IsNearOf, IsStripFor, AreNears};
+ghost use Rattle.ml_gaps.specs.Near.{IsNearOf, AreNears};
 ghost use Rattle.ml_gaps.specs.Piece.{HaveScale, AddsPieces};
-ghost use Rattle.ml_gaps.specs.declared.gap.Gap.{Gap as AGap};
-ghost use Rattle.ml_gaps.specs.declared.near.Strip.{Strip as AStrip};
+ghost use Rattle.ml_gaps.specs.Strip.{AreStrips, AddsStrip};
 
 use crate::block::blocked;
 use crate::gap::Gap;
-use crate::near::{Near, Strip};
+use crate::near::Near;
 use crate::piece::Piece;
+use crate::strip::{Strip, parting_axis};
 use crate::sweep::longest;
 use ml_cone::Label;
-use ml_conflict::{Axis, greatest_reach};
+use ml_conflict::{Axis, anchor_on, greatest_reach};
 use ml_ratio::Seq;
 use std::alloc::{AllocError, Global};
 
@@ -33,7 +32,8 @@ use std::alloc::{AllocError, Global};
 pub fn gaps(alloc: Global, labels: &[Label]) -> Result<Seq<Gap>, AllocError>
     ensures { IfOk result (AreGaps labels.now) }
 {
-    let reach = greatest_reach(Axis::Along, labels);
+    let axis = parting_axis(labels);
+    let reach = greatest_reach(axis, labels);
     let mut gaps = Seq::new(alloc);
     let mut nears = Vec::new(alloc);
     let mut strips = Vec::new(alloc);
@@ -45,10 +45,11 @@ pub fn gaps(alloc: Global, labels: &[Label]) -> Result<Seq<Gap>, AllocError>
             nears: nears.as_slice(),
             strips: strips.as_slice(),
         };
-        pieces = pieces_of(label, &before, pieces)?;
+        pieces = pieces_of(label, axis, &before, pieces)?;
         let gap = longest_of(label, &mut pieces);
         let near = Near::of(label, &gap.until);
-        strips.push(Strip::about(label, &near, reach))?;
+        let strip = Strip::about(label, gaps.len(), &near, axis, reach);
+        add_strip(&mut strips, &gap, strip)?;
         nears.push(near)?;
         gaps.push(gap)?;
         pieces.clear();
@@ -56,7 +57,8 @@ pub fn gaps(alloc: Global, labels: &[Label]) -> Result<Seq<Gap>, AllocError>
     Ok(gaps)
 }
 
-// All labels, of which the first have a gap, and what tells which of these lie near.
+// All labels, of which the first have a gap, and what tells which of these lie near. Only those whose gap is not
+// empty have a strip, since the others block nobody.
 #[derive(Clone, Copy)]
 struct Before<'a> {
     labels: &'a [Label],
@@ -66,19 +68,24 @@ struct Before<'a> {
 }
 
 // The pieces at which the labels before block the label, in the memory of the ones of another label.
-fn pieces_of(label: &Label, before: &Before<'_>, room: Vec<Piece>) -> Result<Vec<Piece>, AllocError>
+fn pieces_of(
+    label: &Label,
+    axis: Axis,
+    before: &Before<'_>,
+    room: Vec<Piece>,
+) -> Result<Vec<Piece>, AllocError>
     requires few { length before.now.gaps.now ≤ length before.now.labels.now }
-    requires nears { AreNears before.now.labels.now before.now.gaps.now before.now.nears.now before.now.strips.now }
-    requires strips { (k : ℕ) (b : ALabel) (g : AGap) (t : AStrip) → k < length before.now.gaps.now →
-        IsStripFor label.now (slice_index_or before.now.labels.now k b) (value_of (slice_index_or before.now.gaps.now k g).until) (slice_index_or before.now.strips.now k t) }
+    requires nears { AreNears before.now.labels.now before.now.gaps.now before.now.nears.now }
+    requires strips { AreStrips axis label.now before.now.labels.now before.now.gaps.now before.now.strips.now }
     requires empty { room.items ≡ [] }
     ensures { IfOk result (λ pieces. (s : Fraction) → HaveScale pieces.items s ↔ IsBlockedBy label.now before.now.labels.now before.now.gaps.now (length before.now.gaps.now) s) }
 {
     let own = Near::of(label, &label.max());
-    let y = label.y();
+    let coordinate = anchor_on(axis, label);
     let mut pieces = Seq::of_vec(room);
-    for j in 0..before.gaps.len() {
-        if !before.strips[j].is_past(y) {
+    for strip in before.strips {
+        if !strip.is_past(coordinate) {
+            let j = strip.place;
             let near = &before.nears[j];
             add_blocked(
                 label,
@@ -111,6 +118,16 @@ fn add_blocked(
         return Ok(());
     }
     blocked(label, other, gap, pieces)
+}
+
+// The strip about a label comes in, unless the label's gap is empty: then it blocks nobody.
+fn add_strip(strips: &mut Vec<Strip>, gap: &Gap, strip: Strip) -> Result<(), AllocError>
+    ensures { IfOk result (λ _. AddsStrip gap.now strip strips.old.items strips.new.items) }
+{
+    if gap.from.is_less(&gap.until) {
+        strips.push(strip)?;
+    }
+    Ok(())
 }
 
 // The longest gap of the label that the pieces leave.

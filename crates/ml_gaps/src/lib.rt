@@ -2,8 +2,8 @@
 //!
 //! - [`piece`]: intervals of scales; [`block`]: those at which one label blocks another ([`blocked`]);
 //! - [`gap`]: ranges and how long they are; `sweep`: the longest that pieces leave;
-//! - [`choice`]: the longest free gap of each label ([`gaps`]), over `near`: which labels lie too far apart
-//!   for one to block another;
+//! - [`choice`]: the longest free gap of each label ([`gaps`]), over `near` and `strip`: which labels lie too far
+//!   apart for one to block another;
 //! - [`filter`]: the labels that a view shows under their gaps ([`shown_gaps`]);
 //! - [`laws`]: laws over the definitions alone.
 #![tactic(auto)]
@@ -15,6 +15,7 @@ pub mod gap;
 pub mod laws;
 mod near;
 pub mod piece;
+mod strip;
 mod sweep;
 
 pub use block::blocked;
