@@ -7,8 +7,6 @@ use Rattle.ml_json.specs.Grammar.{IsGood, IsPrefix}
 use Rattle.ml_json.specs.Depth.{depth}
 use Rattle.ml_json.specs.Answer.{IsText, IsNotJson, IsDeep, Refuses, Answers, GivesTree}
 use Rattle.ml_ratio.specs.Refusal.{RefusesExactly}
-use Rattle.ml_json.specs.View.{tree_of}
-use Rattle.ml_json.specs.declared.value.Json.{Json}
 use Rattle.ml_json.specs.declared.value.JsonFault.{JsonFault}
 use Rattle.ml_json.specs.declared.value.JsonFault.TheVariants as faults
 use Rattle.ml_json.specs.Canonical.{IsWritable}
@@ -59,37 +57,41 @@ one_place P a b later p q = elim (cases_lt a b) [
   | inr more ↦ elim (cases_lt b a) [ inl less ↦ absurd (later b a q p less) | inr same ↦ omega arith ]
 ]
 
-pub gives_tree : (result : Result Json JsonFault) (bytes : List ℕ) → Answers result bytes → (tree : Tree) → IsText bytes tree → GivesTree result tree
-gives_tree (Ok v) bytes h tree p = one_tree bytes (tree_of v) tree h.reads p.reads
-gives_tree (Err (faults.NotJson at)) bytes h tree p = text_or_not bytes tree at p h
-gives_tree (Err (faults.Deep at)) bytes h tree p = text_or_deep bytes tree at p h
-gives_tree (Err faults.Memory) bytes h tree p = tt
+pub gives_tree : {V : Type 0} (tree_of : V → Tree) (result : Result V JsonFault) (bytes : List ℕ) → Answers tree_of result bytes → (tree : Tree) → IsText bytes tree → GivesTree tree_of result tree
+gives_tree tree_of (Ok v) bytes h tree p = one_tree bytes (tree_of v) tree h.reads p.reads
+gives_tree tree_of (Err (faults.NotJson at)) bytes h tree p = text_or_not bytes tree at p h
+gives_tree tree_of (Err (faults.Deep at)) bytes h tree p = text_or_deep bytes tree at p h
+gives_tree tree_of (Err faults.Memory) bytes h tree p = tt
 
-not_json_only : (result : Result Json JsonFault) (bytes : List ℕ) → Answers result bytes → (at : ℕ) → IsNotJson bytes at → (result ≡ Err (faults.NotJson at)) ⊎ (result ≡ Err faults.Memory)
-not_json_only (Ok v) bytes h at p = absurd (text_or_not bytes (tree_of v) at h p)
-not_json_only (Err (faults.NotJson b)) bytes h at p = inl (ap (λ x. Err (faults.NotJson x)) (one_place (IsNotJson bytes) b at (not_json_later bytes) h p))
-not_json_only (Err (faults.Deep b)) bytes h at p = absurd (deep_or_not bytes b at h p)
-not_json_only (Err faults.Memory) bytes h at p = inr refl
+not_json_only : {V : Type 0} (tree_of : V → Tree) (result : Result V JsonFault) (bytes : List ℕ)
+    → Answers tree_of result bytes → (at : ℕ) → IsNotJson bytes at → (result ≡ Err (faults.NotJson at)) ⊎ (result ≡ Err faults.Memory)
+not_json_only tree_of (Ok v) bytes h at p = absurd (text_or_not bytes (tree_of v) at h p)
+not_json_only tree_of (Err (faults.NotJson b)) bytes h at p = inl (ap (λ x. Err (faults.NotJson x)) (one_place (IsNotJson bytes) b at (not_json_later bytes) h p))
+not_json_only tree_of (Err (faults.Deep b)) bytes h at p = absurd (deep_or_not bytes b at h p)
+not_json_only tree_of (Err faults.Memory) bytes h at p = inr refl
 
-deep_only : (result : Result Json JsonFault) (bytes : List ℕ) → Answers result bytes → (at : ℕ) → IsDeep bytes at → (result ≡ Err (faults.Deep at)) ⊎ (result ≡ Err faults.Memory)
-deep_only (Ok v) bytes h at p = absurd (text_or_deep bytes (tree_of v) at h p)
-deep_only (Err (faults.NotJson b)) bytes h at p = absurd (deep_or_not bytes at b p h)
-deep_only (Err (faults.Deep b)) bytes h at p = inl (ap (λ x. Err (faults.Deep x)) (one_place (IsDeep bytes) b at (deep_later bytes) h p))
-deep_only (Err faults.Memory) bytes h at p = inr refl
+deep_only : {V : Type 0} (tree_of : V → Tree) (result : Result V JsonFault) (bytes : List ℕ)
+    → Answers tree_of result bytes → (at : ℕ) → IsDeep bytes at → (result ≡ Err (faults.Deep at)) ⊎ (result ≡ Err faults.Memory)
+deep_only tree_of (Ok v) bytes h at p = absurd (text_or_deep bytes (tree_of v) at h p)
+deep_only tree_of (Err (faults.NotJson b)) bytes h at p = absurd (deep_or_not bytes at b p h)
+deep_only tree_of (Err (faults.Deep b)) bytes h at p = inl (ap (λ x. Err (faults.Deep x)) (one_place (IsDeep bytes) b at (deep_later bytes) h p))
+deep_only tree_of (Err faults.Memory) bytes h at p = inr refl
 
-pub not_json_exactly : (result : Result Json JsonFault) (bytes : List ℕ) → Answers result bytes → (at : ℕ) → RefusesExactly result (faults.NotJson at) faults.Memory (IsNotJson bytes at)
-not_json_exactly result bytes h at = ((λ e. subst (λ r. Answers r bytes) e h), not_json_only result bytes h at)
+pub not_json_exactly : {V : Type 0} (tree_of : V → Tree) (result : Result V JsonFault) (bytes : List ℕ)
+    → Answers tree_of result bytes → (at : ℕ) → RefusesExactly result (faults.NotJson at) faults.Memory (IsNotJson bytes at)
+not_json_exactly tree_of result bytes h at = ((λ e. subst (λ r. Answers tree_of r bytes) e h), not_json_only tree_of result bytes h at)
 
-pub deep_exactly : (result : Result Json JsonFault) (bytes : List ℕ) → Answers result bytes → (at : ℕ) → RefusesExactly result (faults.Deep at) faults.Memory (IsDeep bytes at)
-deep_exactly result bytes h at = ((λ e. subst (λ r. Answers r bytes) e h), deep_only result bytes h at)
+pub deep_exactly : {V : Type 0} (tree_of : V → Tree) (result : Result V JsonFault) (bytes : List ℕ)
+    → Answers tree_of result bytes → (at : ℕ) → RefusesExactly result (faults.Deep at) faults.Memory (IsDeep bytes at)
+deep_exactly tree_of result bytes h at = ((λ e. subst (λ r. Answers tree_of r bytes) e h), deep_only tree_of result bytes h at)
 
-pub ok_text : (result : Result Json JsonFault) (bytes : List ℕ) → Answers result bytes → IfOk result (λ v. IsText bytes (tree_of v))
-ok_text (Ok v) bytes h = h
-ok_text (Err e) bytes h = tt
+pub ok_text : {V : Type 0} (tree_of : V → Tree) (result : Result V JsonFault) (bytes : List ℕ) → Answers tree_of result bytes → IfOk result (λ v. IsText bytes (tree_of v))
+ok_text tree_of (Ok v) bytes h = h
+ok_text tree_of (Err e) bytes h = tt
 
-pub ok_writable : (result : Result Json JsonFault) (bytes : List ℕ) → Answers result bytes → IfOk result (λ v. IsWritable (tree_of v))
-ok_writable (Ok v) bytes h = text_writable bytes (tree_of v) h
-ok_writable (Err e) bytes h = tt
+pub ok_writable : {V : Type 0} (tree_of : V → Tree) (result : Result V JsonFault) (bytes : List ℕ) → Answers tree_of result bytes → IfOk result (λ v. IsWritable (tree_of v))
+ok_writable tree_of (Ok v) bytes h = text_writable bytes (tree_of v) h
+ok_writable tree_of (Err e) bytes h = tt
 
 -- a text of a tree is refused for want of memory alone
 pub text_or_fault : (bytes : List ℕ) (tree : Tree) (fault : JsonFault) → IsText bytes tree → Refuses fault bytes → fault ≡ faults.Memory

@@ -7,10 +7,10 @@ use Rattle.ml_json.specs.Machine.{snoc, State, open_of}
 use Rattle.ml_json.specs.Grammar.{is_space}
 use Rattle.ml_json.specs.Machine as m
 use Rattle.std.specs.BTreeMap.{BTreeMap}
-use Rattle.ml_json.specs.View.{tree_of, trees_view, pairs_view}
+use Rattle.ml_json.specs.Lent.{lent_of, lents_view, lent_pairs_view}
 use Rattle.ml_json.specs.State.{entries_view, frames_of, frame_of}
-use Rattle.ml_json.specs.declared.value.Json.{Json, List as json_list, Map as json_map}
-use Rattle.ml_json.specs.declared.value.Pair.{Pair}
+use Rattle.ml_json.specs.declared.lent.Lent.{Lent, List as json_list, Map as json_map}
+use Rattle.ml_json.specs.declared.lent.LentPair.{LentPair}
 use Rattle.ml_json.specs.declared.state.Frame.{Frame}
 use Rattle.ml_json.specs.declared.state.Frame.TheVariants as frames
 use Rattle.ml_json.proofs.FrameLemmas.{frames_push, frames_length}
@@ -19,53 +19,53 @@ use Rattle.ml_json.proofs.ViewLemmas.{tree_list, tree_map, trees_push}
 pub after_frame : (w : Tree) (old new : List Frame) (x : Frame) (b : ℕ) → old ≡ new ++ x ∷ [] → is_space b ≡ false → m.after_step w (frames_of old) b ≡ m.close_step w (frame_of x ∷ frames_of new) b
 after_frame w old new x b e h = rw h (ap (λ st. m.close_step w st b) (ap frames_of e ∙ frames_push new x))
 
-frame_list : (x : Vec Json Global) (xs : List Json) (v : Json) (ys : Vec Json Global) → ys.items ≡ x.items ++ v ∷ [] → m.in_list (trees_view ys.items) ≡ m.in_list (snoc (trees_view x.items) (tree_of v))
-frame_list x xs v ys e = ap m.in_list (ap trees_view e ∙ trees_push x.items v)
+frame_list : (x : Vec Lent Global) (xs : List Lent) (v : Lent) (ys : Vec Lent Global) → ys.items ≡ x.items ++ v ∷ [] → m.in_list (lents_view ys.items) ≡ m.in_list (snoc (lents_view x.items) (lent_of v))
+frame_list x xs v ys e = ap m.in_list (ap lents_view e ∙ trees_push x.items v)
 
 pub length_last : (old popped : List Frame) (x : Frame) → old ≡ popped ++ x ∷ [] → length old ≡ length popped + 1
 length_last old popped x e = ap length e ∙ length-append popped (x ∷ [])
 
-pub list_comma : (old popped new : List Frame) (items pushed : Vec Json Global) (v : Json) (b : ℕ) → old ≡ popped ++ frames.List items ∷ [] → pushed.items ≡ items.items ++ v ∷ [] → new ≡ popped ++ frames.List pushed ∷ []
-    → is_space b ≡ false → b ≡ 44 → length old ≤ 64 → (m.after_step (tree_of v) (frames_of old) b ≡ Some (m.value, frames_of new)) × (open_of m.value (frames_of new) ≤ 64)
+pub list_comma : (old popped new : List Frame) (items pushed : Vec Lent Global) (v : Lent) (b : ℕ) → old ≡ popped ++ frames.List items ∷ [] → pushed.items ≡ items.items ++ v ∷ [] → new ≡ popped ++ frames.List pushed ∷ []
+    → is_space b ≡ false → b ≡ 44 → length old ≤ 64 → (m.after_step (lent_of v) (frames_of old) b ≡ Some (m.value, frames_of new)) × (open_of m.value (frames_of new) ≤ 64)
 unfolding open_of
 list_comma old popped new items pushed v b e f g sp is le =
-    let h = after_frame (tree_of v) old popped (frames.List items) b e sp in
-    let k : frames_of new ≡ m.in_list (snoc (trees_view items.items) (tree_of v)) ∷ frames_of popped =
+    let h = after_frame (lent_of v) old popped (frames.List items) b e sp in
+    let k : frames_of new ≡ m.in_list (snoc (lents_view items.items) (lent_of v)) ∷ frames_of popped =
     ap frames_of g ∙ frames_push popped (frames.List pushed) ∙ ap (λ x. x ∷ frames_of popped) (frame_list items [] v pushed f) in
     (h ∙ rw is (ap (λ st. m.to m.value st) (sym k)), omega (arith, frames_length new, length_last old popped _ e, length_last new popped _ g))
 
-pub list_end : (old popped : List Frame) (items pushed : Vec Json Global) (v : Json) (b : ℕ) → old ≡ popped ++ frames.List items ∷ [] → pushed.items ≡ items.items ++ v ∷ []
-    → is_space b ≡ false → b ≡ 93 → length old ≤ 64 → (m.after_step (tree_of v) (frames_of old) b ≡ Some (m.after (tree_of (json_list pushed)), frames_of popped)) × (open_of (m.after (tree_of (json_list pushed))) (frames_of popped) ≤ 64)
+pub list_end : (old popped : List Frame) (items pushed : Vec Lent Global) (v : Lent) (b : ℕ) → old ≡ popped ++ frames.List items ∷ [] → pushed.items ≡ items.items ++ v ∷ []
+    → is_space b ≡ false → b ≡ 93 → length old ≤ 64 → (m.after_step (lent_of v) (frames_of old) b ≡ Some (m.after (lent_of (json_list pushed)), frames_of popped)) × (open_of (m.after (lent_of (json_list pushed))) (frames_of popped) ≤ 64)
 unfolding open_of
 list_end old popped items pushed v b e f sp is le =
-    let h = after_frame (tree_of v) old popped (frames.List items) b e sp in
-    let k : tree_of (json_list pushed) ≡ list (snoc (trees_view items.items) (tree_of v)) = tree_list pushed ∙ ap (λ vs. list vs) (ap trees_view f ∙ trees_push items.items v) in
+    let h = after_frame (lent_of v) old popped (frames.List items) b e sp in
+    let k : lent_of (json_list pushed) ≡ list (snoc (lents_view items.items) (lent_of v)) = tree_list pushed ∙ ap (λ vs. list vs) (ap lents_view f ∙ trees_push items.items v) in
     (h ∙ rw is (ap (λ t. m.to (m.after t) (frames_of popped)) (sym k)), omega (arith, frames_length popped, length_last old popped _ e))
 
-pub list_other : (old popped : List Frame) (items : Vec Json Global) (v : Json) (b : ℕ) → old ≡ popped ++ frames.List items ∷ [] → is_space b ≡ false → b ≢ 44 → b ≢ 93 → m.after_step (tree_of v) (frames_of old) b ≡ None
+pub list_other : (old popped : List Frame) (items : Vec Lent Global) (v : Lent) (b : ℕ) → old ≡ popped ++ frames.List items ∷ [] → is_space b ≡ false → b ≢ 44 → b ≢ 93 → m.after_step (lent_of v) (frames_of old) b ≡ None
 list_other old popped items v b e sp n k =
     let a : (b == 44) ≡ false = grind (arith, nat_tests) in
     let c : (b == 93) ≡ false = grind (arith, nat_tests) in
-    after_frame (tree_of v) old popped (frames.List items) b e sp ∙ rw (a, c) refl
+    after_frame (lent_of v) old popped (frames.List items) b e sp ∙ rw (a, c) refl
 
-pub map_comma : (old popped : List Frame) (before after : BTreeMap (List ℕ) Json) (k : List ℕ) (v : Json) (b : ℕ) → old ≡ popped ++ frames.Map before k ∷ [] → entries_view after.entries ≡ put k (tree_of v) (entries_view before.entries)
-    → is_space b ≡ false → b ≡ 44 → length old ≤ 64 → (m.after_step (tree_of v) (frames_of old) b ≡ Some (m.key (entries_view after.entries), frames_of popped)) × (open_of (m.key (entries_view after.entries)) (frames_of popped) ≤ 64)
+pub map_comma : (old popped : List Frame) (before after : BTreeMap (List ℕ) Lent) (k : List ℕ) (v : Lent) (b : ℕ) → old ≡ popped ++ frames.Map before k ∷ [] → entries_view after.entries ≡ put k (lent_of v) (entries_view before.entries)
+    → is_space b ≡ false → b ≡ 44 → length old ≤ 64 → (m.after_step (lent_of v) (frames_of old) b ≡ Some (m.key (entries_view after.entries), frames_of popped)) × (open_of (m.key (entries_view after.entries)) (frames_of popped) ≤ 64)
 unfolding open_of
 map_comma old popped before after k v b e f sp is le =
-    let h = after_frame (tree_of v) old popped (frames.Map before k) b e sp in
+    let h = after_frame (lent_of v) old popped (frames.Map before k) b e sp in
     (h ∙ rw is (ap (λ x. m.to (m.key x) (frames_of popped)) (sym f)), omega (arith, frames_length popped, length_last old popped _ e))
 
-pub map_end : (old popped : List Frame) (before after : BTreeMap (List ℕ) Json) (pairs : Vec Pair Global) (k : List ℕ) (v : Json) (b : ℕ) → old ≡ popped ++ frames.Map before k ∷ [] → entries_view after.entries ≡ put k (tree_of v) (entries_view before.entries)
-    → pairs_view pairs.items ≡ entries_view after.entries
-    → is_space b ≡ false → b ≡ 125 → length old ≤ 64 → (m.after_step (tree_of v) (frames_of old) b ≡ Some (m.after (tree_of (json_map pairs)), frames_of popped)) × (open_of (m.after (tree_of (json_map pairs))) (frames_of popped) ≤ 64)
+pub map_end : (old popped : List Frame) (before after : BTreeMap (List ℕ) Lent) (pairs : Vec LentPair Global) (k : List ℕ) (v : Lent) (b : ℕ) → old ≡ popped ++ frames.Map before k ∷ [] → entries_view after.entries ≡ put k (lent_of v) (entries_view before.entries)
+    → lent_pairs_view pairs.items ≡ entries_view after.entries
+    → is_space b ≡ false → b ≡ 125 → length old ≤ 64 → (m.after_step (lent_of v) (frames_of old) b ≡ Some (m.after (lent_of (json_map pairs)), frames_of popped)) × (open_of (m.after (lent_of (json_map pairs))) (frames_of popped) ≤ 64)
 unfolding open_of
 map_end old popped before after pairs k v b e f g sp is le =
-    let h = after_frame (tree_of v) old popped (frames.Map before k) b e sp in
-    let q : tree_of (json_map pairs) ≡ map (put k (tree_of v) (entries_view before.entries)) = tree_map pairs ∙ ap (λ x. map x) (g ∙ f) in
+    let h = after_frame (lent_of v) old popped (frames.Map before k) b e sp in
+    let q : lent_of (json_map pairs) ≡ map (put k (lent_of v) (entries_view before.entries)) = tree_map pairs ∙ ap (λ x. map x) (g ∙ f) in
     (h ∙ rw is (ap (λ t. m.to (m.after t) (frames_of popped)) (sym q)), omega (arith, frames_length popped, length_last old popped _ e))
 
-pub map_other : (old popped : List Frame) (before : BTreeMap (List ℕ) Json) (k : List ℕ) (v : Json) (b : ℕ) → old ≡ popped ++ frames.Map before k ∷ [] → is_space b ≡ false → b ≢ 44 → b ≢ 125 → m.after_step (tree_of v) (frames_of old) b ≡ None
+pub map_other : (old popped : List Frame) (before : BTreeMap (List ℕ) Lent) (k : List ℕ) (v : Lent) (b : ℕ) → old ≡ popped ++ frames.Map before k ∷ [] → is_space b ≡ false → b ≢ 44 → b ≢ 125 → m.after_step (lent_of v) (frames_of old) b ≡ None
 map_other old popped before k v b e sp n q =
     let a : (b == 44) ≡ false = grind (arith, nat_tests) in
     let c : (b == 125) ≡ false = grind (arith, nat_tests) in
-    after_frame (tree_of v) old popped (frames.Map before k) b e sp ∙ rw (a, c) refl
+    after_frame (lent_of v) old popped (frames.Map before k) b e sp ∙ rw (a, c) refl

@@ -1,28 +1,28 @@
--- What a `Json` of each kind stands for.
+-- What a `Lent` of each kind stands for.
 use Rattle.std.proofs.Common.{◌≡◌, ℕ, List, [], ◌∷◌, ◌++◌, refl, sym, ◌∙◌, ap, Vec}
 use Rattle.std.specs.declared.alloc.Global.{Global}
 use Rattle.ml_json.specs.Tree.{Tree, none, more, list, map, num, str}
 use Rattle.ml_json.specs.Machine.{snoc}
-use Rattle.ml_json.specs.View.{tree_of, trees_view, pairs_view, json_step, pair_step}
-use Rattle.ml_json.specs.declared.value.Json.{Json, fold-roll-Json, List as json_list, Map as json_map}
-use Rattle.ml_json.specs.declared.value.Json.TheVariants as v
-use Rattle.ml_json.specs.declared.value.Pair.{Pair}
+use Rattle.ml_json.specs.Lent.{lent_of, lents_view, lent_pairs_view, lent_step, lent_pair_step}
+use Rattle.ml_json.specs.declared.lent.Lent.{Lent, fold-roll-Lent, List as json_list, Map as json_map}
+use Rattle.ml_json.specs.declared.lent.Lent.TheVariants as v
+use Rattle.ml_json.specs.declared.lent.LentPair.{LentPair}
 
-pub tree_list : (x : Vec Json Global) → tree_of (json_list x) ≡ list (trees_view x.items)
-tree_list x = ap tree_of (sym (v.rolls-List x)) ∙ fold-roll-Json Tree (List ℕ × Tree) json_step pair_step _
+pub tree_list : (x : Vec Lent Global) → lent_of (json_list x) ≡ list (lents_view x.items)
+tree_list x = ap lent_of (sym (v.rolls-List x)) ∙ fold-roll-Lent Tree (List ℕ × Tree) lent_step lent_pair_step _
 
-pub tree_map : (x : Vec Pair Global) → tree_of (json_map x) ≡ map (pairs_view x.items)
-tree_map x = ap tree_of (sym (v.rolls-Map x)) ∙ fold-roll-Json Tree (List ℕ × Tree) json_step pair_step _
+pub tree_map : (x : Vec LentPair Global) → lent_of (json_map x) ≡ map (lent_pairs_view x.items)
+tree_map x = ap lent_of (sym (v.rolls-Map x)) ∙ fold-roll-Lent Tree (List ℕ × Tree) lent_step lent_pair_step _
 
-pub trees_push : (vs : List Json) (w : Json) → trees_view (vs ++ w ∷ []) ≡ snoc (trees_view vs) (tree_of w)
+pub trees_push : (vs : List Lent) (w : Lent) → lents_view (vs ++ w ∷ []) ≡ snoc (lents_view vs) (lent_of w)
 trees_push [] w = refl
-trees_push (v ∷ vs) w = ap (more (tree_of v)) (trees_push vs w)
+trees_push (v ∷ vs) w = ap (more (lent_of v)) (trees_push vs w)
 
-pub empty_list : (x : Vec Json Global) → x.items ≡ [] → tree_of (json_list x) ≡ list none
-empty_list x e = tree_list x ∙ ap (λ vs. list (trees_view vs)) e
+pub empty_list : (x : Vec Lent Global) → x.items ≡ [] → lent_of (json_list x) ≡ list none
+empty_list x e = tree_list x ∙ ap (λ vs. list (lents_view vs)) e
 
-pub tree_num : (s : List ℕ) → tree_of (v.Num s) ≡ num s
-tree_num s = ap tree_of (sym (v.rolls-Num s)) ∙ fold-roll-Json Tree (List ℕ × Tree) json_step pair_step _
+pub tree_num : (s : List ℕ) → lent_of (v.Num s) ≡ num s
+tree_num s = ap lent_of (sym (v.rolls-Num s)) ∙ fold-roll-Lent Tree (List ℕ × Tree) lent_step lent_pair_step _
 
-pub tree_str : (s : List ℕ) → tree_of (v.Str s) ≡ str s
-tree_str s = ap tree_of (sym (v.rolls-Str s)) ∙ fold-roll-Json Tree (List ℕ × Tree) json_step pair_step _
+pub tree_str : (s : List ℕ) → lent_of (v.Str s) ≡ str s
+tree_str s = ap lent_of (sym (v.rolls-Str s)) ∙ fold-roll-Lent Tree (List ℕ × Tree) lent_step lent_pair_step _

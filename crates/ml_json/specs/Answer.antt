@@ -3,8 +3,6 @@ use Rattle.std.specs.Prelude.{◌≡◌, ℕ, ◌+◌, ◌<◌, ◌≤◌, ◌�
 use Rattle.ml_json.specs.Tree.{Tree}
 use Rattle.ml_json.specs.Grammar.{Reads, IsGood, IsPrefix}
 use Rattle.ml_json.specs.Depth.{depth, IsShallow}
-use Rattle.ml_json.specs.View.{tree_of}
-use Rattle.ml_json.specs.declared.value.Json.{Json}
 use Rattle.ml_json.specs.declared.value.JsonFault.{JsonFault}
 use Rattle.ml_json.specs.declared.value.JsonFault.TheVariants as faults
 
@@ -33,14 +31,14 @@ Refuses (faults.NotJson at) bytes = IsNotJson bytes at
 Refuses (faults.Deep at) bytes = IsDeep bytes at
 Refuses faults.Memory bytes = Unit {0}
 
--- what an answer says of the bytes
-abbrev pub Answers : Result Json JsonFault → List ℕ → Type 0
-Answers (Ok v) bytes = IsText bytes (tree_of v)
-Answers (Err e) bytes = Refuses e bytes
+-- what an answer says of the bytes, by the trees of values
+abbrev pub Answers : {V : Type 0} → (V → Tree) → Result V JsonFault → List ℕ → Type 0
+Answers tree_of (Ok v) bytes = IsText bytes (tree_of v)
+Answers tree_of (Err e) bytes = Refuses e bytes
 
 -- the answer is a value of this tree, or want of memory
-abbrev pub GivesTree : Result Json JsonFault → Tree → Type 0
-GivesTree (Ok v) tree = tree_of v ≡ tree
-GivesTree (Err (faults.NotJson at)) tree = ⊥
-GivesTree (Err (faults.Deep at)) tree = ⊥
-GivesTree (Err faults.Memory) tree = Unit {0}
+abbrev pub GivesTree : {V : Type 0} → (V → Tree) → Result V JsonFault → Tree → Type 0
+GivesTree tree_of (Ok v) tree = tree_of v ≡ tree
+GivesTree tree_of (Err (faults.NotJson at)) tree = ⊥
+GivesTree tree_of (Err (faults.Deep at)) tree = ⊥
+GivesTree tree_of (Err faults.Memory) tree = Unit {0}

@@ -7,6 +7,7 @@ pub mod Strings
 pub mod Grammar
 pub mod Depth
 pub mod View
+pub mod Lent
 pub mod Answer
 pub mod Decimal
 pub mod Fixed

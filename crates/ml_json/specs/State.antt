@@ -4,8 +4,8 @@ use Rattle.ml_json.specs.Tree.{Pairs, no_pairs, pair}
 use Rattle.ml_json.specs.Machine as m
 use Rattle.ml_json.specs.Machine.{State, step, open_of}
 use Rattle.ml_json.specs.Partial.{tail_of, HoldsHigh}
-use Rattle.ml_json.specs.View.{tree_of, trees_view}
-use Rattle.ml_json.specs.declared.value.Json.{Json}
+use Rattle.ml_json.specs.Lent.{lent_of, lents_view}
+use Rattle.ml_json.specs.declared.lent.Lent.{Lent}
 use Rattle.ml_json.specs.declared.state.Frame.{Frame}
 use Rattle.ml_json.specs.declared.state.Frame.TheVariants as frames
 use Rattle.ml_json.specs.declared.state.Part.{Part}
@@ -20,13 +20,13 @@ use Rattle.ml_json.specs.declared.state.Stop.{Stop}
 use Rattle.ml_json.specs.declared.state.Stop.TheVariants as stops
 
 -- the members that a map's entries stand for
-abbrev pub entries_view : List (List ℕ × Json) → Pairs
+abbrev pub entries_view : List (List ℕ × Lent) → Pairs
 entries_view [] = no_pairs
-entries_view (e ∷ es) = pair e.0 (tree_of e.1) (entries_view es)
+entries_view (e ∷ es) = pair e.0 (lent_of e.1) (entries_view es)
 
 -- what an open list or map stands for
 abbrev pub frame_of : Frame → m.Frame
-frame_of (frames.List vs) = m.in_list (trees_view vs.items)
+frame_of (frames.List vs) = m.in_list (lents_view vs.items)
 frame_of (frames.Map ps k) = m.at_key (entries_view ps.entries) k
 
 -- frames on top of others; the last one is the innermost
@@ -77,7 +77,7 @@ mode_of modes.First = m.first
 mode_of modes.FirstKey = m.first_key
 mode_of (modes.Key ps) = m.key (entries_view ps.entries)
 mode_of (modes.Colon ps k) = m.colon (entries_view ps.entries) k
-mode_of (modes.After v) = m.after (tree_of v)
+mode_of (modes.After v) = m.after (lent_of v)
 mode_of (modes.Text x) = m.text (owner_of x.owner) x.half (string_bytes x.text)
 mode_of (modes.Escape x) = m.escape (owner_of x.owner) x.half (string_bytes x.text)
 mode_of (modes.Hex x y) = m.hex (owner_of x.owner) x.half (string_bytes x.text) y.left y.sum

@@ -3,12 +3,12 @@ ghost use Rattle.std.specs.Prelude.{◌≡◌, ◌≤◌, ◌<◌, length};
 ghost use Rattle.ml_json.specs.Machine.{open_step, value_step, first_step, after_step};
 ghost use Rattle.ml_json.specs.State.{Steps, frames_of};
 ghost use Rattle.ml_json.specs.Grammar.{is_space as spec_is_space};
-ghost use Rattle.ml_json.specs.View.{tree_of};
+ghost use Rattle.ml_json.specs.Lent.{lent_of};
 ghost use Rattle.ml_json.specs.declared.state.Stop.TheVariants.{Memory};
 
+use crate::lent::{Lent, LentText};
 use crate::members::{pairs_of, put_member};
 use crate::state::{Frame, Mode, Open, Owner, Part, Stop, Word};
-use crate::value::Json;
 use std::alloc::{AllocError, AllocFailed, Global};
 
 impl<T: Drop> From<AllocFailed<T>> for Stop {
@@ -36,7 +36,7 @@ pub fn is_space(byte: u8) -> bool
 
 // The mode behind the first byte of a value.
 #[tactic(auto, using(crate::proofs::FrameLemmas::frames_length), unfolding(crate::specs::Machine::open_of))]
-fn open_value(alloc: Global, frames: &Vec<Frame>, byte: u8) -> Result<Mode, Stop>
+fn open_value<'a>(alloc: Global, frames: &Vec<Frame<'a>>, byte: u8) -> Result<Mode<'a>, Stop>
     requires { length frames.now.items ≤ 64 }
     ensures { Steps result frames.now.items (open_step (frames_of frames.now.items) byte) }
 {
@@ -72,7 +72,7 @@ fn open_value(alloc: Global, frames: &Vec<Frame>, byte: u8) -> Result<Mode, Stop
 
 /// The mode behind a byte where a value is awaited.
 #[tactic(auto, using(crate::proofs::FrameLemmas::frames_length), unfolding(crate::specs::Machine::open_of))]
-pub fn value_next(alloc: Global, frames: &Vec<Frame>, byte: u8) -> Result<Mode, Stop>
+pub fn value_next<'a>(alloc: Global, frames: &Vec<Frame<'a>>, byte: u8) -> Result<Mode<'a>, Stop>
     requires { length frames.now.items ≤ 64 }
     ensures { Steps result frames.now.items (value_step (frames_of frames.now.items) byte) }
 {
@@ -84,7 +84,11 @@ pub fn value_next(alloc: Global, frames: &Vec<Frame>, byte: u8) -> Result<Mode, 
 
 /// The mode behind a byte between a list's bracket and its first item or its end.
 #[tactic(auto, using(crate::proofs::FrameLemmas::frames_length), unfolding(crate::specs::Machine::open_of))]
-pub fn first_next(alloc: Global, frames: &mut Vec<Frame>, byte: u8) -> Result<Mode, Stop>
+pub fn first_next<'a>(
+    alloc: Global,
+    frames: &mut Vec<Frame<'a>>,
+    byte: u8,
+) -> Result<Mode<'a>, Stop>
     requires { length frames.old.items < 64 }
     ensures { Steps result frames.new.items (first_step (frames_of frames.old.items) byte) }
 {
@@ -92,7 +96,7 @@ pub fn first_next(alloc: Global, frames: &mut Vec<Frame>, byte: u8) -> Result<Mo
         return Ok(Mode::First);
     }
     if byte == b']' {
-        return Ok(Mode::After(Json::List(Vec::new(alloc))));
+        return Ok(Mode::After(Lent::List(Vec::new(alloc))));
     }
     frames.push(Frame::List(Vec::new(alloc)))?;
     open_value(alloc, frames, byte)
@@ -100,14 +104,14 @@ pub fn first_next(alloc: Global, frames: &mut Vec<Frame>, byte: u8) -> Result<Mo
 
 /// The mode behind a byte after a value.
 #[tactic(auto, using(crate::proofs::FrameLemmas::frames_length), unfolding(crate::specs::Machine::open_of))]
-pub fn after_next(
+pub fn after_next<'a>(
     alloc: Global,
-    frames: &mut Vec<Frame>,
-    value: Json,
+    frames: &mut Vec<Frame<'a>>,
+    value: Lent<'a>,
     byte: u8,
-) -> Result<Mode, Stop>
+) -> Result<Mode<'a>, Stop>
     requires { length frames.old.items ≤ 64 }
-    ensures { Steps result frames.new.items (after_step (tree_of value) (frames_of frames.old.items) byte) }
+    ensures { Steps result frames.new.items (after_step (lent_of value.entry) (frames_of frames.old.items) byte) }
 {
     if is_space(byte) {
         return Ok(Mode::After(value));
@@ -121,7 +125,7 @@ pub fn after_next(
                     frames.push(Frame::List(items))?;
                     Ok(Mode::Value)
                 }
-                b']' => Ok(Mode::After(Json::List(items))),
+                b']' => Ok(Mode::After(Lent::List(items))),
                 _ => Err(Stop::NotJson),
             }
         }
@@ -129,7 +133,7 @@ pub fn after_next(
             put_member(&mut members, key, value)?;
             match byte {
                 b',' => Ok(Mode::Key(members)),
-                b'}' => Ok(Mode::After(Json::Map(pairs_of(alloc, members)?))),
+                b'}' => Ok(Mode::After(Lent::Map(pairs_of(alloc, members)?))),
                 _ => Err(Stop::NotJson),
             }
         }

@@ -19,7 +19,15 @@ pub fn e7(num: &Text) -> Option<i64>
     ensures value { result ≡ e7_of num.now }
     ensures world { IfSome result IsInWorld }
 {
-    let text = num.as_str().as_bytes();
+    coordinate(num.as_str())
+}
+
+/// [`e7`] of a text that is borrowed.
+pub fn coordinate(num: &str) -> Option<i64>
+    ensures value { result ≡ e7_of num.now }
+    ensures world { IfSome result IsInWorld }
+{
+    let text = num.as_bytes();
     let size = (scaled(text, 8, 10 * FARTHEST + 10) + 5) / 10;
     if size > FARTHEST {
         return None;

@@ -6,14 +6,13 @@ ghost use Rattle.std.specs.Str.{IsAscii};
 ghost use Rattle.ml_json.specs.Strings.{is_plain as spec_is_plain};
 ghost use Rattle.ml_json.specs.Machine.{value, first, open_of, after_step};
 ghost use Rattle.ml_json.specs.State.{part_of, mode_of, frame_of, frames_of, GoesTo};
-ghost use Rattle.ml_json.specs.View.{tree_of};
+ghost use Rattle.ml_json.specs.Lent.{lent_of};
 ghost use Rattle.ml_json.specs.Leaps.{skip_space as spec_skip_space, plain_front, behind_plain, plain_string as spec_plain_string, plain_key as spec_plain_key, first_part as spec_first_part, last_part, behind_number as spec_behind_number, plain_number as spec_plain_number, cut_view, IsTaken, TakesByte, Passes};
 
 use crate::brackets::{after_next, is_space};
+use crate::lent::{Lent, LentText};
 use crate::state::{Frame, Mode, Part, Stop};
 use crate::tokens::{go_on, may_end};
-use crate::value::Json;
-use ml_ratio::Text;
 use std::alloc::{AllocError, Global};
 use std::collections::BTreeMap;
 use std::mem;
@@ -128,19 +127,16 @@ fn plain_number(bytes: &[u8]) -> Option<(&[u8], &[u8])>
     Some((&bytes[..bytes.len() - rest.len()], rest))
 }
 
-// The text of ASCII bytes.
-fn text_of(alloc: Global, bytes: &[u8]) -> Result<Text, AllocError>
+// The text of ASCII bytes, which need no further look.
+fn text_of<'a>(bytes: &'a [u8]) -> LentText<'a>
     requires { IsAscii bytes.now }
-    ensures { IfOk result (λ text. text ≡ bytes.now) }
+    ensures { result ≡ bytes.now }
 {
-    match str::from_utf8(bytes) {
-        Ok(text) => Text::of(alloc, text),
-        Err(_) => unreachable!(),
-    }
+    LentText::of(unsafe { str::from_utf8_unchecked(bytes) })
 }
 
 // Whether the list or map goes on by the byte behind a value, or ends by it.
-fn takes(frame: &Frame, byte: u8) -> bool
+fn takes<'a>(frame: &Frame<'a>, byte: u8) -> bool
     ensures { IsTrue result ↔ IsTaken (frame_of frame.now) byte }
 {
     let end = match frame {
@@ -151,7 +147,7 @@ fn takes(frame: &Frame, byte: u8) -> bool
 }
 
 // Whether the innermost list or map takes the byte.
-fn closes(frames: &Vec<Frame>, byte: u8) -> bool
+fn closes<'a>(frames: &Vec<Frame<'a>>, byte: u8) -> bool
     ensures { IsTrue result ↔ TakesByte (frames_of frames.now.items) byte }
 {
     match frames.last() {
@@ -161,7 +157,7 @@ fn closes(frames: &Vec<Frame>, byte: u8) -> bool
 }
 
 // The byte behind a value, where the innermost list or map takes it, and what follows the byte.
-fn closing<'a>(frames: &Vec<Frame>, end: &'a [u8]) -> Option<(u8, &'a [u8])>
+fn closing<'a>(frames: &Vec<Frame<'a>>, end: &'a [u8]) -> Option<(u8, &'a [u8])>
     ensures cut { IfSome result (λ cut. end.now ≡ cut.0 ∷ cut.1.now) }
     ensures takes { IfSome result (λ cut. TakesByte (frames_of frames.now.items) cut.0) }
 {
@@ -175,10 +171,15 @@ fn closing<'a>(frames: &Vec<Frame>, end: &'a [u8]) -> Option<(u8, &'a [u8])>
 }
 
 // The mode behind a value and a byte that the innermost list or map takes.
-fn close(alloc: Global, frames: &mut Vec<Frame>, value: Json, byte: u8) -> Result<Mode, AllocError>
+fn close<'a>(
+    alloc: Global,
+    frames: &mut Vec<Frame<'a>>,
+    value: Lent<'a>,
+    byte: u8,
+) -> Result<Mode<'a>, AllocError>
     requires shallow { length frames.old.items ≤ 64 }
     requires takes { TakesByte (frames_of frames.old.items) byte }
-    ensures { IfOk result (λ mode. GoesTo mode frames.new.items (after_step (tree_of value) (frames_of frames.old.items) byte)) }
+    ensures { IfOk result (λ mode. GoesTo mode frames.new.items (after_step (lent_of value.entry) (frames_of frames.old.items) byte)) }
 {
     match after_next(alloc, frames, value, byte) {
         Ok(mode) => Ok(mode),
@@ -191,8 +192,8 @@ fn close(alloc: Global, frames: &mut Vec<Frame>, value: Json, byte: u8) -> Resul
 // Where a value is awaited: takes a plain string and the byte behind it.
 fn leap_text<'a>(
     alloc: Global,
-    frames: &mut Vec<Frame>,
-    mode: &mut Mode,
+    frames: &mut Vec<Frame<'a>>,
+    mode: &mut Mode<'a>,
     bytes: &'a [u8],
 ) -> Result<&'a [u8], AllocError>
     requires value { mode_of mode.old ≡ value }
@@ -211,7 +212,7 @@ fn leap_text<'a>(
     let Some((byte, rest)) = closing(frames, end) else {
         return Ok(bytes);
     };
-    let value = Json::Str(text_of(alloc, text)?);
+    let value = Lent::Str(text_of(text));
     *mode = close(alloc, frames, value, byte)?;
     Ok(rest)
 }
@@ -219,8 +220,8 @@ fn leap_text<'a>(
 // Where a value is awaited: takes a number and the byte behind it.
 fn leap_number<'a>(
     alloc: Global,
-    frames: &mut Vec<Frame>,
-    mode: &mut Mode,
+    frames: &mut Vec<Frame<'a>>,
+    mode: &mut Mode<'a>,
     bytes: &'a [u8],
 ) -> Result<&'a [u8], AllocError>
     requires value { mode_of mode.old ≡ value }
@@ -233,13 +234,13 @@ fn leap_number<'a>(
     let Some((byte, rest)) = closing(frames, end) else {
         return Ok(bytes);
     };
-    let value = Json::Num(text_of(alloc, text)?);
+    let value = Lent::Num(text_of(text));
     *mode = close(alloc, frames, value, byte)?;
     Ok(rest)
 }
 
 // Where a value is awaited: takes the opening bracket of a list or map, unless 64 are open.
-fn leap_open<'a>(frames: &Vec<Frame>, mode: &mut Mode, bytes: &'a [u8]) -> &'a [u8]
+fn leap_open<'a>(frames: &Vec<Frame<'a>>, mode: &mut Mode<'a>, bytes: &'a [u8]) -> &'a [u8]
     requires { mode_of mode.old ≡ value }
     ensures { Passes (mode_of mode.old, frames_of frames.now.items) bytes.now (mode_of mode.new, frames_of frames.now.items) result.now }
 {
@@ -260,8 +261,8 @@ fn leap_open<'a>(frames: &Vec<Frame>, mode: &mut Mode, bytes: &'a [u8]) -> &'a [
 // Where a value is awaited: takes white space, and the plain scalar or opening bracket behind it.
 fn leap_value<'a>(
     alloc: Global,
-    frames: &mut Vec<Frame>,
-    mode: &mut Mode,
+    frames: &mut Vec<Frame<'a>>,
+    mode: &mut Mode<'a>,
     bytes: &'a [u8],
 ) -> Result<&'a [u8], AllocError>
     requires value { mode_of mode.old ≡ value }
@@ -279,8 +280,8 @@ fn leap_value<'a>(
 // Where a key may come: takes a plain key and its colon.
 fn leap_key<'a>(
     alloc: Global,
-    frames: &mut Vec<Frame>,
-    mode: &mut Mode,
+    frames: &mut Vec<Frame<'a>>,
+    mode: &mut Mode<'a>,
     bytes: &'a [u8],
 ) -> Result<&'a [u8], AllocError>
     requires { open_of (mode_of mode.old) (frames_of frames.old.items) ≤ 64 }
@@ -289,7 +290,7 @@ fn leap_key<'a>(
     let Some((text, rest)) = plain_key(bytes) else {
         return Ok(bytes);
     };
-    let key = text_of(alloc, text)?;
+    let key = text_of(text);
     let members = match mem::replace(mode, Mode::Value) {
         Mode::FirstKey => BTreeMap::new(alloc),
         Mode::Key(members) => members,
@@ -305,8 +306,8 @@ fn leap_key<'a>(
 // Behind an opening bracket: takes a number and the comma behind it.
 fn leap_first<'a>(
     alloc: Global,
-    frames: &mut Vec<Frame>,
-    mode: &mut Mode,
+    frames: &mut Vec<Frame<'a>>,
+    mode: &mut Mode<'a>,
     bytes: &'a [u8],
 ) -> Result<&'a [u8], AllocError>
     requires first { mode_of mode.old ≡ first }
@@ -323,7 +324,7 @@ fn leap_first<'a>(
         return Ok(bytes);
     }
     let mut items = Vec::new(alloc);
-    items.push(Json::Num(text_of(alloc, text)?))?;
+    items.push(Lent::Num(text_of(text)))?;
     frames.push(Frame::List(items))?;
     *mode = Mode::Value;
     Ok(rest)
@@ -335,8 +336,8 @@ fn leap_first<'a>(
 /// Out of memory, and nothing else: what is no plain token is left to the single steps.
 pub fn leap<'a>(
     alloc: Global,
-    frames: &mut Vec<Frame>,
-    mode: &mut Mode,
+    frames: &mut Vec<Frame<'a>>,
+    mode: &mut Mode<'a>,
     bytes: &'a [u8],
 ) -> Result<&'a [u8], AllocError>
     requires { open_of (mode_of mode.old) (frames_of frames.old.items) ≤ 64 }

@@ -2,7 +2,8 @@
 //! canonical text, and numbers of any size in fixed decimals.
 //!
 //! - [`value`]: a JSON value, and why bytes are refused;
-//! - [`reader`]: bytes to a value;
+//! - [`lent`]: a JSON value that borrows its texts;
+//! - [`reader`]: bytes to a value of either kind, the first by [`copies`] of the second;
 //! - [`writer`]: a value to its canonical text;
 //! - [`decimal`]: what a number's text is worth, as a coordinate and as a whole part;
 //! - [`fixed`]: coordinates as numbers' texts;
@@ -15,10 +16,12 @@
 #![tactic(auto)]
 
 mod brackets;
+mod copies;
 pub mod decimal;
 pub mod fixed;
 pub mod laws;
 mod leaps;
+pub mod lent;
 mod machine;
 mod members;
 pub mod reader;
@@ -31,8 +34,9 @@ mod utf8;
 pub mod value;
 pub mod writer;
 
-pub use decimal::{e7, whole_part};
+pub use decimal::{coordinate, e7, whole_part};
 pub use fixed::write_e7;
-pub use reader::read;
+pub use lent::{Lent, LentPair, LentText};
+pub use reader::{lend, read};
 pub use value::{Json, JsonFault, Pair};
 pub use writer::write;

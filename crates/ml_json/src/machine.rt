@@ -13,10 +13,10 @@ use std::mem;
 
 /// Takes one byte more. Characters of strings and digits are pushed in place, and the mode, which is
 /// large, is not moved. Behind an error the mode says nothing.
-pub fn advance(
+pub fn advance<'a>(
     alloc: Global,
-    frames: &mut Vec<Frame>,
-    mode: &mut Mode,
+    frames: &mut Vec<Frame<'a>>,
+    mode: &mut Mode<'a>,
     byte: u8,
 ) -> Result<(), Stop>
     requires { open_of (mode_of mode.old) (frames_of frames.old.items) ≤ 64 }
@@ -32,9 +32,14 @@ pub fn advance(
 
 /// The mode behind one byte more, and the lists and maps that are open then.
 #[tactic(auto, using(crate::proofs::FrameLemmas::frames_length), unfolding(crate::specs::Machine::open_of, crate::specs::Machine::step))]
-pub fn step(alloc: Global, frames: &mut Vec<Frame>, mode: Mode, byte: u8) -> Result<Mode, Stop>
+pub fn step<'a>(
+    alloc: Global,
+    frames: &mut Vec<Frame<'a>>,
+    mode: Mode<'a>,
+    byte: u8,
+) -> Result<Mode<'a>, Stop>
     requires { open_of (mode_of mode) (frames_of frames.old.items) ≤ 64 }
-    ensures { Steps result frames.new.items (spec_step (mode_of mode) (frames_of frames.old.items) byte) }
+    ensures { Steps result frames.new.items (spec_step (mode_of mode.entry) (frames_of frames.old.items) byte) }
 {
     match mode {
         Mode::Begin => if byte == 0xEF {

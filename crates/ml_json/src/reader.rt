@@ -5,20 +5,22 @@ ghost use Rattle.ml_json.specs.Tree.{Tree};
 ghost use Rattle.ml_json.specs.Machine.{finish as spec_finish};
 ghost use Rattle.ml_json.specs.State.{mode_of, frames_of};
 ghost use Rattle.ml_json.specs.View.{tree_of};
+ghost use Rattle.ml_json.specs.Lent.{lent_of};
 ghost use Rattle.ml_json.specs.Canonical.{IsWritable};
 ghost use Rattle.ml_json.specs.Answer.{Answers, IsText, IsNotJson, IsDeep, GivesTree};
 
+use crate::copies::copy_value;
 use crate::leaps::leap;
+use crate::lent::{Lent, LentText};
 use crate::machine::advance;
 use crate::state::{Frame, Mode, Stop};
 use crate::tokens::may_end;
 use crate::value::{Json, JsonFault};
-use ml_ratio::Text;
 use std::alloc::{AllocError, Global};
 
 // The value, where the bytes may end here.
-fn finish(frames: Vec<Frame>, mode: Mode) -> Option<Json>
-    ensures { option_map tree_of result ≡ spec_finish (mode_of mode) (frames_of frames.items) }
+fn finish<'a>(frames: Vec<Frame<'a>>, mode: Mode<'a>) -> Option<Lent<'a>>
+    ensures { option_map lent_of result ≡ spec_finish (mode_of mode.entry) (frames_of frames.entry.items) }
 {
     if !frames.is_empty() {
         return None;
@@ -26,7 +28,7 @@ fn finish(frames: Vec<Frame>, mode: Mode) -> Option<Json>
     match mode {
         Mode::After(value) => Some(value),
         Mode::Number(part, text) => if may_end(part) {
-            Some(Json::Num(Text::of_string(text)))
+            Some(Lent::Num(LentText::of_string(text)))
         } else {
             None
         },
@@ -46,16 +48,44 @@ fn finish(frames: Vec<Frame>, mode: Mode) -> Option<Json>
 pub fn read(alloc: Global, bytes: &[u8]) -> Result<Json, JsonFault>
     ensures ok { IfOk result (λ value. IsText bytes.now (tree_of value)) }
     ensures writable { IfOk result (λ value. IsWritable (tree_of value)) }
-    ensures text { (tree : Tree) → IsText bytes.now tree → GivesTree result tree }
+    ensures text { (tree : Tree) → IsText bytes.now tree → GivesTree tree_of result tree }
+    ensures not_json { (at : ℕ) → RefusesExactly result (JsonFault.NotJson at) JsonFault.Memory (IsNotJson bytes.now at) }
+    ensures deep { (at : ℕ) → RefusesExactly result (JsonFault.Deep at) JsonFault.Memory (IsDeep bytes.now at) }
+{
+    scan_and_copy(alloc, bytes)
+}
+
+/// Reads JSON text as [`read`] does, and borrows each number, and each text that stands in the bytes
+/// as it is, from them.
+///
+/// # Errors
+/// Those of [`read`].
+pub fn lend<'a>(alloc: Global, bytes: &'a [u8]) -> Result<Lent<'a>, JsonFault>
+    ensures ok { IfOk result (λ value. IsText bytes.now (lent_of value)) }
+    ensures writable { IfOk result (λ value. IsWritable (lent_of value)) }
+    ensures text { (tree : Tree) → IsText bytes.now tree → GivesTree lent_of result tree }
     ensures not_json { (at : ℕ) → RefusesExactly result (JsonFault.NotJson at) JsonFault.Memory (IsNotJson bytes.now at) }
     ensures deep { (at : ℕ) → RefusesExactly result (JsonFault.Deep at) JsonFault.Memory (IsDeep bytes.now at) }
 {
     scan(alloc, bytes)
 }
 
+// Reads bytes and copies the texts of what is lent.
+fn scan_and_copy(alloc: Global, bytes: &[u8]) -> Result<Json, JsonFault>
+    ensures { Answers tree_of result bytes.now }
+{
+    match scan(alloc, bytes) {
+        Ok(lent) => match copy_value(alloc, &lent) {
+            Ok(value) => Ok(value),
+            Err(AllocError) => Err(JsonFault::Memory),
+        },
+        Err(fault) => Err(fault),
+    }
+}
+
 // Takes whole tokens where they are plain, else the bytes one by one.
-fn scan(alloc: Global, bytes: &[u8]) -> Result<Json, JsonFault>
-    ensures { Answers result bytes.now }
+fn scan<'a>(alloc: Global, bytes: &'a [u8]) -> Result<Lent<'a>, JsonFault>
+    ensures { Answers lent_of result bytes.now }
 {
     let mut frames = Vec::new(alloc);
     let mut mode = Mode::Begin;

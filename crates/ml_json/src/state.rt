@@ -1,17 +1,19 @@
 //! The state of the reader between two bytes.
 ghost use Rattle.ml_json.specs.Partial.{IsPartial, HoldsHigh, IsSmall};
 
+use crate::lent::{Lent, LentText};
 use crate::tail::Tail;
-use crate::value::Json;
-use ml_ratio::Text;
 use std::collections::BTreeMap;
+
+/// The members of a map so far.
+pub type Members<'a> = BTreeMap<LentText<'a>, Lent<'a>>;
 
 /// A list or map that is open, with what has come of it.
 #[derive(Drop)]
-pub enum Frame {
-    List(Vec<Json>),
+pub enum Frame<'a> {
+    List(Vec<Lent<'a>>),
     /// The members so far, and the key whose value is being read.
-    Map(BTreeMap<Text, Json>, Text),
+    Map(Members<'a>, LentText<'a>),
 }
 
 /// What has come of a number.
@@ -44,16 +46,16 @@ pub enum Word {
 
 /// What a string is for.
 #[derive(Drop)]
-pub enum Owner {
+pub enum Owner<'a> {
     Value,
     /// The key of a further member, behind these members.
-    Key(BTreeMap<Text, Json>),
+    Key(Members<'a>),
 }
 
 /// A string that has begun.
 #[derive(Drop)]
-pub struct Open {
-    pub owner: Owner,
+pub struct Open<'a> {
+    pub owner: Owner<'a>,
     /// The first half of a surrogate pair, if the last escape was one.
     pub half: Option<u32>,
     pub text: String,
@@ -78,20 +80,20 @@ pub struct Partial {
 
 /// What the next byte may be, with what has been read and is not yet in a frame.
 #[derive(Drop)]
-pub enum Mode {
+pub enum Mode<'a> {
     Begin,
     MarkTwo,
     MarkOne,
     Value,
     First,
     FirstKey,
-    Key(BTreeMap<Text, Json>),
-    Colon(BTreeMap<Text, Json>, Text),
-    After(Json),
-    Text(Open),
-    Escape(Open),
-    Hex(Open, Code),
-    Bytes(Open, Partial),
+    Key(Members<'a>),
+    Colon(Members<'a>, LentText<'a>),
+    After(Lent<'a>),
+    Text(Open<'a>),
+    Escape(Open<'a>),
+    Hex(Open<'a>, Code),
+    Bytes(Open<'a>, Partial),
     Number(Part, String),
     Word(Word),
 }

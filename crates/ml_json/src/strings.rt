@@ -5,23 +5,22 @@ ghost use Rattle.ml_json.specs.Machine.{text_step, escape_step, hex_step, bytes_
 ghost use Rattle.ml_json.specs.State.{Goes, Pushes, owner_of};
 ghost use Rattle.ml_json.specs.Partial.{tail_of};
 
+use crate::lent::{Lent, LentText};
 use crate::state::{Code, Mode, Open, Owner, Partial, Stop};
 use crate::units::{escaped, hex_digit, settled, with_unit};
 use crate::utf8::{later, lead, may_follow};
-use crate::value::Json;
-use ml_ratio::Text;
 use std::alloc::Global;
 
 /// The mode behind a byte that is no part of an escape or of a character that has begun.
-pub fn text_next(alloc: Global, open_text: Open, byte: u8) -> Result<Mode, Stop>
-    ensures { Goes result (λ st. text_step (owner_of open_text.owner) open_text.half (string_bytes open_text.text) st byte) }
+pub fn text_next<'a>(alloc: Global, open_text: Open<'a>, byte: u8) -> Result<Mode<'a>, Stop>
+    ensures { Goes result (λ st. text_step (owner_of open_text.entry.owner) open_text.entry.half (string_bytes open_text.entry.text) st byte) }
 {
     match byte {
         b'"' => {
             let Open { owner, half, text } = open_text;
-            let text = Text::of_string(settled(half, text)?);
+            let text = LentText::of_string(settled(half, text)?);
             match owner {
-                Owner::Value => Ok(Mode::After(Json::Str(text))),
+                Owner::Value => Ok(Mode::After(Lent::Str(text))),
                 Owner::Key(members) => Ok(Mode::Colon(members, text)),
             }
         }
@@ -51,7 +50,7 @@ pub fn text_next(alloc: Global, open_text: Open, byte: u8) -> Result<Mode, Stop>
 /// Pushes a byte that stands for itself, where a string is open and no half of a surrogate pair is
 /// held, and tells whether it did.
 #[tactic(auto, unfolding(crate::specs::Machine::open_of, crate::specs::Machine::step))]
-pub fn push_plain(mode: &mut Mode, byte: u8) -> Result<bool, Stop>
+pub fn push_plain<'a>(mode: &mut Mode<'a>, byte: u8) -> Result<bool, Stop>
     ensures { Pushes result mode.old mode.new byte }
 {
     if byte < 32 || byte >= 128 || byte == b'"' || byte == b'\\' {
@@ -70,8 +69,8 @@ pub fn push_plain(mode: &mut Mode, byte: u8) -> Result<bool, Stop>
 }
 
 /// The mode behind a byte of a character that has begun.
-pub fn bytes_next(open_text: Open, partial: Partial, byte: u8) -> Result<Mode, Stop>
-    ensures { Goes result (λ st. bytes_step (owner_of open_text.owner) open_text.half (string_bytes open_text.text) (tail_of partial.tail) partial.got.items st byte) }
+pub fn bytes_next<'a>(open_text: Open<'a>, partial: Partial, byte: u8) -> Result<Mode<'a>, Stop>
+    ensures { Goes result (λ st. bytes_step (owner_of open_text.entry.owner) open_text.entry.half (string_bytes open_text.entry.text) (tail_of partial.tail) partial.got.items st byte) }
 {
     let Partial { tail, mut got } = partial;
     if !may_follow(tail, byte) {
@@ -99,8 +98,8 @@ pub fn bytes_next(open_text: Open, partial: Partial, byte: u8) -> Result<Mode, S
 }
 
 /// The mode behind the byte after a backslash.
-pub fn escape_next(open_text: Open, byte: u8) -> Result<Mode, Stop>
-    ensures { Goes result (λ st. escape_step (owner_of open_text.owner) open_text.half (string_bytes open_text.text) st byte) }
+pub fn escape_next<'a>(open_text: Open<'a>, byte: u8) -> Result<Mode<'a>, Stop>
+    ensures { Goes result (λ st. escape_step (owner_of open_text.entry.owner) open_text.entry.half (string_bytes open_text.entry.text) st byte) }
 {
     if byte == b'u' {
         return Ok(Mode::Hex(open_text, Code { left: 3, sum: 0 }));
@@ -121,8 +120,8 @@ pub fn escape_next(open_text: Open, byte: u8) -> Result<Mode, Stop>
 }
 
 /// The mode behind one of the four digits of an escape.
-pub fn hex_next(open_text: Open, code: Code, byte: u8) -> Result<Mode, Stop>
-    ensures { Goes result (λ st. hex_step (owner_of open_text.owner) open_text.half (string_bytes open_text.text) code.left code.sum st (spec_hex_digit byte)) }
+pub fn hex_next<'a>(open_text: Open<'a>, code: Code, byte: u8) -> Result<Mode<'a>, Stop>
+    ensures { Goes result (λ st. hex_step (owner_of open_text.entry.owner) open_text.entry.half (string_bytes open_text.entry.text) code.left code.sum st (spec_hex_digit byte)) }
 {
     match hex_digit(byte) {
         None => Err(Stop::NotJson),

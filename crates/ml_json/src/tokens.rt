@@ -4,26 +4,25 @@ ghost use Rattle.ml_json.specs.Machine.{go_on as spec_go_on, may_end as spec_may
 ghost use Rattle.ml_json.specs.State.{Goes, Pushes, Steps, part_of, word_of, frames_of};
 
 use crate::brackets::after_next;
+use crate::lent::{Lent, LentText};
 use crate::state::{Frame, Mode, Part, Stop, Word};
-use crate::value::Json;
-use ml_ratio::Text;
 use std::alloc::Global;
 
 /// The mode behind a byte of `null`, `true` or `false`.
-pub fn word_next(word: Word, byte: u8) -> Result<Mode, Stop>
+pub fn word_next<'a>(word: Word, byte: u8) -> Result<Mode<'a>, Stop>
     ensures { Goes result (λ st. word_step (word_of word) st byte) }
 {
     match (word, byte) {
         (Word::N, b'u') => Ok(Mode::Word(Word::Nu)),
         (Word::Nu, b'l') => Ok(Mode::Word(Word::Nul)),
-        (Word::Nul, b'l') => Ok(Mode::After(Json::Null)),
+        (Word::Nul, b'l') => Ok(Mode::After(Lent::Null)),
         (Word::T, b'r') => Ok(Mode::Word(Word::Tr)),
         (Word::Tr, b'u') => Ok(Mode::Word(Word::Tru)),
-        (Word::Tru, b'e') => Ok(Mode::After(Json::Flag(true))),
+        (Word::Tru, b'e') => Ok(Mode::After(Lent::Flag(true))),
         (Word::F, b'a') => Ok(Mode::Word(Word::Fa)),
         (Word::Fa, b'l') => Ok(Mode::Word(Word::Fal)),
         (Word::Fal, b's') => Ok(Mode::Word(Word::Fals)),
-        (Word::Fals, b'e') => Ok(Mode::After(Json::Flag(false))),
+        (Word::Fals, b'e') => Ok(Mode::After(Lent::Flag(false))),
         _ => Err(Stop::NotJson),
     }
 }
@@ -56,7 +55,7 @@ pub fn may_end(part: Part) -> bool
 
 /// Pushes a digit behind another one of a number's whole part or decimals, and tells whether it did.
 #[tactic(auto, unfolding(crate::specs::Machine::open_of, crate::specs::Machine::step))]
-pub fn push_number_digit(mode: &mut Mode, byte: u8) -> Result<bool, Stop>
+pub fn push_number_digit<'a>(mode: &mut Mode<'a>, byte: u8) -> Result<bool, Stop>
     ensures { Pushes result mode.old mode.new byte }
 {
     if byte < b'0' || byte > b'9' {
@@ -73,13 +72,13 @@ pub fn push_number_digit(mode: &mut Mode, byte: u8) -> Result<bool, Stop>
 
 /// The mode behind a byte in or just behind a number.
 #[tactic(auto, using(crate::proofs::FrameLemmas::frames_length), unfolding(crate::specs::Machine::open_of))]
-pub fn number_next(
+pub fn number_next<'a>(
     alloc: Global,
-    frames: &mut Vec<Frame>,
+    frames: &mut Vec<Frame<'a>>,
     part: Part,
     text: String,
     byte: u8,
-) -> Result<Mode, Stop>
+) -> Result<Mode<'a>, Stop>
     requires { length frames.old.items ≤ 64 }
     ensures { Steps result frames.new.items (number_step (part_of part) (string_bytes text) (frames_of frames.old.items) byte (spec_go_on (part_of part) byte)) }
 {
@@ -91,7 +90,7 @@ pub fn number_next(
         }
         None => {
             if may_end(part) {
-                return after_next(alloc, frames, Json::Num(Text::of_string(text)), byte);
+                return after_next(alloc, frames, Lent::Num(LentText::of_string(text)), byte);
             }
             Err(Stop::NotJson)
         }

@@ -1,7 +1,7 @@
 //! JSON texts: worked cases and hostile texts, and that calls succeed where memory is ample.
 //! A case is a line, what is given before the arrow and what is wanted behind it.
 use crate::cases::{Subject, each_holds};
-use ml_json::{Json, JsonFault, e7, read, whole_part, write, write_e7};
+use ml_json::{Json, JsonFault, Lent, coordinate, e7, lend, read, whole_part, write, write_e7};
 use ml_ratio::Text;
 use std::alloc::Global;
 use std::process::Abort;
@@ -279,6 +279,30 @@ fn values_have_canonical_texts(rt: HostRuntime) {
     let alloc = rt.alloc();
     each_holds::<OfValue>(&rt, alloc, CANONICAL);
     each_holds::<OfValue>(&rt, alloc, DELETE)
+}
+
+/// The text of a value that is lent, if it has one.
+fn text_of<'b, 'a>(value: &'b Lent<'a>) -> &'b str {
+    match value {
+        Lent::Str(text) => text.as_str(),
+        Lent::Num(text) => text.as_str(),
+        _ => "",
+    }
+}
+
+#[test]
+fn lent_texts_have_their_escapes_read(rt: HostRuntime) {
+    let text = r#"["ab", "a\u0062", "ab"]"#;
+    let lent = lend(rt.alloc(), text.as_bytes()).expect(&rt, "a value");
+    let Lent::List(items) = &lent else {
+        assert!(rt; false);
+        return;
+    };
+    assert!(rt; items.len() == 3);
+    for item in items {
+        assert!(rt; text_of(item) == "ab");
+    }
+    assert!(rt; coordinate("-1.50") == Some(-15_000_000));
 }
 
 #[test]

@@ -26,7 +26,7 @@ returns c =
       | in-Key w ↦ inr (ap mode_of (was ∙ w.in-Key.is) ∙ ap (λ x. m.key (entries_view x.entries)) (sym w.members-is))
     ] in
     let cut : plain_key c.args.bytes.now ≡ Some (c.in-Some.text.now, c.in-Some.rest.now) = sym c.in-Some.ensures.cut in
-    let key : c.in_ok-key.key ≡ c.in-Some.text.now = c.in_ok-key.ensures in
+    let key : c.text_of-key.result ≡ c.in-Some.text.now = c.text_of-key.ensures in
     let pushed : frames_of c.push.new.self.items ≡ m.at_key ps c.in-Some.text.now ∷ st =
     ap frames_of c.in_ok-push.ensures.items ∙ frames_push c.args.frames.now.items _ ∙ ap (λ k. m.at_key ps k ∷ st) key in
     let passes = key_leaps n ps st takes c.requires c.args.bytes.now c.in-Some.text.now c.in-Some.rest.now cut in

@@ -33,9 +33,9 @@ returns c =
     let s : List ℕ = take (length c.args.bytes.now - 1) (drop 1 c.args.bytes.now) in
     let le : length st ≤ 64 = value_shallow (mode_of c.args.mode.now) st c.requires.value c.requires.shallow in
     let cut : plain_string s ≡ Some (c.in-Some.text.now, c.in-Some-closing.byte ∷ c.in-Some-closing.rest.now) = sym c.in-Some.ensures.cut ∙ ap (λ r. Some (c.in-Some.text.now, r)) c.in-Some-closing.ensures.cut in
-    let text : c.in_ok-text_of.field-0 ≡ c.in-Some.text.now = c.in_ok-text_of.ensures in
+    let text : c.text_of.result ≡ c.in-Some.text.now = c.text_of.ensures in
     let steps = c.in_ok-mode.ensures in
-    let closes = subst (λ (v : Tree). m.after_step v st c.in-Some-closing.byte ≡ Some y) (tree_str c.in_ok-text_of.field-0 ∙ ap (λ t. str t) text) steps.0 in
+    let closes = subst (λ (v : Tree). m.after_step v st c.in-Some-closing.byte ≡ Some y) (tree_str c.text_of.result ∙ ap (λ t. str t) text) steps.0 in
     let quote : get_or c.args.bytes.now 0 0 ≡ 34 = omega arith in
     subst (λ (n : m.Mode). Passes (n, st) c.args.bytes.now y c.in-Some-closing.rest.now) (sym c.requires.value)
     (subst (λ (bytes : List ℕ). Passes (m.value, st) bytes y c.in-Some-closing.rest.now) (sym (starts c.args.bytes.now 34 (omega arith) quote))

@@ -2,7 +2,7 @@ use Rattle.std.proofs.Common.{◌∙◌, ap, sym, ℕ, List}
 use Rattle.std.proofs.lemmas.Map.Iter.{rest_more, rest_all}
 use Rattle.ml_json.specs.Tree.{pair, Tree}
 use Rattle.ml_json.specs.State.{entries_view}
-use Rattle.ml_json.specs.declared.value.Json.{Json}
+use Rattle.ml_json.specs.declared.lent.Lent.{Lent}
 use Rattle.ml_json.proofs.PutLemmas.{onto, onto_push, onto_nothing, pair_rolled}
 use Rattle.ml_json.proofs.members.pairs_of.Goals as goal
 
@@ -12,7 +12,7 @@ loop-key-init c =
 
 pub loop-key-preserved : goal.loop-key-preserved
 loop-key-preserved c =
-    let rest = rest_more (λ (e : List ℕ × Json). e) c.loop-key.key-iterator c.next.new.self c.next.result (c.in-Some.key, c.in-Some.value) c.in-Some.is c.next.ensures.steps in
+    let rest = rest_more (λ (e : List ℕ × Lent). e) c.loop-key.key-iterator c.next.new.self c.next.result (c.in-Some.key, c.in-Some.value) c.in-Some.is c.next.ensures.steps in
     ap (λ ps. onto ps (entries_view c.next.new.self)) c.in_ok-push.ensures.items
     ∙ onto_push c.loop-key.pairs.items _ (entries_view c.next.new.self)
     ∙ ap (λ (p : List ℕ × Tree). onto c.loop-key.pairs.items (pair p.0 p.1 (entries_view c.next.new.self))) (pair_rolled c.in-Some.key c.in-Some.value)
@@ -21,5 +21,5 @@ loop-key-preserved c =
 
 pub returns : goal.returns
 returns c =
-    let rest = rest_all (λ (e : List ℕ × Json). e) c.loop-key.key-iterator c.next.new.self c.next.result c.in-None.is c.next.ensures.steps in
+    let rest = rest_all (λ (e : List ℕ × Lent). e) c.loop-key.key-iterator c.next.new.self c.next.result c.in-None.is c.next.ensures.steps in
     sym (onto_nothing c.loop-key.pairs.items) ∙ ap (λ es. onto c.loop-key.pairs.items (entries_view es)) (sym rest) ∙ c.loop-key.invariant

@@ -2,7 +2,7 @@ use Rattle.std.proofs.Common.{◌≡◌, ◌≤◌, ◌-◌, [], List, length, t
 use Rattle.ml_json.specs.Machine as m
 use Rattle.ml_json.specs.Machine.{Frame, State, step, open_of}
 use Rattle.ml_json.specs.State.{mode_of, frames_of, Stops}
-use Rattle.ml_json.specs.View.{tree_of}
+use Rattle.ml_json.specs.Lent.{lent_of}
 use Rattle.ml_json.specs.declared.state.Stop.{Stop}
 use Rattle.ml_json.proofs.EndLemmas.{no_frames}
 use Rattle.ml_json.proofs.LeapLemmas.{starts, passes_shallow}
@@ -58,7 +58,7 @@ returns-in-Err-Deep c =
 
 pub returns-in-Some : goal.returns-in-Some
 returns-in-Some c =
-    is_text c.args.bytes.now (mode_of c.loop-rest.mode, frames_of c.loop-rest.frames.items) (tree_of c.in-Some.value)
+    is_text c.args.bytes.now (mode_of c.loop-rest.mode, frames_of c.loop-rest.frames.items) (lent_of c.in-Some.value)
     (all_stood c.args.bytes.now c.loop-rest.rest.now _ c.loop-rest.invariant.stands c.in_default.len_below) (sym c.in-Some.ensures)
 
 pub returns-in-None : goal.returns-in-None

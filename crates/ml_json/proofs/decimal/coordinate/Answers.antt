@@ -7,12 +7,12 @@ use Rattle.ml_ratio.specs.World.{IsInWorld}
 use mir.Val.{to_z, of_z}
 use Rattle.ml_json.proofs.FixedLemmas.{signed_world}
 use Rattle.ml_json.proofs.Scaling.{size_bounded}
-use Rattle.ml_json.proofs.decimal.e7.Goals as goal
+use Rattle.ml_json.proofs.decimal.coordinate.Goals as goal
 
 pub returns-then-size-gt-FARTHEST-clause-value : goal.returns-then-size-gt-FARTHEST-clause-value
 unfolding e7_of
 returns-then-size-gt-FARTHEST-clause-value c =
-    let text : c.as_bytes-text.result.now ≡ c.args.num.now = c.as_bytes-text.ensures.value ∙ c.as_str.ensures.bytes in
+    let text : c.as_bytes-text.result.now ≡ c.args.num.now = c.as_bytes-text.ensures.value in
     let size = size_bounded c.args.num.now c.scaled.result (c.scaled.ensures ∙ ap (λ s. min (size_at 8 s) 20000000010) text) in
     let beyond : nat_le (e7_size c.args.num.now) 2000000000 ≡ false = grind (arith, nat_tests) in
     rw beyond refl
@@ -20,7 +20,7 @@ returns-then-size-gt-FARTHEST-clause-value c =
 pub returns-clause-value : goal.returns-clause-value
 unfolding e7_of
 returns-clause-value c =
-    let text : c.as_bytes-text.result.now ≡ c.args.num.now = c.as_bytes-text.ensures.value ∙ c.as_str.ensures.bytes in
+    let text : c.as_bytes-text.result.now ≡ c.args.num.now = c.as_bytes-text.ensures.value in
     let size = size_bounded c.args.num.now c.scaled.result (c.scaled.ensures ∙ ap (λ s. min (size_at 8 s) 20000000010) text) in
     let within : nat_le (e7_size c.args.num.now) 2000000000 ≡ true = grind (arith, nat_tests) in
     let same : (c.scaled.result + 5) / 10 ≡ e7_size c.args.num.now = omega arith in
