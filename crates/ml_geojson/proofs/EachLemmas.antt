@@ -4,8 +4,8 @@ use Rattle.std.specs.Prelude.{All}
 use Rattle.std.proofs.lemmas.List.{map-append}
 use Rattle.std.proofs.Math.Seq.{drop-cons}
 use Rattle.std.proofs.lemmas.List.Elements.{All-push}
-use Rattle.ml_json.specs.View.{tree_of, trees_view}
-use Rattle.ml_json.specs.declared.value.Json.{Json}
+use Rattle.ml_json.specs.Lent.{lent_of, lents_view}
+use Rattle.ml_json.specs.declared.lent.Lent.{Lent}
 use Rattle.ml_json.specs.Tree.{Tree, Trees, none, more}
 use Rattle.ml_geojson.specs.Positions.{Reading, then_made, each, filled}
 use Rattle.ml_geojson.specs.declared.fault.GeoFault.{GeoFault}
@@ -70,11 +70,11 @@ module _ {A B : Type 0} (view : A → B) where
   filled_view xs x = map-append (map view) xs (filled (x ∷ [])) ∙ ap (λ ys. map (map view) xs ++ ys) (filled_seen x)
 
   -- a further part, seen so
-  pub parts_next : (f : Tree → Reading (List B)) (items : List Json) (i : ℕ) (item : Json) (parts new : List (List A)) (part : List A) (all : Reading (List (List B))) → i < length items → get_or items i item ≡ item → f (tree_of item) ≡ Ok (map view part)
-      → new ≡ parts ++ filled (part ∷ []) → all ≡ behind (map (map view) parts) (then_made filled (each f (trees_view (drop i items)))) → all ≡ behind (map (map view) new) (then_made filled (each f (trees_view (drop (i + 1) items))))
+  pub parts_next : (f : Tree → Reading (List B)) (items : List Lent) (i : ℕ) (item : Lent) (parts new : List (List A)) (part : List A) (all : Reading (List (List B))) → i < length items → get_or items i item ≡ item → f (lent_of item) ≡ Ok (map view part)
+      → new ≡ parts ++ filled (part ∷ []) → all ≡ behind (map (map view) parts) (then_made filled (each f (lents_view (drop i items)))) → all ≡ behind (map (map view) new) (then_made filled (each f (lents_view (drop (i + 1) items))))
   parts_next f items i item parts new part all less there reads added so_far =
       let further : suc i ≡ i + 1 = omega arith in
-      let left : drop i items ≡ item ∷ drop (i + 1) items = drop-cons items i item less ∙ ap (λ (x : Json). x ∷ drop (suc i) items) there ∙ ap (λ (n : ℕ). item ∷ drop n items) further in
-      so_far ∙ ap (λ (xs : List Json). behind (map (map view) parts) (then_made filled (each f (trees_view xs)))) left
-      ∙ filled_next f (tree_of item) (trees_view (drop (i + 1) items)) (map (map view) parts) (map view part) reads
-      ∙ ap (λ (xs : List (List B)). behind xs (then_made filled (each f (trees_view (drop (i + 1) items))))) (sym (filled_view parts part) ∙ ap (map (map view)) (sym added))
+      let left : drop i items ≡ item ∷ drop (i + 1) items = drop-cons items i item less ∙ ap (λ (x : Lent). x ∷ drop (suc i) items) there ∙ ap (λ (n : ℕ). item ∷ drop n items) further in
+      so_far ∙ ap (λ (xs : List Lent). behind (map (map view) parts) (then_made filled (each f (lents_view xs)))) left
+      ∙ filled_next f (lent_of item) (lents_view (drop (i + 1) items)) (map (map view) parts) (map view part) reads
+      ∙ ap (λ (xs : List (List B)). behind xs (then_made filled (each f (lents_view (drop (i + 1) items))))) (sym (filled_view parts part) ∙ ap (map (map view)) (sym added))

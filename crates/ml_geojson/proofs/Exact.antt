@@ -6,8 +6,8 @@ use Rattle.ml_ratio.specs.Refusal.{RefusesExactly}
 use Rattle.ml_ratio.specs.declared.feature.Feature.{Feature}
 use Rattle.ml_json.specs.Tree.{Tree}
 use Rattle.ml_json.specs.Answer.{IsText, IsNotJson, IsDeep, GivesTree}
-use Rattle.ml_json.specs.View.{tree_of}
-use Rattle.ml_json.specs.declared.value.Json.{Json}
+use Rattle.ml_json.specs.Lent.{lent_of}
+use Rattle.ml_json.specs.declared.lent.Lent.{Lent}
 use Rattle.ml_json.specs.declared.value.JsonFault.{JsonFault}
 use Rattle.ml_json.specs.declared.value.JsonFault.TheVariants as json
 use Rattle.ml_geojson.specs.Positions.{Reading}
@@ -101,22 +101,22 @@ no_id_due (Err NoId) reading parts e unnamed h = inl refl
 no_id_due (Err Memory) reading parts e unnamed h = inr refl
 
 -- an answer is made of the answer to its text
-abbrev pub IsAnswerTo : {X Y : Type 0} → (Result X GeoFault → Reading Y → Type 0) → (Tree → Reading Y) → Result Json JsonFault → Result X GeoFault → Type 0
-IsAnswerTo IsAnswer read (Ok value) answer = IsAnswer answer (read (tree_of value))
+abbrev pub IsAnswerTo : {X Y : Type 0} → (Result X GeoFault → Reading Y → Type 0) → (Tree → Reading Y) → Result Lent JsonFault → Result X GeoFault → Type 0
+IsAnswerTo IsAnswer read (Ok value) answer = IsAnswer answer (read (lent_of value))
 IsAnswerTo IsAnswer read (Err fault) answer = answer ≡ Err (fault_of fault)
 
 -- what the reader of JSON texts promises
-pub record ReadsText (bytes : List ℕ) (found : Result Json JsonFault) : Type 0 where
-  pub text : (tree : Tree) → IsText bytes tree → GivesTree found tree
+pub record ReadsText (bytes : List ℕ) (found : Result Lent JsonFault) : Type 0 where
+  pub text : (tree : Tree) → IsText bytes tree → GivesTree lent_of found tree
   pub not_json : (at : ℕ) → RefusesExactly found (json.NotJson at) json.Memory (IsNotJson bytes at)
   pub deep : (at : ℕ) → RefusesExactly found (json.Deep at) json.Memory (IsDeep bytes at)
 
-module _ {X Y : Type 0} (IsAnswer : Result X GeoFault → Reading Y → Type 0) (read : Tree → Reading Y) (bytes : List ℕ) (found : Result Json JsonFault) (reads : ReadsText bytes found) (answer : Result X GeoFault) (from : IsAnswerTo IsAnswer read found answer) where
+module _ {X Y : Type 0} (IsAnswer : Result X GeoFault → Reading Y → Type 0) (read : Tree → Reading Y) (bytes : List ℕ) (found : Result Lent JsonFault) (reads : ReadsText bytes found) (answer : Result X GeoFault) (from : IsAnswerTo IsAnswer read found answer) where
   -- the answer to the text's fault
   text_due : (fault : JsonFault) → (found ≡ Err fault) ⊎ (found ≡ Err json.Memory) → IsDue answer (fault_of fault)
   text_due fault h = elim h [
-    | inl e ↦ inl (subst (λ (f : Result Json JsonFault). IsAnswerTo IsAnswer read f answer) e from)
-    | inr e ↦ inr (subst (λ (f : Result Json JsonFault). IsAnswerTo IsAnswer read f answer) e from)
+    | inl e ↦ inl (subst (λ (f : Result Lent JsonFault). IsAnswerTo IsAnswer read f answer) e from)
+    | inr e ↦ inr (subst (λ (f : Result Lent JsonFault). IsAnswerTo IsAnswer read f answer) e from)
   ]
 
   pub not_json_due : (at : ℕ) → IsNotJson bytes at → IsDue answer (NotJson at)
@@ -126,7 +126,7 @@ module _ {X Y : Type 0} (IsAnswer : Result X GeoFault → Reading Y → Type 0) 
   deep_due at fact = text_due (json.Deep at) ((reads.deep at).1 fact)
 
   -- what holds of an answer to the tree, and of want of memory, holds of the answer
-  on_tree : (P : Result X GeoFault → Type 0) (tree : Tree) (f : Result Json JsonFault) → GivesTree f tree → IsAnswerTo IsAnswer read f answer → (IsAnswer answer (read tree) → P answer) → P (Err Memory) → P answer
+  on_tree : (P : Result X GeoFault → Type 0) (tree : Tree) (f : Result Lent JsonFault) → GivesTree lent_of f tree → IsAnswerTo IsAnswer read f answer → (IsAnswer answer (read tree) → P answer) → P (Err Memory) → P answer
   on_tree P tree (Ok value) same h due memory = due (subst (λ (t : Tree). IsAnswer answer (read t)) same h)
   on_tree P tree (Err (json.NotJson at)) same h due memory = absurd same
   on_tree P tree (Err (json.Deep at)) same h due memory = absurd same
@@ -139,7 +139,7 @@ module _ {X Y : Type 0} (IsAnswer : Result X GeoFault → Reading Y → Type 0) 
 exactly : {X : Type 0} (answer : Result X GeoFault) (Fact : GeoFault → Type 0) (fault : GeoFault) → IfErr answer Fact → (Fact fault → IsDue answer fault) → RefusesExactly answer fault Memory (Fact fault)
 exactly answer Fact fault cause due = ((λ e. subst (λ (a : Result _ GeoFault). IfErr a Fact) e cause), due)
 
-module _ (bytes : List ℕ) (found : Result Json JsonFault) (reads : ReadsText bytes found) (answer : Result (List Feature) GeoFault) (from : IsAnswerTo AreRead collection found answer) (cause : IfErr answer (IsMapFault bytes)) where
+module _ (bytes : List ℕ) (found : Result Lent JsonFault) (reads : ReadsText bytes found) (answer : Result (List Feature) GeoFault) (from : IsAnswerTo AreRead collection found answer) (cause : IfErr answer (IsMapFault bytes)) where
   of_tree : (fault : GeoFault) → ((tree : Tree) × IsText bytes tree × (collection tree ≡ Err fault)) → IsDue answer fault
   of_tree fault fact = by_tree AreRead collection bytes found reads answer from (λ a. IsDue a fault) fact.0 fact.1 (λ h. map_due answer fault (collection fact.0) fact.2 h) (inr refl)
 
@@ -168,7 +168,7 @@ module _ (bytes : List ℕ) (found : Result Json JsonFault) (reads : ReadsText b
   pub map_short_ring : (k : ℕ) → RefusesExactly answer (ShortRing k) Memory (IsMapFault bytes (ShortRing k))
   map_short_ring k = exactly answer (IsMapFault bytes) (ShortRing k) cause (of_tree (ShortRing k))
 
-module _ (bytes : List ℕ) (found : Result Json JsonFault) (reads : ReadsText bytes found) (answer : Result Feature GeoFault) (from : IsAnswerTo IsRead (feature 0) found answer) (cause : IfErr answer (IsFeatureFault bytes)) where
+module _ (bytes : List ℕ) (found : Result Lent JsonFault) (reads : ReadsText bytes found) (answer : Result Feature GeoFault) (from : IsAnswerTo IsRead (feature 0) found answer) (cause : IfErr answer (IsFeatureFault bytes)) where
   of_tree_1 : (fault : GeoFault) → ((tree : Tree) × IsText bytes tree × (feature 0 tree ≡ Err fault)) → IsDue answer fault
   of_tree_1 fault fact = by_tree IsRead (feature 0) bytes found reads answer from (λ a. IsDue a fault) fact.0 fact.1 (λ h. feature_due answer fault (feature 0 fact.0) fact.2 h) (inr refl)
 

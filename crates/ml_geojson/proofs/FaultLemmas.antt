@@ -5,7 +5,7 @@ use Rattle.ml_ratio.specs.declared.feature.Feature.{Feature}
 use Rattle.ml_json.specs.Tree.{Tree}
 use Rattle.ml_ratio.specs.Refusal.{RefusesExactly}
 use Rattle.ml_json.specs.Answer.{IsText, IsNotJson, IsDeep}
-use Rattle.ml_json.specs.declared.value.Json.{Json}
+use Rattle.ml_json.specs.declared.lent.Lent.{Lent}
 use Rattle.ml_json.specs.declared.value.JsonFault.{JsonFault}
 use Rattle.ml_json.specs.declared.value.JsonFault.TheVariants as json
 use Rattle.ml_geojson.specs.Fault.{fault_of, Refuses}
@@ -61,7 +61,7 @@ module _ (bytes : List ℕ) (tree : Tree) (text : IsText bytes tree) where
   feature_answered (Err fault) h = feature_refused bytes tree text fault h
 
 -- the refusal of the text
-module _ (bytes : List ℕ) (result : Result Json JsonFault) (not_json : (at : ℕ) → RefusesExactly result (json.NotJson at) json.Memory (IsNotJson bytes at)) (deep : (at : ℕ) → RefusesExactly result (json.Deep at) json.Memory (IsDeep bytes at)) where
+module _ (bytes : List ℕ) (result : Result Lent JsonFault) (not_json : (at : ℕ) → RefusesExactly result (json.NotJson at) json.Memory (IsNotJson bytes at)) (deep : (at : ℕ) → RefusesExactly result (json.Deep at) json.Memory (IsDeep bytes at)) where
   pub text_refused_map : (fault : JsonFault) → result ≡ Err fault → IsMapFault bytes (fault_of fault)
   text_refused_map (json.NotJson at) e = (not_json at).0 e
   text_refused_map (json.Deep at) e = (deep at).0 e

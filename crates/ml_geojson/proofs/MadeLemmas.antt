@@ -12,14 +12,14 @@ use Rattle.std.proofs.lemmas.List.{get_or_push, map-append, length-map, take-app
 use Rattle.std.proofs.lemmas.List.Folds.{list_any-append}
 use Rattle.std.proofs.lemmas.Map.Text.{is_eq-slice_cmp}
 use Rattle.ml_json.specs.Canonical.{IsOrderly, AllOrderly}
-use Rattle.ml_json.specs.View.{tree_of, trees_view}
-use Rattle.ml_json.specs.declared.value.Json.{Json}
+use Rattle.ml_json.specs.Lent.{lent_of, lents_view}
+use Rattle.ml_json.specs.declared.lent.Lent.{Lent}
 use Rattle.ml_json.specs.Tree.{Tree, Trees, more}
 use Rattle.ml_ratio.specs.declared.feature.Feature.{Feature}
 use Rattle.ml_geojson.specs.Positions.{Reading, then_made}
 use Rattle.ml_geojson.specs.Collection.{Parts, feature, features}
 use Rattle.ml_geojson.specs.Ids.{is_among, marked, IsFresh, IsIdOf}
-use Rattle.ml_geojson.specs.Taken.{is_taken, HasIds}
+use Rattle.ml_geojson.specs.Taken.{is_taken, HasIds, Takes}
 use Rattle.ml_geojson.specs.Map.{ids, IsMadeOf, AreMadeOf}
 use Rattle.ml_geojson.specs.Draft.{IsAdded}
 use Rattle.ml_geojson.specs.declared.fault.GeoFault.{GeoFault}
@@ -38,13 +38,21 @@ module _ (k : ℕ) (t : Tree) (ts : Trees) (ps : List Parts) where
   pub features_stop : (fault : GeoFault) → feature k t ≡ Err fault → behind ps (features k (more t ts)) ≡ Err fault
   features_stop fault e = rw e refl
 
--- an id that is added to the set is added to the ids
-pub has_ids_more : (old new : BTreeSet (List ℕ)) (texts : List (List ℕ)) (id : List ℕ) → HasIds texts old → Updates (slice_cmp nat_cmp) old new id true → HasIds (texts ++ id ∷ []) new
-has_ids_more old new texts id has updates text =
-    updates.0 text ∙ ap (λ (t : Bool). cond t true (is_taken old text)) (is_eq-slice_cmp id text ∙ nat_list_eq_equiv.symm id text)
-    ∙ ap (cond (bytes_eq text id) true) (has text) ∙ turned (bytes_eq text id) (is_among texts text) ∙ sym (list_any-append (bytes_eq text) texts (id ∷ []))
+-- what a set takes by an insertion
+pub inserted : (old new : BTreeSet (List ℕ)) (id : List ℕ) → Updates (slice_cmp nat_cmp) old new id true → Takes old new id
+inserted old new id updates text =
+    updates.0 text ∙ ap (λ (t : Bool). cond t true (is_taken old text)) (is_eq-slice_cmp id text ∙ nat_list_eq_equiv.symm id text) ∙ either (bytes_eq text id) (is_taken old text)
   where
-    turned : (a b : Bool) → cond a true b ≡ (b || (a || false))
+    either : (a b : Bool) → cond a true b ≡ (a || b)
+    either true b = refl
+    either false b = refl
+
+-- an id that a set takes is added to the ids
+pub has_ids_more : (old new : BTreeSet (List ℕ)) (texts : List (List ℕ)) (id : List ℕ) → HasIds texts old → Takes old new id → HasIds (texts ++ id ∷ []) new
+has_ids_more old new texts id has takes text =
+    takes text ∙ ap (λ (t : Bool). bytes_eq text id || t) (has text) ∙ turned (bytes_eq text id) (is_among texts text) ∙ sym (list_any-append (bytes_eq text) texts (id ∷ []))
+  where
+    turned : (a b : Bool) → (a || b) ≡ (b || (a || false))
     turned true true = refl
     turned true false = refl
     turned false true = refl
@@ -104,7 +112,7 @@ module _ (taken other : List ℕ → Bool) (same : (text : List ℕ) → taken t
   id_by (Some own) h = record { new = λ e. h.new (same own ∙ e); known = λ e. fresh_by (h.known (same own ∙ e)) }
 
 -- an item of orderly items
-pub orderly_at : (items : List Json) (k : ℕ) (item : Json) → AllOrderly (trees_view items) → k < length items → get_or items k item ≡ item → IsOrderly (tree_of item)
+pub orderly_at : (items : List Lent) (k : ℕ) (item : Lent) → AllOrderly (lents_view items) → k < length items → get_or items k item ≡ item → IsOrderly (lent_of item)
 orderly_at [] k item all lt e = absurd (omega arith)
 orderly_at (x ∷ items) zero item all lt e = rw (sym e) all.0
 orderly_at (x ∷ items) (suc k) item all lt e = orderly_at items k item all.1 (omega arith) e
@@ -117,24 +125,24 @@ pub record ReadSoFar (all left : Reading (List Parts)) (k : ℕ) (read : List Fe
   pub made : AreMadeOf parts read
   pub known : HasIds (ids read) taken
 
-module _ (items : List Json) (k : ℕ) (all : Reading (List Parts)) where
-  pub so_far_start : (taken : BTreeSet (List ℕ)) → taken.keys ≡ [] → all ≡ features 0 (trees_view items) → ReadSoFar all (features 0 (trees_view items)) 0 [] taken
-  so_far_start taken empty e = record { parts = []; reads = e ∙ behind_none (features 0 (trees_view items)); count = refl; made = made_none; known = no_ids taken empty }
+module _ (items : List Lent) (k : ℕ) (all : Reading (List Parts)) where
+  pub so_far_start : (taken : BTreeSet (List ℕ)) → taken.keys ≡ [] → all ≡ features 0 (lents_view items) → ReadSoFar all (features 0 (lents_view items)) 0 [] taken
+  so_far_start taken empty e = record { parts = []; reads = e ∙ behind_none (features 0 (lents_view items)); count = refl; made = made_none; known = no_ids taken empty }
 
-  module _ (item : Json) (less : k < length items) (there : get_or items k item ≡ item) (old : List Feature) (taken : BTreeSet (List ℕ)) (so_far : ReadSoFar all (features k (trees_view (drop k items))) k old taken) where
-    left : all ≡ behind so_far.parts (features k (more (tree_of item) (trees_view (drop (k + 1) items))))
+  module _ (item : Lent) (less : k < length items) (there : get_or items k item ≡ item) (old : List Feature) (taken : BTreeSet (List ℕ)) (so_far : ReadSoFar all (features k (lents_view (drop k items))) k old taken) where
+    left : all ≡ behind so_far.parts (features k (more (lent_of item) (lents_view (drop (k + 1) items))))
     left =
         let further : suc k ≡ k + 1 = omega arith in
-        so_far.reads ∙ ap (λ (xs : List Json). behind so_far.parts (features k (trees_view xs))) (drop-cons items k item less ∙ ap (λ (x : Json). x ∷ drop (suc k) items) there ∙ ap (λ (n : ℕ). item ∷ drop n items) further)
+        so_far.reads ∙ ap (λ (xs : List Lent). behind so_far.parts (features k (lents_view xs))) (drop-cons items k item less ∙ ap (λ (x : Lent). x ∷ drop (suc k) items) there ∙ ap (λ (n : ℕ). item ∷ drop n items) further)
 
-    pub so_far_more : (p : Parts) (new : List Feature) (known : BTreeSet (List ℕ)) → feature k (tree_of item) ≡ Ok p → IsAdded old new p → HasIds (ids new) known → ReadSoFar all (features (k + 1) (trees_view (drop (k + 1) items))) (k + 1) new known
+    pub so_far_more : (p : Parts) (new : List Feature) (known : BTreeSet (List ℕ)) → feature k (lent_of item) ≡ Ok p → IsAdded old new p → HasIds (ids new) known → ReadSoFar all (features (k + 1) (lents_view (drop (k + 1) items))) (k + 1) new known
     so_far_more p new known reads added has = record {
       parts = so_far.parts ++ p ∷ [];
-      reads = left ∙ features_next k (tree_of item) (trees_view (drop (k + 1) items)) so_far.parts p reads;
+      reads = left ∙ features_next k (lent_of item) (lents_view (drop (k + 1) items)) so_far.parts p reads;
       count = ap length added.behind ∙ (let n = length-append old (added.feature ∷ []) in let c = so_far.count in omega arith);
       made = made_more so_far.parts p old new so_far.made added;
       known = has;
     }
 
-    pub so_far_stops : (fault : GeoFault) → feature k (tree_of item) ≡ Err fault → all ≡ Err fault
-    so_far_stops fault e = left ∙ features_stop k (tree_of item) (trees_view (drop (k + 1) items)) so_far.parts fault e
+    pub so_far_stops : (fault : GeoFault) → feature k (lent_of item) ≡ Err fault → all ≡ Err fault
+    so_far_stops fault e = left ∙ features_stop k (lent_of item) (lents_view (drop (k + 1) items)) so_far.parts fault e

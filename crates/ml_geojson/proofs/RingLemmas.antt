@@ -3,8 +3,8 @@ use Rattle.std.proofs.Common.{◌≡◌, ℕ, ◌-◌, ◌<◌, ◌≤◌, List,
 use Rattle.std.specs.Prelude.{nat_lt, slice_get}
 use Rattle.std.proofs.lemmas.Bool.Decides.{nat_tests}
 use Rattle.std.proofs.lemmas.List.{map-append}
-use Rattle.ml_json.specs.View.{trees_view}
-use Rattle.ml_json.specs.declared.value.Json.{Json}
+use Rattle.ml_json.specs.Lent.{lents_view}
+use Rattle.ml_json.specs.declared.lent.Lent.{Lent}
 use Rattle.ml_ratio.specs.declared.geometry.Pos.{Pos}
 use Rattle.ml_geojson.specs.Shape.{point, place_of, places_of}
 use Rattle.ml_geojson.specs.Positions.{Reading, then_made, is_same, last_place, closed, long_ring, position}
@@ -69,12 +69,12 @@ module _ (k : ℕ) where
       ap (λ (t : Bool). cond t (Err (ShortRing k)) (Ok (places_of (a ∷ b ∷ c ∷ d ∷ ring)))) enough
 
   -- a fault of a position is one of a point
-  pub no_point : (items : List Json) (fault : GeoFault) → 0 < length items → Refuses fault (position k (trees_view items)) → Refuses fault (point_shape k (trees_view items))
+  pub no_point : (items : List Lent) (fault : GeoFault) → 0 < length items → Refuses fault (position k (lents_view items)) → Refuses fault (point_shape k (lents_view items))
   no_point [] fault some h = absurd (omega arith)
-  no_point (x ∷ items) fault some h = refused (λ place. Some (point place)) (position k (trees_view (x ∷ items))) fault h
+  no_point (x ∷ items) fault some h = refused (λ place. Some (point place)) (position k (lents_view (x ∷ items))) fault h
 
   -- fewer than two numbers are no position
-  pub no_position : (items : List Json) → length items < 2 → position k (trees_view items) ≡ Err (BadGeometry k)
+  pub no_position : (items : List Lent) → length items < 2 → position k (lents_view items) ≡ Err (BadGeometry k)
   no_position [] few = refl
   no_position (x ∷ []) few = refl
   no_position (x ∷ y ∷ items) few = absurd (omega arith)

@@ -3,7 +3,7 @@ ghost use Rattle.std.specs.Prelude.{◌≡◌, IfOk, Ok};
 ghost use Rattle.std.specs.Option.{option_map, option_copied};
 ghost use Rattle.ml_json.specs.Tree.{map};
 ghost use Rattle.ml_json.specs.Canonical.{IsOrderly};
-ghost use Rattle.ml_json.specs.View.{tree_of, pairs_view};
+ghost use Rattle.ml_json.specs.Lent.{lent_of, lent_pairs_view};
 ghost use Rattle.ml_geojson.specs.Fault.{Answers};
 ghost use Rattle.ml_geojson.specs.Collection.{own_id as spec_own_id, feature};
 ghost use Rattle.ml_geojson.specs.Map.{IsMadeOf, IsRead};
@@ -14,32 +14,32 @@ use crate::fault::GeoFault;
 use crate::members::{is_text, member};
 use crate::properties::read_props;
 use crate::shapes::read_shape;
-use ml_json::{Json, Pair};
+use ml_json::{Lent, LentPair};
 use ml_ratio::{Feature, Text};
 use std::alloc::{AllocError, Global};
 
 // The id that a feature has of its own: the text of a string or of a number.
-fn own_id(value: Option<&Json>) -> Result<Option<Text>, AllocError>
-    ensures { IfOk result (λ own. own ≡ spec_own_id (option_map tree_of (option_copied value.entry))) }
+fn own_id(alloc: Global, value: Option<&Lent>) -> Result<Option<Text>, AllocError>
+    ensures { IfOk result (λ own. own ≡ spec_own_id (option_map lent_of (option_copied value.entry))) }
 {
     Ok(match value {
-        Some(Json::Str(text)) => Some(text.copy()?),
-        Some(Json::Num(text)) => Some(text.copy()?),
+        Some(Lent::Str(text)) => Some(text.to_text(alloc)?),
+        Some(Lent::Num(text)) => Some(text.to_text(alloc)?),
         _ => None,
     })
 }
 
 // The draft of a map whose type is Feature.
-fn draft_of(alloc: Global, pairs: &[Pair], k: usize) -> Result<Draft, GeoFault>
-    requires { IsOrderly (map (pairs_view pairs.now)) }
-    ensures { Answers parts_of result (feature k (map (pairs_view pairs.now))) }
+fn draft_of(alloc: Global, pairs: &[LentPair], k: usize) -> Result<Draft, GeoFault>
+    requires { IsOrderly (map (lent_pairs_view pairs.now)) }
+    ensures { Answers parts_of result (feature k (map (lent_pairs_view pairs.now))) }
 {
     if !is_text(member(pairs, "type"), "Feature") {
         return Err(GeoFault::NotFeature(k));
     }
     match read_shape(alloc, member(pairs, "geometry"), k) {
         Ok(geometry) => {
-            let own = own_id(member(pairs, "id"))?;
+            let own = own_id(alloc, member(pairs, "id"))?;
             let props = read_props(alloc, member(pairs, "properties"))?;
             Ok(Draft {
                 own,
@@ -52,12 +52,12 @@ fn draft_of(alloc: Global, pairs: &[Pair], k: usize) -> Result<Draft, GeoFault>
 }
 
 /// The draft of feature `k`.
-pub fn read_draft(alloc: Global, item: &Json, k: usize) -> Result<Draft, GeoFault>
-    requires { IsOrderly (tree_of item.now) }
-    ensures { Answers parts_of result (feature k (tree_of item.now)) }
+pub fn read_draft(alloc: Global, item: &Lent, k: usize) -> Result<Draft, GeoFault>
+    requires { IsOrderly (lent_of item.now) }
+    ensures { Answers parts_of result (feature k (lent_of item.now)) }
 {
     match item {
-        Json::Map(pairs) => draft_of(alloc, pairs.as_slice(), k),
+        Lent::Map(pairs) => draft_of(alloc, pairs.as_slice(), k),
         _ => Err(GeoFault::NotFeature(k)),
     }
 }

@@ -1,8 +1,8 @@
 //! The ids that features get.
 ghost use Rattle.std.specs.Prelude.{◌≡◌, ◌++◌, IfOk, codes};
 ghost use Rattle.std.specs.Option.{option_copied};
-ghost use Rattle.ml_geojson.specs.Ids.{numbered as spec_numbered, IsFresh, IsIdOf};
-ghost use Rattle.ml_geojson.specs.Taken.{is_taken};
+ghost use Rattle.ml_geojson.specs.Ids.{numbered as spec_numbered, IsFresh, IsOwnOrFresh, IsIdOf};
+ghost use Rattle.ml_geojson.specs.Taken.{is_taken, Takes};
 
 use ml_ratio::Text;
 use std::alloc::{AllocError, Global};
@@ -35,17 +35,47 @@ fn fresh_id(alloc: Global, taken: &BTreeSet<Text>, k: usize) -> Result<Text, All
     Ok(id)
 }
 
-/// The id of the feature at place `k`: its own where it is new, else a fresh one.
-pub fn id_for(
+// Takes a fresh id.
+fn take_fresh(alloc: Global, taken: &mut BTreeSet<Text>, k: usize) -> Result<Text, AllocError>
+    ensures id { IfOk result (IsFresh (is_taken taken.old) k) }
+    ensures taken { IfOk result (Takes taken.old taken.new) }
+{
+    let id = fresh_id(alloc, taken, k)?;
+    taken.insert(id.copy()?)?;
+    Ok(id)
+}
+
+// Takes the feature's own id where it is new, else a fresh one.
+fn take_own(
     alloc: Global,
-    taken: &BTreeSet<Text>,
+    taken: &mut BTreeSet<Text>,
+    own: &Text,
+    k: usize,
+) -> Result<Text, AllocError>
+    ensures id { IfOk result (IsOwnOrFresh (is_taken taken.old) k own.now) }
+    ensures taken { IfOk result (Takes taken.old taken.new) }
+{
+    if taken.insert(own.copy()?)? {
+        return own.copy();
+    }
+    take_fresh(alloc, taken, k)
+}
+
+/// Takes the id of the feature at place `k`: its own where it is new, else a fresh one.
+///
+/// # Errors
+/// Want of memory.
+pub fn take_id(
+    alloc: Global,
+    taken: &mut BTreeSet<Text>,
     own: Option<&Text>,
     k: usize,
 ) -> Result<Text, AllocError>
-    ensures { IfOk result (IsIdOf (is_taken taken.now) k (option_copied own.entry)) }
+    ensures id { IfOk result (IsIdOf (is_taken taken.old) k (option_copied own.entry)) }
+    ensures taken { IfOk result (Takes taken.old taken.new) }
 {
     match own {
-        Some(id) if !taken.contains(id) => id.copy(),
-        _ => fresh_id(alloc, taken, k),
+        Some(id) => take_own(alloc, taken, id, k),
+        None => take_fresh(alloc, taken, k),
     }
 }

@@ -1,11 +1,11 @@
 //! The types of geometry that have coordinates of their own (RFC 7946, section 3.1).
 ghost use Rattle.std.specs.Prelude.{◌≡◌};
 ghost use Rattle.std.specs.Option.{option_map, option_copied};
-ghost use Rattle.ml_json.specs.View.{tree_of};
+ghost use Rattle.ml_json.specs.Lent.{lent_of};
 ghost use Rattle.ml_geojson.specs.Geometry.{kind_of as spec_kind_of};
 
 use crate::members::is_text;
-use ml_json::Json;
+use ml_json::Lent;
 
 /// A type of geometry.
 #[derive(Clone, Copy)]
@@ -19,8 +19,8 @@ pub enum Kind {
 }
 
 /// The kind that a type names; none for any other value.
-pub fn kind_of(value: Option<&Json>) -> Option<Kind>
-    ensures { result ≡ spec_kind_of (option_map tree_of (option_copied value.entry)) }
+pub fn kind_of(value: Option<&Lent>) -> Option<Kind>
+    ensures { result ≡ spec_kind_of (option_map lent_of (option_copied value.entry)) }
 {
     if is_text(value, "Point") {
         Some(Kind::Point)

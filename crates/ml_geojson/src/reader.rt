@@ -5,7 +5,7 @@ ghost use Rattle.ml_ratio.specs.Refusal.{RefusesExactly};
 ghost use Rattle.ml_json.specs.Answer.{IsNotJson, IsDeep};
 ghost use Rattle.ml_json.specs.Tree.{map};
 ghost use Rattle.ml_json.specs.Canonical.{IsOrderly, AllOrderly};
-ghost use Rattle.ml_json.specs.View.{tree_of, trees_view, pairs_view};
+ghost use Rattle.ml_json.specs.Lent.{lent_of, lents_view, lent_pairs_view};
 ghost use Rattle.ml_geojson.specs.Fault.{Refuses};
 ghost use Rattle.ml_geojson.specs.Collection.{feature, features as spec_features, listed, collected, collection, IsSomeOrderly};
 ghost use Rattle.ml_geojson.specs.Taken.{HasIds};
@@ -15,9 +15,9 @@ ghost use Rattle.ml_geojson.specs.Map.{ids, HaveDifferentIds, AreRead, IsRead, I
 use crate::draft::Draft;
 use crate::fault::GeoFault;
 use crate::features::{named, read_draft, with_own_id};
-use crate::ids::id_for;
+use crate::ids::take_id;
 use crate::members::{is_text, member};
-use ml_json::{Json, Pair};
+use ml_json::{Lent, LentPair};
 use ml_ratio::{Feature, Seq, Text};
 use std::alloc::{AllocError, Global};
 use std::collections::BTreeSet;
@@ -33,16 +33,15 @@ fn push_feature(
     ensures added { OnOk result (IsAdded features.old features.new (parts_of draft)) }
     ensures taken { OnOk result (HasIds (ids features.new) taken.new) }
 {
-    let id = id_for(alloc, taken, draft.own.as_ref(), features.len())?;
-    taken.insert(id.copy()?)?;
+    let id = take_id(alloc, taken, draft.own.as_ref(), features.len())?;
     features.push(named(draft, id))?;
     Ok(())
 }
 
 // The features of a list.
-fn read_items(alloc: Global, items: &[Json]) -> Result<Seq<Feature>, GeoFault>
-    requires { AllOrderly (trees_view items.now) }
-    ensures { AreRead result (spec_features 0 (trees_view items.now)) }
+fn read_items(alloc: Global, items: &[Lent]) -> Result<Seq<Feature>, GeoFault>
+    requires { AllOrderly (lents_view items.now) }
+    ensures { AreRead result (spec_features 0 (lents_view items.now)) }
 {
     let mut features = Seq::new(alloc);
     let mut taken = BTreeSet::new(alloc);
@@ -56,20 +55,20 @@ fn read_items(alloc: Global, items: &[Json]) -> Result<Seq<Feature>, GeoFault>
 }
 
 // The features of a value, which has to be a list.
-fn read_listed(alloc: Global, value: Option<&Json>) -> Result<Seq<Feature>, GeoFault>
-    requires { IsSomeOrderly (option_map tree_of (option_copied value)) }
-    ensures { AreRead result (listed (option_map tree_of (option_copied value.entry))) }
+fn read_listed(alloc: Global, value: Option<&Lent>) -> Result<Seq<Feature>, GeoFault>
+    requires { IsSomeOrderly (option_map lent_of (option_copied value)) }
+    ensures { AreRead result (listed (option_map lent_of (option_copied value.entry))) }
 {
     match value {
-        Some(Json::List(items)) => read_items(alloc, items.as_slice()),
+        Some(Lent::List(items)) => read_items(alloc, items.as_slice()),
         _ => Err(GeoFault::NotCollection),
     }
 }
 
 // The features of a map whose type is FeatureCollection.
-fn read_collected(alloc: Global, pairs: &[Pair]) -> Result<Seq<Feature>, GeoFault>
-    requires { IsOrderly (map (pairs_view pairs.now)) }
-    ensures { AreRead result (collected (pairs_view pairs.now)) }
+fn read_collected(alloc: Global, pairs: &[LentPair]) -> Result<Seq<Feature>, GeoFault>
+    requires { IsOrderly (map (lent_pairs_view pairs.now)) }
+    ensures { AreRead result (collected (lent_pairs_view pairs.now)) }
 {
     if is_text(member(pairs, "type"), "FeatureCollection") {
         return read_listed(alloc, member(pairs, "features"));
@@ -78,11 +77,11 @@ fn read_collected(alloc: Global, pairs: &[Pair]) -> Result<Seq<Feature>, GeoFaul
 }
 
 // The features of a map file.
-fn read_tree(alloc: Global, json: &Json) -> Result<Seq<Feature>, GeoFault>
-    requires { IsOrderly (tree_of json.now) }
-    ensures { AreRead result (collection (tree_of json.now)) }
+fn read_tree(alloc: Global, json: &Lent) -> Result<Seq<Feature>, GeoFault>
+    requires { IsOrderly (lent_of json.now) }
+    ensures { AreRead result (collection (lent_of json.now)) }
 {
-    let Json::Map(pairs) = json else {
+    let Lent::Map(pairs) = json else {
         return Err(GeoFault::NotCollection);
     };
     if is_text(member(pairs.as_slice(), "type"), "Feature") {
@@ -117,16 +116,16 @@ pub fn read_collection(alloc: Global, bytes: &[u8]) -> Result<Seq<Feature>, GeoF
     ensures out_of_range { (k : ℕ) → RefusesExactly result (GeoFault.OutOfRange k) GeoFault.Memory (IsMapFault bytes.now (GeoFault.OutOfRange k)) }
     ensures short_ring { (k : ℕ) → RefusesExactly result (GeoFault.ShortRing k) GeoFault.Memory (IsMapFault bytes.now (GeoFault.ShortRing k)) }
 {
-    match ml_json::read(alloc, bytes) {
+    match ml_json::lend(alloc, bytes) {
         Ok(json) => read_tree(alloc, &json),
         Err(fault) => Err(GeoFault::from(fault)),
     }
 }
 
 // The feature of a tree, which has to have an id.
-fn read_named(alloc: Global, json: &Json) -> Result<Feature, GeoFault>
-    requires { IsOrderly (tree_of json.now) }
-    ensures { IsRead result (feature 0 (tree_of json.now)) }
+fn read_named(alloc: Global, json: &Lent) -> Result<Feature, GeoFault>
+    requires { IsOrderly (lent_of json.now) }
+    ensures { IsRead result (feature 0 (lent_of json.now)) }
 {
     match read_draft(alloc, json, 0) {
         Ok(draft) => with_own_id(draft),
@@ -151,7 +150,7 @@ pub fn read_feature(alloc: Global, bytes: &[u8]) -> Result<Feature, GeoFault>
     ensures short_ring { (k : ℕ) → RefusesExactly result (GeoFault.ShortRing k) GeoFault.Memory (IsFeatureFault bytes.now (GeoFault.ShortRing k)) }
     ensures no_id { RefusesExactly result GeoFault.NoId GeoFault.Memory (HasNoId bytes.now) }
 {
-    match ml_json::read(alloc, bytes) {
+    match ml_json::lend(alloc, bytes) {
         Ok(json) => read_named(alloc, &json),
         Err(fault) => Err(GeoFault::from(fault)),
     }

@@ -2,7 +2,7 @@
 ghost use Rattle.std.specs.Prelude.{◌≡◌, ◌<◌, length, IfOk};
 ghost use Rattle.std.specs.Option.{option_map, option_copied};
 ghost use Rattle.ml_ratio.specs.Geometry.{IsSomeGeometry};
-ghost use Rattle.ml_json.specs.View.{tree_of, trees_view, pairs_view};
+ghost use Rattle.ml_json.specs.Lent.{lent_of, lents_view, lent_pairs_view};
 ghost use Rattle.ml_geojson.specs.Fault.{Answers};
 ghost use Rattle.ml_geojson.specs.Shape.{some_shape_of};
 ghost use Rattle.ml_geojson.specs.Geometry.{shape_by, kind_shape, typed_shape, geometry};
@@ -13,13 +13,13 @@ use crate::kind::{Kind, kind_of};
 use crate::members::{is_text, member};
 use crate::parts::{read_lines, read_polygons, read_rings};
 use crate::positions::{read_position, read_positions};
-use ml_json::{Json, Pair};
+use ml_json::{Lent, LentPair};
 use ml_ratio::Geometry;
 use std::alloc::Global;
 
 // A point.
-fn read_point(items: &[Json], k: usize) -> Result<Option<Geometry>, GeoFault>
-    ensures shape { Answers some_shape_of result (shape_by k kinds.Point (trees_view items.now)) }
+fn read_point(items: &[Lent], k: usize) -> Result<Option<Geometry>, GeoFault>
+    ensures shape { Answers some_shape_of result (shape_by k kinds.Point (lents_view items.now)) }
     ensures formed { IfOk result IsSomeGeometry }
 {
     if items.is_empty() {
@@ -32,8 +32,8 @@ fn read_point(items: &[Json], k: usize) -> Result<Option<Geometry>, GeoFault>
 }
 
 // Points.
-fn read_points(alloc: Global, items: &[Json], k: usize) -> Result<Option<Geometry>, GeoFault>
-    ensures shape { Answers some_shape_of result (shape_by k kinds.MultiPoint (trees_view items.now)) }
+fn read_points(alloc: Global, items: &[Lent], k: usize) -> Result<Option<Geometry>, GeoFault>
+    ensures shape { Answers some_shape_of result (shape_by k kinds.MultiPoint (lents_view items.now)) }
     ensures formed { IfOk result IsSomeGeometry }
 {
     match read_positions(alloc, items, k) {
@@ -44,8 +44,8 @@ fn read_points(alloc: Global, items: &[Json], k: usize) -> Result<Option<Geometr
 }
 
 // A line.
-fn read_line(alloc: Global, items: &[Json], k: usize) -> Result<Option<Geometry>, GeoFault>
-    ensures shape { Answers some_shape_of result (shape_by k kinds.LineString (trees_view items.now)) }
+fn read_line(alloc: Global, items: &[Lent], k: usize) -> Result<Option<Geometry>, GeoFault>
+    ensures shape { Answers some_shape_of result (shape_by k kinds.LineString (lents_view items.now)) }
     ensures formed { IfOk result IsSomeGeometry }
 {
     match read_positions(alloc, items, k) {
@@ -56,8 +56,8 @@ fn read_line(alloc: Global, items: &[Json], k: usize) -> Result<Option<Geometry>
 }
 
 // Lines.
-fn read_line_parts(alloc: Global, items: &[Json], k: usize) -> Result<Option<Geometry>, GeoFault>
-    ensures shape { Answers some_shape_of result (shape_by k kinds.MultiLineString (trees_view items.now)) }
+fn read_line_parts(alloc: Global, items: &[Lent], k: usize) -> Result<Option<Geometry>, GeoFault>
+    ensures shape { Answers some_shape_of result (shape_by k kinds.MultiLineString (lents_view items.now)) }
     ensures formed { IfOk result IsSomeGeometry }
 {
     match read_lines(alloc, items, k) {
@@ -68,8 +68,8 @@ fn read_line_parts(alloc: Global, items: &[Json], k: usize) -> Result<Option<Geo
 }
 
 // A polygon.
-fn read_polygon(alloc: Global, items: &[Json], k: usize) -> Result<Option<Geometry>, GeoFault>
-    ensures shape { Answers some_shape_of result (shape_by k kinds.Polygon (trees_view items.now)) }
+fn read_polygon(alloc: Global, items: &[Lent], k: usize) -> Result<Option<Geometry>, GeoFault>
+    ensures shape { Answers some_shape_of result (shape_by k kinds.Polygon (lents_view items.now)) }
     ensures formed { IfOk result IsSomeGeometry }
 {
     match read_rings(alloc, items, k) {
@@ -80,8 +80,8 @@ fn read_polygon(alloc: Global, items: &[Json], k: usize) -> Result<Option<Geomet
 }
 
 // Polygons.
-fn read_polygon_parts(alloc: Global, items: &[Json], k: usize) -> Result<Option<Geometry>, GeoFault>
-    ensures shape { Answers some_shape_of result (shape_by k kinds.MultiPolygon (trees_view items.now)) }
+fn read_polygon_parts(alloc: Global, items: &[Lent], k: usize) -> Result<Option<Geometry>, GeoFault>
+    ensures shape { Answers some_shape_of result (shape_by k kinds.MultiPolygon (lents_view items.now)) }
     ensures formed { IfOk result IsSomeGeometry }
 {
     match read_polygons(alloc, items, k) {
@@ -95,10 +95,10 @@ fn read_polygon_parts(alloc: Global, items: &[Json], k: usize) -> Result<Option<
 fn read_by(
     alloc: Global,
     kind: Kind,
-    items: &[Json],
+    items: &[Lent],
     k: usize,
 ) -> Result<Option<Geometry>, GeoFault>
-    ensures shape { Answers some_shape_of result (shape_by k kind (trees_view items.now)) }
+    ensures shape { Answers some_shape_of result (shape_by k kind (lents_view items.now)) }
     ensures formed { IfOk result IsSomeGeometry }
 {
     match kind {
@@ -115,21 +115,21 @@ fn read_by(
 fn read_kind(
     alloc: Global,
     kind: Option<Kind>,
-    coordinates: Option<&Json>,
+    coordinates: Option<&Lent>,
     k: usize,
 ) -> Result<Option<Geometry>, GeoFault>
-    ensures shape { Answers some_shape_of result (kind_shape k kind (option_map tree_of (option_copied coordinates.entry))) }
+    ensures shape { Answers some_shape_of result (kind_shape k kind (option_map lent_of (option_copied coordinates.entry))) }
     ensures formed { IfOk result IsSomeGeometry }
 {
     match (kind, coordinates) {
-        (Some(kind), Some(Json::List(items))) => read_by(alloc, kind, items.as_slice(), k),
+        (Some(kind), Some(Lent::List(items))) => read_by(alloc, kind, items.as_slice(), k),
         _ => Err(GeoFault::BadGeometry(k)),
     }
 }
 
 // The shape of a map with a type. The content of a GeometryCollection is not looked at.
-fn read_typed(alloc: Global, pairs: &[Pair], k: usize) -> Result<Option<Geometry>, GeoFault>
-    ensures shape { Answers some_shape_of result (typed_shape k (pairs_view pairs.now)) }
+fn read_typed(alloc: Global, pairs: &[LentPair], k: usize) -> Result<Option<Geometry>, GeoFault>
+    ensures shape { Answers some_shape_of result (typed_shape k (lent_pairs_view pairs.now)) }
     ensures formed { IfOk result IsSomeGeometry }
 {
     let name = member(pairs, "type");
@@ -142,15 +142,15 @@ fn read_typed(alloc: Global, pairs: &[Pair], k: usize) -> Result<Option<Geometry
 /// The shape of feature `k`; none where the member is absent or null.
 pub fn read_shape(
     alloc: Global,
-    value: Option<&Json>,
+    value: Option<&Lent>,
     k: usize,
 ) -> Result<Option<Geometry>, GeoFault>
-    ensures shape { Answers some_shape_of result (geometry k (option_map tree_of (option_copied value.entry))) }
+    ensures shape { Answers some_shape_of result (geometry k (option_map lent_of (option_copied value.entry))) }
     ensures formed { IfOk result IsSomeGeometry }
 {
     match value {
-        None | Some(Json::Null) => Ok(None),
-        Some(Json::Map(pairs)) => read_typed(alloc, pairs.as_slice(), k),
+        None | Some(Lent::Null) => Ok(None),
+        Some(Lent::Map(pairs)) => read_typed(alloc, pairs.as_slice(), k),
         Some(_) => Err(GeoFault::BadGeometry(k)),
     }
 }

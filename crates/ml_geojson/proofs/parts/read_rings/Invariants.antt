@@ -1,7 +1,7 @@
 use Rattle.std.proofs.Common.{◌≡◌, drop}
 use Rattle.std.specs.Prelude.{All}
 use Rattle.ml_ratio.specs.Geometry.{IsRing}
-use Rattle.ml_json.specs.View.{trees_view}
+use Rattle.ml_json.specs.Lent.{lents_view}
 use Rattle.ml_geojson.specs.Shape.{lines_of}
 use Rattle.ml_geojson.specs.Positions.{rings}
 use Rattle.ml_geojson.proofs.EachLemmas.{behind}
@@ -9,6 +9,6 @@ use Rattle.ml_geojson.proofs.parts.read_rings.Given as goal
 
 abbrev pub invariant-loop-item : goal.invariant-loop-item
 invariant-loop-item l = record {
-  reads : rings l.k (trees_view l.items) ≡ behind (lines_of l.rings) (rings l.k (trees_view (drop l.item-index l.items)));
+  reads : rings l.k (lents_view l.items) ≡ behind (lines_of l.rings) (rings l.k (lents_view (drop l.item-index l.items)));
   formed : All IsRing l.rings;
 }

@@ -1,9 +1,9 @@
 use Rattle.std.proofs.Common.{◌≡◌, drop}
-use Rattle.ml_json.specs.View.{trees_view}
+use Rattle.ml_json.specs.Lent.{lents_view}
 use Rattle.ml_geojson.specs.Shape.{places_of}
 use Rattle.ml_geojson.specs.Positions.{positions}
 use Rattle.ml_geojson.proofs.EachLemmas.{behind}
 use Rattle.ml_geojson.proofs.positions.read_positions.Given as goal
 
 abbrev pub invariant-loop-item : goal.invariant-loop-item
-invariant-loop-item l = positions l.k (trees_view l.items) ≡ behind (places_of l.positions) (positions l.k (trees_view (drop l.item-index l.items)))
+invariant-loop-item l = positions l.k (lents_view l.items) ≡ behind (places_of l.positions) (positions l.k (lents_view (drop l.item-index l.items)))

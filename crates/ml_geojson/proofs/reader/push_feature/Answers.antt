@@ -12,11 +12,11 @@ returns-clause-added c = record {
   feature = c.named.result;
   behind = c.in_ok-push.ensures.ok;
   made = c.named.ensures.made;
-  named = rw c.named.ensures.id (id_by (is_taken c.args.taken.now) (is_among (ids c.args.features.now)) c.requires _ c.in_ok-id.id c.args.draft.own (rw (c.len.ensures, c.as_ref.ensures.value) at c.in_ok-id.ensures));
+  named = rw c.named.ensures.id (id_by (is_taken c.args.taken.now) (is_among (ids c.args.features.now)) c.requires _ c.in_ok-id.id c.args.draft.own (rw (c.len.ensures, c.as_ref.ensures.value) at c.in_ok-id.ensures.id));
 }
 
 pub returns-clause-taken : goal.returns-clause-taken
 returns-clause-taken c =
     let more : ids c.push.new.self ≡ ids c.args.features.now ++ c.in_ok-id.id ∷ [] =
     ap ids c.in_ok-push.ensures.ok ∙ map-append (λ (f : Feature). f.id) c.args.features.now (c.named.result ∷ []) ∙ ap (λ t. ids c.args.features.now ++ t ∷ []) c.named.ensures.id in
-    subst (λ texts. HasIds texts c.insert.new.self) (sym more) (has_ids_more c.args.taken.now c.insert.new.self (ids c.args.features.now) c.in_ok-id.id c.requires (rw c.in_ok-copy.ensures at c.in_ok-insert.ensures.updates))
+    subst (λ texts. HasIds texts c.take_id.new.taken) (sym more) (has_ids_more c.args.taken.now c.take_id.new.taken (ids c.args.features.now) c.in_ok-id.id c.requires c.in_ok-id.ensures.taken)
