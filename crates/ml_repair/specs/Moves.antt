@@ -1,5 +1,5 @@
 -- New slots of labels, by number.
-use Rattle.std.specs.Prelude.{ℕ, ◌≡◌, ◌+◌, ◌<◌, ◌≤◌, List, length, map, slice_index, All}
+use Rattle.std.specs.Prelude.{ℕ, ◌≡◌, ◌+◌, ◌<◌, ◌≤◌, ◌⊎◌, [], List, length, map, slice_index, All}
 use Rattle.ml_ratio.specs.Limits.{most_labels}
 use Rattle.ml_store.specs.Rows.{AreDifferent}
 use Rattle.ml_repair.specs.declared.edit.Moved.{Moved}
@@ -8,16 +8,20 @@ use Rattle.ml_repair.specs.declared.edit.Moved.{Moved}
 abbrev pub numbers_of : List Moved → List ℕ
 numbers_of moved = map (λ m. m.number) moved
 
--- the column has for each number one more than the place of its new slot, and 0 where it has none
-abbrev pub IsColumn : List Moved → List ℕ → Type 0
-IsColumn moved column =
-    (n : ℕ) → n < most_labels → (slice_index column n ≤ length moved)
-    × ((k : ℕ) → k < length moved → slice_index (numbers_of moved) k ≡ n → slice_index column n ≡ k + 1)
-    × (0 < slice_index column n → (k : ℕ) → k + 1 ≡ slice_index column n → slice_index (numbers_of moved) k ≡ n)
+-- `at` is one more than the place of the number's new slot, and 0 where it has none
+abbrev pub IsFoundAt : List Moved → ℕ → ℕ → Type 0
+IsFoundAt moved n at =
+    (at ≤ length moved)
+    × ((k : ℕ) → k < length moved → slice_index (numbers_of moved) k ≡ n → at ≡ k + 1)
+    × (0 < at → (k : ℕ) → k + 1 ≡ at → slice_index (numbers_of moved) k ≡ n)
 
--- each number has one new slot at most, and is found by the column
-pub record AreMoves (moved : List Moved) (column : List ℕ) : Type 0 where
+-- the column tells of each number where its new slot is found
+pub record IsColumn (moved : List Moved) (column : List ℕ) : Type 0 where
   pub all_numbers : length column ≡ most_labels
+  pub found : (n : ℕ) → n < most_labels → IsFoundAt moved n (slice_index column n)
+
+-- each number has one new slot at most; there is no column, or it is that of these
+pub record AreMoves (moved : List Moved) (column : List ℕ) : Type 0 where
   pub low : All (λ n. n < most_labels) (numbers_of moved)
   pub differ : AreDifferent (numbers_of moved)
-  pub found : IsColumn moved column
+  pub found : (column ≡ []) ⊎ IsColumn moved column

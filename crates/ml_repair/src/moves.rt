@@ -4,7 +4,7 @@ ghost use Rattle.ml_ratio.specs.Limits.{most_labels};
 ghost use Rattle.ml_cone.specs.declared.slot.Slot.{Slot};
 ghost use Rattle.ml_store.specs.Rows.{AreDifferent};
 ghost use Rattle.ml_repair.specs.Plan.{slot_for};
-ghost use Rattle.ml_repair.specs.Moves.{numbers_of};
+ghost use Rattle.ml_repair.specs.Moves.{numbers_of, IsFoundAt, IsColumn};
 
 use crate::edit::Moved;
 use ml_cone::Slot;
@@ -12,11 +12,45 @@ use ml_ratio::MOST_LABELS;
 use std::alloc::{AllocError, Global};
 use std::marker::Model;
 
+// Where more labels than these have a new slot, a column finds them sooner than a look at each.
+const FEW_MOVED: usize = 8;
+
 /// New slots of labels whose numbers are below 32,768, each label's once.
+///
+/// Most edits move few labels, and a column for all numbers would cost more than the edit: it is made once there
+/// are many.
 #[derive(Drop)]
 pub struct Moves {
+    alloc: Global,
     moved: Vec<Moved>,
     column: Vec<u16>,
+}
+
+// One more than the place of the number's new slot; 0 where it has none.
+fn find_in(moved: &[Moved], number: u32) -> usize
+    requires { AreDifferent (numbers_of moved.now) }
+    ensures { IsFoundAt moved.now number result }
+{
+    for k in 0..moved.len() {
+        if moved[k].number == number {
+            return k + 1;
+        }
+    }
+    0
+}
+
+// The column of these new slots.
+fn column_of(alloc: Global, moved: &[Moved]) -> Result<Vec<u16>, AllocError>
+    requires low { All (λ n. n < most_labels) (numbers_of moved.now) }
+    requires differ { AreDifferent (numbers_of moved.now) }
+    ensures { IfOk result (λ column. IsColumn moved.now column.items) }
+{
+    // copied at once: `vec!` would write one element after another
+    let mut column = Vec::from_slice(alloc, &[0; MOST_LABELS])?;
+    for k in 0..moved.len() {
+        column[moved[k].number as usize] = (k + 1) as u16;
+    }
+    Ok(column)
 }
 
 impl Model for Moves {
@@ -33,18 +67,36 @@ impl Model for Moves {
 
 impl Moves {
     /// No label has a new slot.
-    ///
-    /// # Errors
-    /// Want of memory.
-    pub fn new(alloc: Global) -> Result<Moves, AllocError>
-        ensures { IfOk result (λ moves. moves ≡ []) }
+    pub fn new(alloc: Global) -> Moves
+        ensures { result ≡ [] }
     {
-        // copied at once: `vec!` would write one element after another, at each edit
-        let column = Vec::from_slice(alloc, &[0; MOST_LABELS])?;
-        Ok(Moves {
+        Moves {
+            alloc,
             moved: Vec::new(alloc),
-            column,
-        })
+            column: Vec::new(alloc),
+        }
+    }
+
+    // One more than the place of the label's new slot; 0 where it has none.
+    fn find(&self, number: u32) -> usize
+        requires { number < most_labels }
+        ensures { IsFoundAt self.now number result }
+    {
+        if self.column.is_empty() {
+            find_in(&self.moved, number)
+        } else {
+            self.column[number as usize] as usize
+        }
+    }
+
+    // Makes the column, where so many labels have a new slot that it pays.
+    fn widen(&mut self) -> Result<(), AllocError>
+        ensures { self.new ≡ self.old }
+    {
+        if self.column.is_empty() && self.moved.len() >= FEW_MOVED {
+            self.column = column_of(self.alloc, &self.moved)?;
+        }
+        Ok(())
     }
 
     /// The slot of the label with this number, whose own slot is `own`.
@@ -52,23 +104,26 @@ impl Moves {
         requires { number < most_labels }
         ensures { result ≡ slot_for number own self.now }
     {
-        let at = self.column[number as usize] as usize;
+        let at = self.find(number);
         if at > 0 { self.moved[at - 1].slot } else { own }
     }
 
     /// The label with this number gets a new slot.
     ///
     /// # Errors
-    /// Want of memory.
+    /// Out of memory.
     pub fn put(&mut self, number: u32, slot: Slot) -> Result<(), AllocError>
         requires { number < most_labels }
         ensures { IfOk result (λ _. (n : ℕ) (own : Slot) → slot_for n own self.new ≡ (if n == number then slot else slot_for n own self.old)) }
     {
-        let at = self.column[number as usize] as usize;
+        let at = self.find(number);
         if at > 0 {
             self.moved[at - 1].slot = slot;
-        } else {
-            self.moved.push(Moved { number, slot })?;
+            return Ok(());
+        }
+        self.widen()?;
+        self.moved.push(Moved { number, slot })?;
+        if !self.column.is_empty() {
             self.column[number as usize] = self.moved.len() as u16;
         }
         Ok(())
@@ -87,7 +142,6 @@ impl Moves {
         ensures moved { result.items ≡ self }
         ensures few { length self ≤ most_labels }
     {
-        let Moves { moved, column: _ } = self;
-        moved
+        self.moved
     }
 }

@@ -101,7 +101,7 @@ pub fn plan_in<L: Ledger>(
     let roster = Roster::left(store, None);
     let at = place_for(&roster, label.order());
     let mut row = row_for(number, label);
-    let mut moves = Moves::new(alloc)?;
+    let mut moves = Moves::new(alloc);
     let evaluated = pass_in(alloc, store, None, &mut row, at, &mut moves, steps)?;
     let edited = Change {
         id: row.label.id().copy()?,
@@ -133,7 +133,7 @@ pub fn plan_out<L: Ledger>(
     ensures { IfOk result (λ plan. IsPlanFor plan store.now.rows id.now None steps.old steps.new) }
 {
     let at = place_of_id(store, id);
-    let mut moves = Moves::new(alloc)?;
+    let mut moves = Moves::new(alloc);
     let evaluated = pass_out(alloc, store, at, &mut moves, steps)?;
     let edited = Change {
         id: id.copy()?,
@@ -166,7 +166,7 @@ pub fn plan_instead<L: Ledger>(
     ensures { IfOk result (λ plan. IsPlanFor plan store.now.rows label.order.id (Some label) steps.old steps.new) }
 {
     let at = place_of_id(store, label.id());
-    let mut moves = Moves::new(alloc)?;
+    let mut moves = Moves::new(alloc);
     let gone = pass_out(alloc, store, at, &mut moves, steps)?;
     let old = store.row(at);
     let roster = Roster::left(store, Some(at));

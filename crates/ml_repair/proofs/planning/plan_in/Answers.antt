@@ -16,7 +16,7 @@ pub pass_in-requires-clause-fresh : goal.pass_in-requires-clause-fresh
 pass_in-requires-clause-fresh g c = rw c.row_for-row.ensures.number c.free-number.ensures.free
 
 pub pass_in-requires-clause-before : goal.pass_in-requires-clause-before
-pass_in-requires-clause-before g c = start_settled c.args.store.now.rows c.in_ok-moves.moves c.in_ok-moves.ensures c.requires.settled
+pass_in-requires-clause-before g c = start_settled c.args.store.now.rows c.new-moves.result c.new-moves.ensures c.requires.settled
 
 pub edit_changes-requires-clause-up : goal.edit_changes-requires-clause-up
 edit_changes-requires-clause-up g c = rw c.left-roster.ensures c.requires.settled.in_order

@@ -14,7 +14,7 @@ pub place_of_id-at-requires : goal.place_of_id-at-requires
 place_of_id-at-requires g c = rw c.id.ensures c.requires.live
 
 pub pass_out-requires-clause-before : goal.pass_out-requires-clause-before
-pass_out-requires-clause-before g c = start_settled c.args.store.now.rows c.in_ok-moves.moves c.in_ok-moves.ensures c.requires.settled
+pass_out-requires-clause-before g c = start_settled c.args.store.now.rows c.new-moves.result c.new-moves.ensures c.requires.settled
 
 pub place_for-to-requires : goal.place_for-to-requires
 place_for-to-requires g c = rw c.left-roster.ensures (up_removed c.args.store.now.rows c.place_of_id-at.result c.requires.settled c.place_of_id-at.ensures.place)
@@ -38,7 +38,7 @@ pass_in-requires-clause-kept g c own =
     let old = c.row-old.result.now in
     let number : c.row_for-row.result.number ≡ number_at c.args.store.now.rows c.place_of_id-at.result =
     c.row_for-row.ensures.number ∙ sym (c.row-old.ensures.number) in
-    rw number (c.in_ok-gone.ensures.kept own ∙ ap (slot_for (number_at c.args.store.now.rows c.place_of_id-at.result) own) c.in_ok-moves.ensures)
+    rw number (c.in_ok-gone.ensures.kept own ∙ ap (slot_for (number_at c.args.store.now.rows c.place_of_id-at.result) own) c.new-moves.ensures)
 
 pub change_between-requires : goal.change_between-requires
 change_between-requires g c =

@@ -8,7 +8,7 @@ use Rattle.ml_repair.proofs.Shapes.{left_no_id}
 use Rattle.ml_repair.proofs.planning.plan_out.Goals as goal
 
 pub pass_out-requires-clause-before : goal.pass_out-requires-clause-before
-pass_out-requires-clause-before g c = start_settled c.args.store.now.rows c.in_ok-moves.moves c.in_ok-moves.ensures c.requires.settled
+pass_out-requires-clause-before g c = start_settled c.args.store.now.rows c.new-moves.result c.new-moves.ensures c.requires.settled
 
 pub edit_changes-requires-clause-up : goal.edit_changes-requires-clause-up
 edit_changes-requires-clause-up g c = rw c.left-roster.ensures (up_out c.args.store.now.rows c.place_of_id-at.result c.args.id.now c.pass_out.new.moves [] 0 c.requires.settled c.place_of_id-at.ensures.place c.place_of_id-at.ensures.here c.requires.live c.in_ok-evaluated.ensures.after)
