@@ -16,16 +16,18 @@ UNKNOWN = 422  # what the removal of a town is answered with that is not there
 
 
 class Lookers:
-    """Clients that ask for views of their own over connections that stay open, until told to
-    end.
+    """Clients that ask for views of their own over connections that stay open, or over a new one
+    each time, until told to end.
 
     Each has an address of its own. One that is told that it asks too often, or is not answered,
     waits a little."""
 
-    def __init__(self, count: int, port: int = PROXY, pause: float = 0) -> None:
+    def __init__(
+        self, count: int, port: int = PROXY, pause: float = 0, is_kept: bool = True
+    ) -> None:
         self.times: list[float] = []
         self.good, self.late, self.going, self.port = 0, 0, True, port
-        self.pause = pause
+        self.pause, self.is_kept = pause, is_kept
         self.bad: dict[Status, int] = {}
         self.threads = [
             threading.Thread(target=self.run, args=(number,), daemon=True)
@@ -43,6 +45,8 @@ class Lookers:
             x, y = lot.randrange(-(10**9), 10**9), lot.randrange(-6 * 10**8, 6 * 10**8)
             target = f"/view?cx={x}&cy={y}&w=512&h=384&s={10 ** lot.randrange(4, 7)}"
             self.count(link, "/rev" if lot.random() < 0.2 else target)
+            if not self.is_kept:
+                link.close()
             time.sleep(self.pause)
         link.close()
 

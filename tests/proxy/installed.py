@@ -16,8 +16,18 @@ from trials import trial
 
 DEPLOYMENT, POSTGIS = TOP / "docs" / "DEPLOYMENT.md", TOP / "deploy" / "postgis" / "README.md"
 STATE = "/var/lib/maplabel"
+# What stands before commands that are typed. `nginx -s reload` comes back before any worker has the
+# new configuration. Until the old ones are gone they may answer, and those that ask the server
+# itself answer 502 during a restart, as they must; so what comes next here waits for their end.
 SUDO = """set -e
 sudo() { if [ "$1" = -u ]; then runuser -u "$2" -- "${@:3}"; else "$@"; fi; }
+nginx() {
+    local old one
+    old=$(pgrep -P "$(cat /run/nginx.pid)")
+    command nginx "$@" || return
+    [ "$*" = "-s reload" ] || return 0
+    for one in $old; do while kill -0 "$one" 2>/dev/null; do sleep 0.05; done; done
+}
 """
 
 
@@ -207,7 +217,7 @@ def by_both(system: Booted) -> None:
     """nginx before HAProxy, which listens for this machine alone."""
     first, second = block(DEPLOYMENT, "127.0.0.1:8081").strip().splitlines()
     system.run(
-        f"""set -e; cd /opt/maplabel
+        f"""{SUDO}cd /opt/maplabel
         {first} >/etc/nginx/conf.d/maplabel.conf
         {second} >/etc/haproxy/haproxy.cfg
         systemctl restart haproxy.service; nginx -t && nginx -s reload"""
@@ -238,7 +248,7 @@ def by_tls(system: Booted) -> None:
     commands = block(DEPLOYMENT, "nginx-tls.conf |").rstrip()
     said = system.run(
         f"{SUDO}cd /opt/maplabel; export CURL_CA_BUNDLE=/etc/maplabel/server.crt\n"
-        + commands.replace("\ncurl ", "\nsleep 1\ncurl -s ")
+        + commands.replace("\ncurl ", "\ncurl -s ")
     )
     if '"rev"' not in said or not system.has("added-s"):
         raise fail(f"the commands for TLS make no edit: {said[-200:]}")

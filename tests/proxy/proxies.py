@@ -326,6 +326,31 @@ def restarts(front: Front) -> None:
             raise fail(f"{front.name}: the planned end lost an edit: {run.lines()[-3:]}")
 
 
+def reloads(front: Front) -> None:
+    """nginx takes its configuration anew again and again, and nobody sees it. Its workers keep
+    connections to each other, and an old one closes those: a read that was just sent on one of them
+    is sent again on another."""
+    count, again = 0, 0
+    with front.served("--save", "3600") as run:
+        at, until = Path(run.map).parent, time.monotonic() + Seconds.told
+        lookers, editors = Lookers(20, pause=0.05, is_kept=False), Editors(2)
+        while count < 20 or (again < 5 and time.monotonic() < until):
+            os.kill(int((at / "pid").read_text()), signal.SIGHUP)
+            count += 1
+            time.sleep(0.1)
+            again = (at / "error.log").read_text().count("while reading response header")
+        editors.end()
+        said, there, made = lookers.end(), ids(served_map()), set(editors.made)
+    told = f"{count} reloads of nginx, {again} reads sent again, {len(made)} edits"
+    say(f"{front.name}: {told}: {said}")
+    if lookers.bad or editors.refused or made != there or not made:
+        raise fail(
+            f"{front.name}: a reload of nginx is seen: reads {lookers.bad or 'none'}, edits "
+            f"{editors.refused or 'none'}; lost {len(made - there)}, made without an answer "
+            f"{len(there - made)}"
+        )
+
+
 def _rate(front: Front) -> float:
     """How many requests of such a crowd reach the server in a second."""
     with front.served():
@@ -342,7 +367,7 @@ def _enter() -> None:
         for function in (refusals, hosts, cached, chunked, fields, held, crowd, restarts):
             TRIALS[f"{front.name}.{function.__name__}"] = _bound(function, front)
         if front.has_pages:
-            for function in (pages, style_told, limited):
+            for function in (pages, style_told, limited, reloads):
                 TRIALS[f"{front.name}.{function.__name__}"] = _bound(function, front)
 
 

@@ -107,6 +107,12 @@ SPOILT = (
         'proxy_cache_key "$request_uri";\nproxy_cache_valid 200 1s;',
         "nginx.clock",
     ),
+    Spoilt(
+        READERS,
+        "proxy_http_version 1.1;",
+        "proxy_http_version 1.1;\nproxy_next_upstream off;",
+        "nginx.reloads",
+    ),
     Spoilt(READERS, "    gzip_static always;\n", "", "nginx.published"),
     Spoilt(EDITS, 'if ($http_x_edit = "") { return 403; }\n', "", "nginx.refusals"),
     Spoilt(EDITS, "if (-f /run/maplabel/drain) { return 503; }\n", "", "nginx.refusals"),
