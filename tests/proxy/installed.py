@@ -57,7 +57,7 @@ def units() -> None:
     with installed() as system:
         if system is None:
             return
-        for part in (served, planned, killed, confined, full_disk, unheard, unfit):
+        for part in (served, planned, killed, confined, walled_in, full_disk, unheard, unfit):
             part(system)
 
 
@@ -119,6 +119,23 @@ def confined(system: Booted) -> None:
         if (system.run(script) == "written") != can:
             raise fail(f"the unit can write {place}: {not can}")
     say("systemd: the unit writes its own folders alone")
+
+
+def walled_in(system: Booted) -> None:
+    """What the unit starts reaches 127.0.0.1, and no other address, not even of this machine."""
+    if "does not support BPF" in system.run("journalctl _PID=1 --no-pager -o cat"):
+        say("the system has no firewall by control groups: IPAddressDeny is not tried")
+        return
+    system.run("ip address add 192.0.2.1/32 dev lo")
+    ask = "curl -s -m 3 -o /dev/null -w %{http_code} http://$address:8080/rev || true"
+    enter = f"echo $$ >/sys/fs/cgroup{system.shown('ControlGroup')}/cgroup.procs"
+    for address, where, want in (
+        ("192.0.2.1", ":", "421"), ("127.0.0.1", enter, "200"), ("192.0.2.1", enter, "000"),
+    ):  # fmt: skip
+        got = system.run(f"address={address}; {where}; {ask}")
+        if got != want:
+            raise fail(f"from within the unit, or beside it ({where}), {address} gives {got}")
+    say("systemd: the unit reaches 127.0.0.1 alone")
 
 
 DROP_IN = """mkdir -p /run/systemd/system/maplabel.service.d

@@ -135,6 +135,7 @@ SPOILT = (
         "        self._saved()\n",
         "nginx.style_told",
     ),
+    Spoilt("deploy/maplabel.service", "IPAddressDeny=any\n", "", "systemd.units"),
     Spoilt(TLS, "ssl_verify_client on;", "ssl_verify_client optional_no_ca;", "tls.edits"),
     Spoilt(
         HAPROXY,
