@@ -13,8 +13,6 @@ from pathlib import Path
 from maplabel_kit import files, program
 from maplabel_kit.faults import Fault
 
-FOLDERS = ("deploy", "docs", "python", "web", "tests/proxy", "tests/sync", "tests/postgis")
-DATA = "crates/maplabel/data"
 LIMIT = 420  # seconds that a trial of a spoilt copy may take
 
 
@@ -64,11 +62,12 @@ def run(
 
 
 def copy(to: Path) -> None:
-    """The parts of the checkout that the trials read, with their links."""
-    for name in (*FOLDERS, DATA):
-        if (files.TOP / name).is_dir():
-            ignored = shutil.ignore_patterns("__pycache__", ".mypy_cache", "node_modules")
-            shutil.copytree(files.TOP / name, to / name, symlinks=True, ignore=ignored)
+    """All of the checkout that git knows or would take, with its links."""
+    words = ["git", "-C", str(files.TOP), "ls-files", "-zco", "--exclude-standard"]
+    told = subprocess.run(words, capture_output=True, text=True, check=True).stdout
+    for name in told.split("\0")[:-1]:
+        (to / name).parent.mkdir(parents=True, exist_ok=True)
+        shutil.copy2(files.TOP / name, to / name, follow_symlinks=False)
 
 
 def see_all(spoilt: Sequence[Spoilt], script: str) -> None:
@@ -119,8 +118,11 @@ def _fault_of(script: Path, trial: str, is_whole: bool = False) -> str:
     off, may be the machine's fault: of a copy that is whole that is told too, and of one that is
     spoilt it does not count as seen."""
     words = [str(script), trial, "--seconds", "12"]
+    env = {"SOURCE_DATE_EPOCH": "0"} | os.environ  # in the copy there is no commit that has a time
     try:
-        done = subprocess.run(words, capture_output=True, text=True, timeout=LIMIT, check=False)
+        done = subprocess.run(
+            words, capture_output=True, text=True, timeout=LIMIT, check=False, env=env
+        )
     except subprocess.TimeoutExpired:
         return "it is not done in time" if is_whole else ""
     if done.returncode == 0:
