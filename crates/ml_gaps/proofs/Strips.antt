@@ -1,12 +1,12 @@
 -- The labels that block others are those with strips.
-use Rattle.std.proofs.Common.{◌≡◌, ℕ, ◌+◌, ◌<◌, ◌↔◌, ◌⊎◌, inl, inr, List, [], ◌∷◌, ◌++◌, length, get_or, refl, sym, ap, subst, ◌∙◌, arith, length-append}
+use Rattle.std.proofs.Common.{◌≡◌, ℕ, ◌+◌, ◌<◌, ◌↔◌, inl, inr, List, [], ◌∷◌, ◌++◌, length, get_or, sym, ap, subst, ◌∙◌, arith, length-append}
 use Rattle.std.specs.Prelude.{All, Any}
 use Rattle.std.proofs.Math.ListN.{get_or-append}
 use Rattle.std.proofs.lemmas.Bool.{cases_lt}
 use Rattle.std.proofs.lemmas.List.{get_or_default, get_or_push}
 use Rattle.std.proofs.lemmas.List.Elements.{All-push}
 use Rattle.ml_ratio.specs.Fraction.{Fraction, value_of}
-use Rattle.ml_ratio.proofs.lemmas.Anys.{any_of, any_none, any_left, any_right, any_either, any_here}
+use Rattle.ml_ratio.proofs.lemmas.Anys.{any_none, any_left, any_right, any_either, any_here}
 use Rattle.ml_cone.specs.declared.label.Label.{Label}
 use Rattle.ml_conflict.specs.declared.axis.Axis.{Axis}
 use Rattle.ml_gaps.specs.Blocked.{IsBlocked, IsPairPiece, IsBlockedBy}

@@ -1,5 +1,5 @@
 //! Strips of the world about labels, beyond which these are too far away from another label to block it.
-ghost use Rattle.std.specs.Prelude.{◌≡◌, ◌≤◌, ◌<◌, ◌^◌};
+ghost use Rattle.std.specs.Prelude.{◌≡◌, ◌≤◌, ◌<◌, ◌-◌, ◌^◌, ℕ};
 ghost use Rattle.ml_ratio.specs.World.{IsInWorld};
 
 use crate::near::Near;
@@ -9,11 +9,14 @@ use ml_conflict::{Axis, anchor_on, greatest_reach};
 
 /// A strip of the world about a label: the coordinate of its anchor on an axis, and how far to either side of it
 /// anchors lie whose labels are too far away from it; with the label's place.
+///
+/// Each label asks all strips before it, so they are to lie close together: a way beyond the world is told as the
+/// greatest number of 32 bits.
 #[derive(Clone, Copy)]
 pub struct Strip {
-    at: i64,
-    far: u64,
     pub place: usize,
+    at: i32,
+    far: u32,
     ghost world: { IsInWorld at },
 }
 
@@ -33,9 +36,9 @@ impl Strip {
     {
         distant_labels();
         Strip {
-            at: anchor_on(axis, label),
-            far: 2 * reach as u64 * near.last,
             place,
+            at: anchor_on(axis, label) as i32,
+            far: within_32_bits(2 * reach as u64 * near.last),
         }
     }
 
@@ -44,7 +47,18 @@ impl Strip {
         requires { IsInWorld coordinate }
         ensures { MatchBool result (self.now.far ≤ unsigned_abs (coordinate -ℤ self.now.at)) (unsigned_abs (coordinate -ℤ self.now.at) < self.now.far) }
     {
-        self.far <= (coordinate - self.at).unsigned_abs()
+        self.far as u64 <= (coordinate - self.at as i64).unsigned_abs()
+    }
+}
+
+// The number, or the greatest of 32 bits where that is less.
+fn within_32_bits(number: u64) -> u32
+    ensures { (way : ℕ) → way < 2 ^ 32 - 1 → result ≤ way → number ≤ way }
+{
+    if number < u32::MAX as u64 {
+        number as u32
+    } else {
+        u32::MAX
     }
 }
 

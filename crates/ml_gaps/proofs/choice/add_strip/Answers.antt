@@ -1,4 +1,4 @@
-use Rattle.std.proofs.Common.{◌*◌, inr, refl, arith}
+use Rattle.std.proofs.Common.{inr, refl, arith}
 use Rattle.ml_ratio.specs.Fraction.{IsLess, value_of}
 use Rattle.ml_ratio.proofs.lemmas.Fractions.{less_at_most}
 use Rattle.ml_gaps.proofs.choice.add_strip.Goals as goal

@@ -1,13 +1,12 @@
-use Rattle.std.proofs.Common.{◌≡◌, ℕ, ◌<◌, ◌↔◌, List, length, slice_index_or, arith, rules, subst, sym, ◌∙◌}
+use Rattle.std.proofs.Common.{◌≡◌, ℕ, ◌↔◌, List, length, slice_index_or, arith, rules, subst, sym, ◌∙◌}
 use Rattle.std.proofs.lemmas.List.{get_or_default}
 use Rattle.ml_ratio.specs.Fraction.{Fraction, value_of}
 use Rattle.ml_cone.specs.declared.label.Label.{Label}
 use Rattle.ml_conflict.specs.Reach.{Reaches}
 use Rattle.ml_gaps.specs.Blocked.{IsBlockedBy}
 use Rattle.ml_gaps.specs.Piece.{HaveScale}
-use Rattle.ml_gaps.specs.Strip.{AreStrips, AddsStrip}
+use Rattle.ml_gaps.specs.Strip.{AreStrips}
 use Rattle.ml_gaps.specs.declared.gap.Gap.{Gap}
-use Rattle.ml_gaps.specs.declared.strip.Strip.{Strip}
 use Rattle.ml_gaps.proofs.Choosing.{chosen_none, chosen_more, longest_free, longest_like}
 use Rattle.ml_gaps.proofs.Nears.{nears_none, nears_more}
 use Rattle.ml_gaps.proofs.Strips.{strips_none, strips_more}

@@ -1,10 +1,8 @@
-use Rattle.std.proofs.Common.{◌≡◌, ℕ, ◌<◌, ◌↔◌, List, length, get_or, arith, rules, sym, subst, ◌∙◌, w64, FitsSigned}
+use Rattle.std.proofs.Common.{◌≡◌, ℕ, ◌<◌, List, length, get_or, arith, rules, sym, subst, ◌∙◌, w64, FitsSigned}
 use Rattle.std.proofs.lemmas.Int.{ints, to_z-of_z}
 use Rattle.std.proofs.lemmas.List.{get_or_default}
 use Rattle.ml_cone.specs.declared.label.Label.{Label}
 use Rattle.ml_conflict.specs.declared.axis.Axis.{Axis}
-use Rattle.ml_gaps.specs.Blocked.{IsBlockedBy}
-use Rattle.ml_gaps.specs.Piece.{HaveScale}
 use Rattle.ml_gaps.specs.Strip.{IsStripIn, AreStrips}
 use Rattle.ml_gaps.specs.declared.gap.Gap.{Gap}
 use Rattle.ml_gaps.specs.declared.strip.Strip.{Strip}
