@@ -83,7 +83,8 @@ fn pieces_of(
     let own = Near::of(label, &label.max());
     let coordinate = anchor_on(axis, label);
     let mut pieces = Seq::of_vec(room);
-    for strip in before.strips {
+    for k in 0..before.strips.len() {
+        let strip = &before.strips[k];
         if !strip.is_past(coordinate) {
             let j = strip.place;
             let near = &before.nears[j];

@@ -26,13 +26,13 @@ impl Strip {
     ghost use Rattle.ml_cone.specs.declared.label.Label.{Label};
     ghost use Rattle.ml_conflict.specs.Reach.{Reaches};
     ghost use Rattle.ml_gaps.specs.Near.{IsNearOf};
-    ghost use Rattle.ml_gaps.specs.Strip.{IsStripFor};
+    ghost use Rattle.ml_gaps.specs.Strip.{IsStripAbout};
 
     /// About the label at the place, among labels that reach so many pixels from their anchors on the axis at most.
     pub fn about(label: &Label, place: usize, near: &Near, axis: Axis, reach: u32) -> Strip
         requires { reach ≤ 576 }
         ensures place { result.place ≡ place }
-        ensures far { (a : Label) (until : Fraction) → IsNearOf label.now until near.now → Reaches axis label.now reach → Reaches axis a reach → IsStripFor axis a label.now until result }
+        ensures far { (until : Fraction) → IsNearOf label.now until near.now → IsStripAbout axis reach label.now until result }
     {
         distant_labels();
         Strip {

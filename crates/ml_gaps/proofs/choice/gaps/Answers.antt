@@ -53,5 +53,5 @@ loop-label-preserved c =
       strips = λ m d lt.
           rw c.in_ok-push-2.ensures.ok (
           strips_more axis (slice_index_or labels m d) labels gaps c.loop-label.strips.items (c.loop-label.invariant.strips m d lt) c.longest_of-gap.result a c.about-strip.result c.add_strip.new.strips.items last (c.about-strip.ensures.place ∙ c.len.ensures)
-          (c.about-strip.ensures.far (slice_index_or labels m d) (value_of c.longest_of-gap.result.until) c.of-near.ensures reach_a (c.greatest_reach-reach.ensures.reaches m d lt)) c.in_ok-add_strip.ensures);
+          (c.about-strip.ensures.far (value_of c.longest_of-gap.result.until) c.of-near.ensures (slice_index_or labels m d) reach_a (c.greatest_reach-reach.ensures.reaches m d lt)) c.in_ok-add_strip.ensures);
     }

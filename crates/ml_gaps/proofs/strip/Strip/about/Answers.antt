@@ -22,7 +22,7 @@ no_further x y in' there =
     omega (arith, ints)
 
 pub returns-clause-far : goal.returns-clause-far
-returns-clause-far c a until near reach_b reach_a apart s less =
+returns-clause-far c until near a reach_b reach_a apart s less =
     let b = c.args.label.now in
     let way = unsigned_abs (anchor_on c.args.axis a -ℤ anchor_on c.args.axis b) in
     let low = no_further (anchor_on c.args.axis a) (anchor_on c.args.axis b) (in_world c.args.axis a) (in_world c.args.axis b) in
