@@ -26,7 +26,7 @@ use Rattle.ml_command.specs.Inputs.{most_bytes, HasTable, IsNoTable, IsTableLine
 use Rattle.maplabel.specs.Making.{sample_style, IsSampleRefused}
 use Rattle.ml_command.specs.MapInputs.{HasStyle, IsNoStyle, IsStyleLine, HasMap, IsNoMap, IsMapLine}
 
--- what the laws below say of files: what is accepted is refused for want of memory alone; a table has one reading, and a map file has the same features only
+-- what the laws below say of files: what is accepted is refused only when memory runs out; a table has one reading, and a map file has the same features only
 pub record KnownFiles : Type 0 where
   pub no_table_fault : (bytes : List ℕ) (labels : List Label) (fault : TableFault) → IsTable bytes labels → fault ≢ tables.Memory → ¬ (IsTableFault bytes fault)
   pub one_table : (bytes : List ℕ) (labels others : List Label) → IsTable bytes labels → IsTable bytes others → labels ≡ others
@@ -40,7 +40,7 @@ pub record KnownFiles : Type 0 where
 same_file : (files : FileSet) (name one two : List ℕ) → files name ≡ Some one → files name ≡ Some two → one ≡ two
 same_file files name one two e f = (let both : Some one ≡ Some two = sym e ∙ f in cc)
 
--- there is no line for want of memory
+-- there is no line for out of memory
 table_told : (fault : TableFault) (line : List ℕ) → IsTableLine fault line → fault ≢ tables.Memory
 table_told fault line is e = (let none : IsTableLine tables.Memory line = rw e at is in none)
 

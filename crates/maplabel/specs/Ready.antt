@@ -1,4 +1,4 @@
--- When nothing but want of memory keeps a command from being done.
+-- When nothing but a lack of memory keeps a command from being done.
 use Rattle.std.specs.Prelude.{ℕ, List, Some, ◌⊎◌, ◌≡◌}
 use Rattle.ml_io.specs.Causes.{Rose}
 use Rattle.ml_io.specs.Files.{FileSet}

@@ -69,7 +69,7 @@ pub fn one_totals()
 /// where the input brings the same bytes, on `serve` where the door brings the same links, all of them told.
 ///
 /// They tell their watchers the same changes, or nobody anything. On `serve` both serve as many connections; where
-/// each of them ended by neither a fault nor want of memory, they wrote the same to each.
+/// each of them ended by neither a fault nor a lack of memory, they wrote the same to each.
 pub fn one_run<S, D, I, O, W>()
     ensures printed { (one other : Call S D I O W) (words : List (List ℕ)) → FindAlike one other words →
         IsRun one words Done → IsRun other words Done →

@@ -14,7 +14,7 @@ use std::alloc::Global;
 /// edited.
 ///
 /// # Errors
-/// Want of memory.
+/// Out of memory.
 pub fn totals_of(alloc: Global, groups: u32, seed: u32) -> Result<Seq<u8>, Stop>
     requires some { 1 ≤ groups }
     requires few { groups ≤ 6000 }

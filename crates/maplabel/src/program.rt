@@ -61,7 +61,7 @@ pub fn program<F: Files, S: Source, K: Sink, D: Door, W: Watcher>(
 /// that tells; else nobody.
 ///
 /// # Errors
-/// Want of memory, where the words ask for a command that tells.
+/// Out of memory, where the words ask for a command that tells.
 pub fn watchers_of<E: Sink + Drop>(
     alloc: Global,
     words: &[String],

@@ -21,7 +21,7 @@ pub enum Status {
     WriteFault,
     /// The door failed.
     DoorFault,
-    /// Want of memory.
+    /// Out of memory.
     Memory,
     /// A file is longer than 67,108,864 bytes.
     TooLong,

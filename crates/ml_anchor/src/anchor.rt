@@ -36,7 +36,7 @@ pub fn point_anchor(g: &Geometry) -> Option<Pos>
 /// tie. A ring without height is anchored in the middle of its box. Halves are rounded down.
 ///
 /// # Errors
-/// Want of memory.
+/// Out of memory.
 pub fn area_anchor(alloc: Global, g: &Geometry) -> Result<Option<Pos>, AllocError>
     requires { IsGeometry g.now }
     ensures { IfOk result (IsAreaAnchor g.now) }

@@ -59,7 +59,7 @@ fn add_crossings(found: &mut Vec<i64>, h: i64, ring: &[Pos]) -> Result<(), Alloc
 /// Where the rings cross the line at half the height `h`, in the order of their edges.
 ///
 /// # Errors
-/// Want of memory.
+/// Out of memory.
 pub fn crossings(alloc: Global, h: i64, rings: &[Seq<Pos>]) -> Result<Vec<i64>, AllocError>
     ensures { IfOk result (λ found. found.items ≡ crossings h rings.now) }
 {

@@ -26,7 +26,7 @@ pub(crate) fn written<T: Serialize>(alloc: Global, value: &T) -> Result<Vec<u8>,
 {
     match serde_json::to_vec(alloc, value) {
         Ok(text) => Ok(text),
-        // of text and whole numbers nothing is refused but for want of memory
+        // of text and whole numbers nothing is refused unless memory runs out
         Err(_) => Err(AllocError),
     }
 }

@@ -16,7 +16,7 @@ use std::alloc::{AllocError, Global};
 /// `{"changes":[{"after":["0/1","1000/1"],"before":null,"id":"A"}],"rev":1}`, with no end of line.
 ///
 /// # Errors
-/// Want of memory.
+/// Out of memory.
 pub fn edit_json(alloc: Global, rev: u64, changes: &Seq<Change>) -> Result<Seq<u8>, AllocError>
     ensures { IfOk result (λ text. text ≡ edit_text rev changes.now) }
 {
@@ -28,7 +28,7 @@ pub fn edit_json(alloc: Global, rev: u64, changes: &Seq<Change>) -> Result<Seq<u
 /// `{"features":0,"labels":0,"rev":0}`, with no end of line.
 ///
 /// # Errors
-/// Want of memory.
+/// Out of memory.
 pub fn rev_json(
     alloc: Global,
     rev: u64,

@@ -16,7 +16,7 @@ use std::alloc::{AllocError, Global};
 /// fault of a feature is told without the number of the feature, since a body holds one alone.
 ///
 /// # Errors
-/// Want of memory.
+/// Out of memory.
 pub fn fault_json(alloc: Global, fault: &EditFault) -> Result<Seq<u8>, AllocError>
     ensures { IfOk result (λ text. text ≡ fault_text fault.now) }
 {

@@ -47,7 +47,7 @@ fn shown(alloc: Global, editor: &Editor, view: &View) -> Result<Seq<u32>, AllocE
 /// The text of a view of the map as JSON.
 ///
 /// # Errors
-/// Want of memory.
+/// Out of memory.
 pub fn view_json(alloc: Global, editor: &Editor, view: &View) -> Result<Seq<u8>, AllocError>
     ensures { IfOk result (λ text. IsViewText json_body editor.now.state view.now text) }
 {
@@ -71,7 +71,7 @@ fn add_json(json: &mut JsonView, editor: &Editor, number: u32) -> Result<(), All
 /// The text of a view of the map as SVG.
 ///
 /// # Errors
-/// Want of memory.
+/// Out of memory.
 pub fn view_svg(alloc: Global, editor: &Editor, view: &View) -> Result<Seq<u8>, AllocError>
     ensures { IfOk result (λ text. IsViewText svg_body editor.now.state view.now text) }
 {

@@ -8,7 +8,7 @@ use std::alloc::{AllocError, Global};
 /// The text of `v` hundredths with two decimals: `123.45` for 12345, `0.05` for 5, `-0.50` for -50.
 ///
 /// # Errors
-/// Want of memory.
+/// Out of memory.
 #[tactic(auto, unfolding(crate::specs::Px::px_text))]
 pub fn write_px(alloc: Global, v: i64) -> Result<Text, AllocError>
     ensures { IfOk result (λ text. text ≡ px_text v) }

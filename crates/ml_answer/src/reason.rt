@@ -13,7 +13,7 @@ use std::alloc::{AllocError, Global};
 /// `{"id":"A","reason":"NoGeometry"}`, with no end of line.
 ///
 /// # Errors
-/// Want of memory.
+/// Out of memory.
 pub fn reason_json(alloc: Global, id: &Text, reason: Reason) -> Result<Seq<u8>, AllocError>
     ensures { IfOk result (λ text. text ≡ reason_text id.now reason) }
 {

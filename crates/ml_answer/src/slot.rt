@@ -18,7 +18,7 @@ use std::alloc::{AllocError, Global};
 /// there; with none it is written `null`.
 ///
 /// # Errors
-/// Want of memory.
+/// Out of memory.
 pub fn slot_json(
     alloc: Global,
     label: &Label,

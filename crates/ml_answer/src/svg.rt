@@ -31,7 +31,7 @@ impl SvgView {
     /// A drawing of this view with no label yet.
     ///
     /// # Errors
-    /// Want of memory.
+    /// Out of memory.
     pub fn new(alloc: Global, view: &View) -> Result<SvgView, AllocError>
         ensures { IfOk result (λ svg. svg ≡ record { view = view.now; text = head_line view.now.w view.now.h }) }
     {
@@ -45,7 +45,7 @@ impl SvgView {
     /// Adds a label behind those that were added before.
     ///
     /// # Errors
-    /// Want of memory, which leaves the drawing as it was.
+    /// Out of memory, which leaves the drawing as it was.
     pub fn add(&mut self, label: &Label) -> Result<(), AllocError>
         ensures ok { OnOk result
             (self.new ≡ record { view = self.old.view; text = self.old.text ++ label_lines self.old.view label.now }) }
@@ -66,7 +66,7 @@ impl SvgView {
     /// pixels.
     ///
     /// # Errors
-    /// Want of memory.
+    /// Out of memory.
     pub fn finish(self) -> Result<Seq<u8>, AllocError>
         ensures ok { IfOk result (λ text. text ≡ self.text ++ last_line) }
         ensures whole { IfOk result (λ text. (labels : List Label) →

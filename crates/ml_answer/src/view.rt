@@ -39,7 +39,7 @@ impl JsonView {
     /// A view at this scale, in world units a pixel, that shows no label yet.
     ///
     /// # Errors
-    /// Want of memory.
+    /// Out of memory.
     pub fn new(alloc: Global, scale: Ratio) -> Result<JsonView, AllocError>
         ensures { IfOk result (λ view. view ≡ no_label scale) }
     {
@@ -56,7 +56,7 @@ impl JsonView {
     /// any more.
     ///
     /// # Errors
-    /// Want of memory, which leaves the view as it was.
+    /// Out of memory, which leaves the view as it was.
     pub fn add(&mut self, label: &Label, until: Ratio) -> Result<(), AllocError>
         ensures ok { OnOk result (self.new ≡ with_label self.old label.now until) }
         ensures err { OnErr result (self.new ≡ self.old) }
@@ -72,7 +72,7 @@ impl JsonView {
     /// `{"labels":[{"at":[0,0],"boxes":[[-10,-5,10,5]],"id":"A","text":"A","until":"20/1"}],"scale":"19/1"}`.
     ///
     /// # Errors
-    /// Want of memory.
+    /// Out of memory.
     pub fn finish(self) -> Result<Seq<u8>, AllocError>
         ensures ok { IfOk result (λ text. text ≡ self.text ++ view_end self.scale) }
         ensures whole { IfOk result (λ text. (scale : Ratio) (labels : List Shown) →

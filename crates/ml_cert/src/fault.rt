@@ -11,7 +11,7 @@ pub enum SlotsFault {
     /// The line with this number is the first at fault; all lines are counted, from 1.
     #[error("line {0} is at fault")]
     BadLine(usize),
-    /// Want of memory.
+    /// Out of memory.
     #[error("out of memory")]
     Memory,
 }

@@ -10,7 +10,7 @@ use std::collections::BTreeMap;
 /// The place of each label by its id.
 ///
 /// # Errors
-/// Want of memory.
+/// Out of memory.
 pub fn places_of<'a>(
     alloc: Global,
     labels: &'a [Label],

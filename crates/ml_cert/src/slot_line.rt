@@ -16,7 +16,7 @@ use std::collections::BTreeMap;
 /// None where the line is no such text.
 ///
 /// # Errors
-/// Want of memory.
+/// Out of memory.
 pub fn read_line<'a>(
     alloc: Global,
     labels: &[Label],

@@ -39,7 +39,7 @@ AreFaultPlaces ids (Stale held) = Unit {0}
 AreFaultPlaces ids (NotBest verdict) = AreItsPlaces ids verdict
 AreFaultPlaces ids Memory = Unit {0}
 
--- the line of a state with this revision and these ids that was not adopted; there is none for want of memory
+-- the line of a state with this revision and these ids that was not adopted; there is none for out of memory
 abbrev pub IsFaultLine : ℕ → List (List ℕ) → OfferFault → List ℕ → Type 0
 IsFaultLine rev ids (Stale held) line = line ≡ stale_line rev held
 IsFaultLine rev ids (NotBest verdict) line = line ≡ refused_line rev ids verdict

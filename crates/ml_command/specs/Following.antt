@@ -119,7 +119,7 @@ pub record IsFollowed {W : Type 0} (hearing : W → Hearing) (states : List Stat
 abbrev pub HasStates : Option FileSet → List ℕ → List State → Type 0
 HasStates told name states = (bytes : List ℕ) × IsLoaded told name most_bytes bytes × AreStates bytes states
 
--- the line that says why a file of states is refused; there is none for want of memory
+-- the line that says why a file of states is refused; there is none for out of memory
 abbrev pub IsStatesLine : StateFault → List ℕ → Type 0
 IsStatesLine (state_fault.BadState k) line = line ≡ codes "states refused: 1 BadState " ++ (decimal k ++ codes "\n")
 IsStatesLine state_fault.Memory line = ⊥

@@ -45,7 +45,7 @@ IsNoLine line = ⊥
 abbrev pub IsLoadStop : Seen → List ℕ → Stop → Type 0
 IsLoadStop seen name s = IsReadStop IsNoLine IsNoLine seen name s
 
--- the stop tells a refused input by this line, or want of memory
+-- the stop tells a refused input by this line, or out of memory
 abbrev pub IsInputRefusal : (List ℕ → Type 0) → Stop → Type 0
 IsInputRefusal IsLine (stop.StyleRefused line) = ⊥
 IsInputRefusal IsLine (stop.InputRefused line) = IsLine line
@@ -57,7 +57,7 @@ IsInputRefusal IsLine stop.Memory = Unit {0}
 abbrev pub HasTable : Option FileSet → List ℕ → List Label → Type 0
 HasTable told name labels = (bytes : List ℕ) × IsLoaded told name most_bytes bytes × IsTable bytes labels
 
--- the line that says why a table is refused; there is none for want of memory
+-- the line that says why a table is refused; there is none for out of memory
 abbrev pub IsTableLine : TableFault → List ℕ → Type 0
 IsTableLine (BadLine k) line = line ≡ codes "table refused: 1 BadLine " ++ (decimal k ++ codes "\n")
 IsTableLine (SameId k) line = line ≡ codes "table refused: 2 SameId " ++ (decimal k ++ codes "\n")
@@ -77,7 +77,7 @@ IsTableStop seen name s = IsReadStop IsNoLine (IsNoTable seen.told name) seen na
 abbrev pub HasSlots : Option FileSet → List Label → List ℕ → List Slot → Type 0
 HasSlots told labels name slots = (bytes : List ℕ) × IsLoaded told name most_bytes bytes × AreSlotLines labels bytes slots
 
--- the line that says why slots are refused; there is none for want of memory
+-- the line that says why slots are refused; there is none for out of memory
 abbrev pub IsSlotsLine : SlotsFault → List ℕ → Type 0
 IsSlotsLine (slots_fault.BadLine k) line = line ≡ codes "slots refused: 1 BadLine " ++ (decimal k ++ codes "\n")
 IsSlotsLine slots_fault.Memory line = ⊥

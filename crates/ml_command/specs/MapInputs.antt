@@ -19,7 +19,7 @@ use Rattle.ml_command.specs.declared.stop.Stop.TheVariants as stop
 abbrev pub HasStyle : Option FileSet → List ℕ → Style → Type 0
 HasStyle told name style = (bytes : List ℕ) × IsLoaded told name most_bytes bytes × IsStyle bytes style
 
--- the line that says why a style is refused; there is none for want of memory
+-- the line that says why a style is refused; there is none for out of memory
 abbrev pub IsStyleLine : StyleFault → List ℕ → Type 0
 IsStyleLine NotToml line = line ≡ codes "style refused: 1 NotToml\n"
 IsStyleLine Version line = line ≡ codes "style refused: 2 Version\n"
@@ -29,7 +29,7 @@ IsStyleLine (UnknownFont k) line = line ≡ codes "style refused: 5 UnknownFont 
 IsStyleLine (EmptyRange k) line = line ≡ codes "style refused: 6 EmptyRange " ++ (decimal k ++ codes "\n")
 IsStyleLine Memory line = ⊥
 
--- the stop tells a style's fault by its line, or want of memory
+-- the stop tells a style's fault by its line, or out of memory
 abbrev pub IsStyleRefusal : StyleFault → Stop → Type 0
 IsStyleRefusal fault (stop.StyleRefused line) = IsStyleLine fault line
 IsStyleRefusal fault (stop.InputRefused line) = ⊥
@@ -51,7 +51,7 @@ abbrev pub HasMap : Option FileSet → List ℕ → List Feature → Type 0
 HasMap told name features =
     (bytes : List ℕ) × IsLoaded told name most_bytes bytes × IsMap bytes features × (length features ≤ most_labels)
 
--- the line that says why a map is refused; there is none for want of memory
+-- the line that says why a map is refused; there is none for out of memory
 abbrev pub IsMapLine : GeoFault → List ℕ → Type 0
 IsMapLine (map_fault.NotJson at) line = line ≡ codes "map refused: 1 NotJson " ++ (decimal at ++ codes "\n")
 IsMapLine (map_fault.Deep at) line = line ≡ codes "map refused: 2 Deep " ++ (decimal at ++ codes "\n")

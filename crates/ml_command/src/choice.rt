@@ -13,7 +13,7 @@ use std::alloc::{AllocError, Global};
 /// The line of the view of labels, each active as their longest choice says.
 ///
 /// # Errors
-/// Want of memory.
+/// Out of memory.
 pub fn line_of(alloc: Global, labels: &[Label], view: &View) -> Result<Seq<u8>, AllocError>
     requires few { length labels.now ≤ most_labels }
     ensures { IfOk result (IsViewOf labels.now view.now) }
@@ -32,7 +32,7 @@ pub fn line_of(alloc: Global, labels: &[Label], view: &View) -> Result<Seq<u8>, 
 /// The ends of labels in their longest choice, with the blockers, a line each.
 ///
 /// # Errors
-/// Want of memory.
+/// Out of memory.
 pub fn slots_of(alloc: Global, labels: &[Label]) -> Result<Seq<u8>, AllocError>
     requires few { length labels.now ≤ most_labels }
     ensures { IfOk result (IsSlotsOf labels.now) }

@@ -14,7 +14,7 @@ use std::alloc::{AllocError, Global};
 /// The ids of labels, as they stand in lines.
 ///
 /// # Errors
-/// Want of memory.
+/// Out of memory.
 pub fn spelled_ids(alloc: Global, labels: &[Label]) -> Result<Seq<Seq<u8>>, AllocError>
     ensures { IfOk result (λ ids. ids ≡ spelled_ids labels.now) }
 {
@@ -28,7 +28,7 @@ pub fn spelled_ids(alloc: Global, labels: &[Label]) -> Result<Seq<Seq<u8>>, Allo
 /// The line of a state that was adopted: its revision, and how many labels it has.
 ///
 /// # Errors
-/// Want of memory.
+/// Out of memory.
 pub fn adopted_line(alloc: Global, rev: u64, count: usize) -> Result<Vec<u8>, AllocError>
     ensures { IfOk result (λ line. line.items ≡ adopted_line rev count) }
 {
@@ -38,7 +38,7 @@ pub fn adopted_line(alloc: Global, rev: u64, count: usize) -> Result<Vec<u8>, Al
 /// The line of a state with this revision and these ids that was not adopted.
 ///
 /// # Errors
-/// Want of memory, which may be the fault itself.
+/// Out of memory, which may be the fault itself.
 pub fn fault_line(
     alloc: Global,
     rev: u64,
@@ -124,7 +124,7 @@ fn push_clash(line: &mut Vec<u8>, id: &[u8], earlier: &[u8], limit: Ratio) -> Re
 /// The line of what is held: its revision and how many labels it has, or that nothing is.
 ///
 /// # Errors
-/// Want of memory.
+/// Out of memory.
 pub fn held_line(alloc: Global, follower: &Follower) -> Result<Vec<u8>, AllocError>
     ensures { IfOk result (λ line. line.items ≡ held_line follower.now) }
 {

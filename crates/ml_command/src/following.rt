@@ -28,7 +28,7 @@ pub enum FollowEnd {
     NotAdopted,
     /// Not all could be printed.
     WriteFault,
-    /// Want of memory.
+    /// Out of memory.
     Memory,
 }
 
@@ -44,7 +44,7 @@ pub struct Answer {
 /// What ends following before all states were offered and all lines printed.
 #[derive(Clone, Copy, Debug, PartialEq, Eq)]
 pub enum Halt {
-    /// Want of memory.
+    /// Out of memory.
     Memory,
     /// Not all could be printed.
     WriteFault,

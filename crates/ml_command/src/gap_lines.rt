@@ -12,7 +12,7 @@ use std::alloc::{AllocError, Global};
 /// The longest free gaps of labels, a line each: the id, where the gap begins and where it ends.
 ///
 /// # Errors
-/// Want of memory.
+/// Out of memory.
 pub fn gaps_of(alloc: Global, labels: &[Label]) -> Result<Seq<u8>, AllocError>
     ensures { IfOk result (IsGapsOf labels.now) }
 {
@@ -23,7 +23,7 @@ pub fn gaps_of(alloc: Global, labels: &[Label]) -> Result<Seq<u8>, AllocError>
 /// The line of the view of labels, each active under its longest free gap.
 ///
 /// # Errors
-/// Want of memory.
+/// Out of memory.
 pub fn gap_line_of(alloc: Global, labels: &[Label], view: &View) -> Result<Seq<u8>, AllocError>
     requires few { length labels.now ≤ most_labels }
     ensures { IfOk result (IsGapViewOf labels.now view.now) }

@@ -24,7 +24,7 @@ pub type Site = (Editor, Tiles);
 /// of which none is held yet.
 ///
 /// # Errors
-/// As [`load_style`] and then [`load_map`]; want of memory.
+/// As [`load_style`] and then [`load_map`]; out of memory.
 pub fn load_editor<F: Files>(
     alloc: Global,
     files: &mut F,

@@ -17,7 +17,7 @@ use std::mem::forget;
 /// choice says.
 ///
 /// # Errors
-/// Want of memory.
+/// Out of memory.
 pub fn map_line(
     alloc: Global,
     style: Style,

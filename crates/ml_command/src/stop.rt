@@ -16,7 +16,7 @@ pub enum Stop {
     FileFault,
     /// The file that is due is too long.
     TooLong,
-    /// Want of memory.
+    /// Out of memory.
     Memory,
 }
 

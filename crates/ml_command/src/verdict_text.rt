@@ -10,7 +10,7 @@ use std::alloc::{AllocError, Global};
 /// The line of a verdict on slots of these labels.
 ///
 /// # Errors
-/// Want of memory.
+/// Out of memory.
 pub fn verdict_line(alloc: Global, labels: &[Label], verdict: Verdict) -> Result<String, AllocError>
     requires { AreItsPlaces labels.now verdict }
     ensures { IfOk result (λ line. string_bytes line ≡ verdict_line (ids labels.now) verdict) }

@@ -12,7 +12,7 @@ use std::alloc::{AllocError, Global};
 /// The line of a view that shows the labels at these places, at this scale in world units a pixel.
 ///
 /// # Errors
-/// Want of memory.
+/// Out of memory.
 pub fn view_line(
     alloc: Global,
     labels: &[Label],

@@ -20,7 +20,7 @@ use std::alloc::{AllocError, Global};
 /// labels that are shown at one scale.
 ///
 /// # Errors
-/// Want of memory.
+/// Out of memory.
 pub fn zoom_of(alloc: Global, labels: &[Label], window: &Window) -> Result<Seq<u8>, AllocError>
     requires few { length labels.now ≤ most_labels }
     ensures { IfOk result (IsZoomOf labels.now window.now) }

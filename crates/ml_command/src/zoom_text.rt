@@ -12,7 +12,7 @@ use std::alloc::{AllocError, Global};
 /// `peak 3 after 40/3`.
 ///
 /// # Errors
-/// Want of memory.
+/// Out of memory.
 pub fn zoom_text(
     alloc: Global,
     labels: &[Label],

@@ -73,7 +73,7 @@ impl Field {
     /// Strips for all labels of the list. They hold none yet.
     ///
     /// # Errors
-    /// Want of memory.
+    /// Out of memory.
     pub fn of(alloc: Global, labels: &[Label]) -> Result<Field, AllocError>
         ensures good { IfOk result (λ field. AreStrips labels.now field.strips.items) }
         ensures some { IfOk result (λ field. 0 < length labels.now → 0 < length field.strips.items) }
@@ -102,7 +102,7 @@ impl Field {
     /// Puts the label of the spot into the strip in which it lies.
     ///
     /// # Errors
-    /// Want of memory.
+    /// Out of memory.
     pub fn put(&mut self, labels: &[Label], spot: Spot) -> Result<(), AllocError>
         requires good { AreStrips labels.now self.old.strips.items }
         requires some { 0 < length self.old.strips.items }

@@ -124,7 +124,7 @@ fn changes_at(
 /// The changes between two engines, each of whose labels has the id of a feature, in byte order of ids.
 ///
 /// # Errors
-/// Want of memory.
+/// Out of memory.
 pub(crate) fn changes_between(
     alloc: Global,
     features: &[Feature],

@@ -55,7 +55,7 @@ impl Editor {
     /// have the same id.
     ///
     /// # Errors
-    /// [`LoadRefused::Full`] exactly where there are more than 32,768 features; want of memory.
+    /// [`LoadRefused::Full`] exactly where there are more than 32,768 features; out of memory.
     pub fn load(alloc: Global, style: Style, features: Seq<Feature>) -> Result<Editor, LoadRefused>
         requires differ { HaveDifferentIds features }
         ensures ok { IfOk result (λ editor. editor.state ≡ first_state style features) }
@@ -121,7 +121,7 @@ impl Editor {
     /// near the view.
     ///
     /// # Errors
-    /// Want of memory.
+    /// Out of memory.
     pub fn shown<L: Ledger>(
         &self,
         alloc: Global,
@@ -158,7 +158,7 @@ impl Editor {
     /// The canonical text of the features, as a collection of them in their order.
     ///
     /// # Errors
-    /// Want of memory.
+    /// Out of memory.
     pub fn export(&self, alloc: Global) -> Result<Seq<u8>, AllocError>
         ensures ok { IfOk result (λ text. text ≡ collection_text self.now.state.features) }
         ensures back { IfOk result (λ text. IsMap text self.now.state.features) }
@@ -190,7 +190,7 @@ impl Editor {
     /// The numbers of all labels in priority order.
     ///
     /// # Errors
-    /// Want of memory.
+    /// Out of memory.
     pub fn in_order(&self, alloc: Global) -> Result<Seq<u32>, AllocError>
         ensures numbers { IfOk result (λ numbers. numbers ≡ numbers_in self.now.engine.rows) }
         ensures live { IfOk result (λ numbers. All (IsLive self.now.engine.rows) numbers) }

@@ -15,7 +15,7 @@ pub enum LoadRefused {
     /// There are more than 32,768 features.
     #[error("more than 32768 features")]
     Full,
-    /// Want of memory.
+    /// Out of memory.
     #[error("out of memory")]
     Memory,
 }
@@ -45,7 +45,7 @@ pub enum EditFault {
     /// The revision is the last one, 2^53.
     #[error("the revision is the last")]
     RevEnd,
-    /// Want of memory.
+    /// Out of memory.
     #[error("out of memory")]
     Memory,
 }

@@ -64,7 +64,7 @@ impl Features {
     /// These features, in this order. No two may have the same id.
     ///
     /// # Errors
-    /// Want of memory.
+    /// Out of memory.
     pub fn of(alloc: Global, features: Seq<Feature>) -> Result<Features, AllocError>
         requires { HaveDifferentIds features }
         ensures { IfOk result (λ kept. kept.list ≡ features) }
@@ -81,7 +81,7 @@ impl Features {
     /// The features again, in their order.
     ///
     /// # Errors
-    /// Want of memory.
+    /// Out of memory.
     pub fn copy(&self, alloc: Global) -> Result<Seq<Feature>, AllocError>
         ensures { IfOk result (λ features. features ≡ self.now.list) }
     {
@@ -117,7 +117,7 @@ impl Features {
     /// Takes the room for one more.
     ///
     /// # Errors
-    /// Want of memory; also where all numbers were given.
+    /// Out of memory; also where all numbers were given.
     pub fn reserve(&mut self) -> Result<(), AllocError>
         ensures ok { OnOk result (0 < self.new.room) }
         ensures same { self.new.list ≡ self.old.list }

@@ -18,7 +18,7 @@ use std::alloc::{AllocError, Global};
 /// what lies between it and the next one. It takes time n log n in the number of stays.
 ///
 /// # Errors
-/// Want of memory.
+/// Out of memory.
 pub fn peak(alloc: Global, all: &Seq<Seq<Stay>>) -> Result<Peak, AllocError>
     requires few { length all.now ≤ most_labels }
     requires apart { All AreApart all.now }

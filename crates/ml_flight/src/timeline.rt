@@ -19,7 +19,7 @@ use std::alloc::{AllocError, Global};
 /// open rectangle that meets the window's; a scale may be of any size above 0.
 ///
 /// # Errors
-/// Want of memory.
+/// Out of memory.
 pub fn stays(
     alloc: Global,
     label: &Label,

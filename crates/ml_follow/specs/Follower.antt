@@ -50,7 +50,7 @@ pub record IsDue (held : Option State) (state : State) : Type 0 where
   pub new : ¬ (IsStale held state.rev)
   pub best : IsBest state
 
--- what each refusal says of the state that was offered; want of memory says nothing
+-- what each refusal says of the state that was offered; out of memory says nothing
 abbrev pub IsOfferFault : Option State → State → OfferFault → Type 0
 IsOfferFault held state (Stale now) = IsStaleBy held state.rev now
 IsOfferFault held state (NotBest verdict) = ¬ (IsStale held state.rev) × ¬ (IsBest state) × IsVerdict state.labels state.slots verdict

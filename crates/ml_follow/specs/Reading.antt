@@ -153,7 +153,7 @@ pub record IsTaken (line : List ℕ) (before : List State) (last : Option Opened
   pub grown : IsGrown line last opened
   pub closed : IsClosed opened before after next
 
--- why a line is not taken, with the number k; want of memory says nothing
+-- why a line is not taken, with the number k; out of memory says nothing
 abbrev pub IsLineFault : List ℕ → Option Opened → ℕ → StateFault → Type 0
 IsLineFault line last k (BadState n) = (n ≡ k) × IsFaulty line (unfinished last)
 IsLineFault line last k Memory = Unit {0}

@@ -89,7 +89,7 @@ pub record IsCutShort (bytes : List ℕ) (k : ℕ) : Type 0 where
   pub before : WriteUpTo (ended_lines bytes) states last
   pub cut : (unended bytes ≢ []) ⊎ (last ≢ None)
 
--- what each refusal says of the file; want of memory says nothing
+-- what each refusal says of the file; out of memory says nothing
 abbrev pub IsStatesFault : List ℕ → StateFault → Type 0
 IsStatesFault bytes (BadState k) = IsFaultyLine bytes k ⊎ IsCutShort bytes k
 IsStatesFault bytes Memory = Unit {0}

@@ -188,7 +188,7 @@ fn changes_of_all<'a>(
 /// The changes from labels with their slots to others, in byte order of ids.
 ///
 /// # Errors
-/// Want of memory.
+/// Out of memory.
 pub fn changes_between(
     alloc: Global,
     labels: &[Label],

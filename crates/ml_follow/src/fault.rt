@@ -12,7 +12,7 @@ pub enum StateFault {
     /// counted, from 1.
     #[error("line {0} is at fault")]
     BadState(usize),
-    /// Want of memory.
+    /// Out of memory.
     #[error("out of memory")]
     Memory,
 }
@@ -48,7 +48,7 @@ pub enum OfferFault {
     /// Its slots are not the longest choice with its blockers; what is wrong with them.
     #[error("not the longest choice")]
     NotBest(Verdict),
-    /// Want of memory.
+    /// Out of memory.
     #[error("out of memory")]
     Memory,
 }

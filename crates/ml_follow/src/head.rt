@@ -17,7 +17,7 @@ const LAST_REVISION: u64 = 9_007_199_254_740_992;
 /// begins none.
 ///
 /// # Errors
-/// Want of memory.
+/// Out of memory.
 pub fn opened_by(alloc: Global, line: &[u8]) -> Result<Option<Opened>, AllocError>
     ensures { IfOk result (λ answer. IsBegunAnswer line.now answer) }
 {

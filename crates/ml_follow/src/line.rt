@@ -10,7 +10,7 @@ use std::alloc::{AllocError, Global};
 /// The first line: the revision and the number of labels.
 ///
 /// # Errors
-/// Want of memory.
+/// Out of memory.
 pub fn head_line(alloc: Global, rev: u64, count: u32) -> Result<String, AllocError>
     ensures { IfOk result (λ line. string_bytes line ≡ spec_head_line rev count) }
 {
@@ -20,7 +20,7 @@ pub fn head_line(alloc: Global, rev: u64, count: u32) -> Result<String, AllocErr
 /// The line of a label with its slot.
 ///
 /// # Errors
-/// Want of memory.
+/// Out of memory.
 pub fn row_line(alloc: Global, label: &Label, slot: Slot) -> Result<Vec<u8>, AllocError>
     ensures { IfOk result (λ line. line.items ≡ spec_row_line label.now slot) }
 {

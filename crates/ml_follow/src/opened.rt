@@ -23,7 +23,7 @@ pub struct Opened {
 /// not that of the next label, or repeats an id.
 ///
 /// # Errors
-/// Want of memory.
+/// Out of memory.
 pub fn with_row(alloc: Global, opened: Opened, line: &[u8]) -> Result<Option<Opened>, AllocError>
     requires opened { IsOpened opened }
     requires wanting { length opened.state.labels < opened.count }

@@ -21,7 +21,7 @@ use std::alloc::{AllocError, Global};
 /// None where the line is no such text.
 ///
 /// # Errors
-/// Want of memory.
+/// Out of memory.
 pub fn read_row(
     alloc: Global,
     line: &[u8],

@@ -31,7 +31,7 @@ impl StateText {
     /// The text of this revision's state before its labels come, of which there are to be `count`.
     ///
     /// # Errors
-    /// Want of memory.
+    /// Out of memory.
     pub fn new(alloc: Global, rev: u64, count: u32) -> Result<StateText, AllocError>
         ensures head { IfOk result (λ text. text ≡ spec_head_line rev count) }
         ensures begun { IfOk result (λ text. text ≡ begun_text rev count [] []) }
@@ -45,7 +45,7 @@ impl StateText {
     /// Adds a label behind those that were added before, with its end and the place of its blocker.
     ///
     /// # Errors
-    /// Want of memory, which leaves the text as it was.
+    /// Out of memory, which leaves the text as it was.
     pub fn add(
         &mut self,
         label: &Label,
@@ -72,7 +72,7 @@ impl StateText {
     /// empty id is `%`. Fractions are in lowest terms, BLOCKER is a place, counted from 0, or `-`.
     ///
     /// # Errors
-    /// Want of memory.
+    /// Out of memory.
     pub fn finish(self) -> Result<Seq<u8>, AllocError>
         ensures ok { IfOk result (λ text. text ≡ self) }
         ensures whole { IfOk result (λ text. (rev : ℕ) (labels : List Label) (slots : List Slot) →

@@ -22,7 +22,7 @@ use std::alloc::AllocError;
 /// which it does, and of the others none.
 ///
 /// # Errors
-/// Want of memory; the pieces of a first part of the pairs of boxes were appended.
+/// Out of memory; the pieces of a first part of the pairs of boxes were appended.
 pub fn blocked(low: &Label, high: &Label, gap: &Gap, out: &mut Seq<Piece>) -> Result<(), AllocError>
     ensures ok { OnOk result (AddsPieces (IsBlocked low.now high.now gap.now) (IsPairPiece low.now high.now gap.now)
         (length low.now.boxes * length high.now.boxes) out.old out.new) }

@@ -28,7 +28,7 @@ use std::alloc::{AllocError, Global};
 /// begins and ends there.
 ///
 /// # Errors
-/// Want of memory.
+/// Out of memory.
 pub fn gaps(alloc: Global, labels: &[Label]) -> Result<Seq<Gap>, AllocError>
     ensures { IfOk result (AreGaps labels.now) }
 {

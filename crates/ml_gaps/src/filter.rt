@@ -14,7 +14,7 @@ use std::alloc::{AllocError, Global};
 /// which a box meets its window.
 ///
 /// # Errors
-/// Want of memory.
+/// Out of memory.
 pub fn shown_gaps(
     alloc: Global,
     labels: &[Label],

@@ -17,7 +17,7 @@ use std::sync::ledger::{Blank, Ledger};
 /// has in the end, and what its edits came to.
 ///
 /// # Errors
-/// Want of memory.
+/// Out of memory.
 pub fn make_totals(
     alloc: Global,
     style: Style,

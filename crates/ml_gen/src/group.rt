@@ -50,7 +50,7 @@ fn placed_group(number: u32, z: u64) -> Group
 /// The groups of a map of so many, in order.
 ///
 /// # Errors
-/// Want of memory.
+/// Out of memory.
 pub fn groups_of(alloc: Global, count: u32, seed: u32) -> Result<Vec<Group>, AllocError>
     requires { count ≤ MOST_GROUPS }
     ensures groups { IfOk result (λ groups. groups.items ≡ groups_in count seed) }
@@ -82,7 +82,7 @@ fn group_at(groups: &[Group], turn: usize, seed: u32) -> Group
 /// The groups in the order in which they are edited.
 ///
 /// # Errors
-/// Want of memory.
+/// Out of memory.
 pub fn order_of(alloc: Global, groups: &[Group], seed: u32) -> Result<Vec<Group>, AllocError>
     requires all { groups.now ≡ groups_in (length groups.now) seed }
     requires placed { All IsGroupPlace groups.now }

@@ -46,7 +46,7 @@ fn read_map(alloc: Global, groups: &[Group]) -> Result<Seq<Feature>, AllocError>
 /// The map of groups under a style, read from its own text.
 ///
 /// # Errors
-/// Want of memory.
+/// Out of memory.
 pub(crate) fn load_generated(
     alloc: Global,
     style: Style,

@@ -14,7 +14,7 @@ use std::alloc::{AllocError, Global};
 /// The id of a group's feature: `g`, the number of the group, and a letter.
 ///
 /// # Errors
-/// Want of memory.
+/// Out of memory.
 pub fn id_of(alloc: Global, group: &Group, letter: &str) -> Result<Text, AllocError>
     ensures { IfOk result (λ id. id ≡ group_id group.now letter.now) }
 {
@@ -111,7 +111,7 @@ fn town(
 /// The first town of a group, which is edited.
 ///
 /// # Errors
-/// Want of memory.
+/// Out of memory.
 #[tactic(auto, using(crate::proofs::Props::digit))]
 pub fn first_town(alloc: Global, group: &Group) -> Result<Feature, AllocError>
     requires { IsGroupPlace group.now }
@@ -195,7 +195,7 @@ fn push_things(alloc: Global, group: &Group, features: &mut Seq<Feature>) -> Res
 /// The features of groups, group by group.
 ///
 /// # Errors
-/// Want of memory.
+/// Out of memory.
 pub fn things_of(alloc: Global, groups: &[Group]) -> Result<Seq<Feature>, AllocError>
     requires { All IsGroupPlace groups.now }
     ensures { IfOk result (λ features. mapped thing_of features ≡ flat_map things_in groups.now) }

@@ -44,7 +44,7 @@ pub(crate) fn totals_of(editor: &Editor, groups: u32, each: &[Counts]) -> Totals
 /// rev 40`, with a line feed behind it.
 ///
 /// # Errors
-/// Want of memory.
+/// Out of memory.
 pub fn totals_line(alloc: Global, totals: &Totals) -> Result<Seq<u8>, AllocError>
     ensures { IfOk result (λ line. line ≡ totals_text totals.now) }
 {

@@ -91,7 +91,7 @@ fn carry_out<L: Ledger>(
 /// The first town of a group goes.
 ///
 /// # Errors
-/// Want of memory.
+/// Out of memory.
 pub(crate) fn take_out<L: Ledger>(
     alloc: Global,
     editor: &mut Editor,
@@ -116,7 +116,7 @@ pub(crate) fn take_out<L: Ledger>(
 /// The first town of a group comes again.
 ///
 /// # Errors
-/// Want of memory.
+/// Out of memory.
 pub(crate) fn put_back<L: Ledger>(
     alloc: Global,
     editor: &mut Editor,

@@ -62,7 +62,7 @@ fn put_all_back<L: Ledger>(
 /// again.
 ///
 /// # Errors
-/// Want of memory.
+/// Out of memory.
 pub(crate) fn edit_all<L: Ledger>(
     alloc: Global,
     editor: &mut Editor,

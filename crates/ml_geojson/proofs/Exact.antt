@@ -18,7 +18,7 @@ use Rattle.ml_geojson.specs.declared.fault.GeoFault.{GeoFault}
 use Rattle.ml_geojson.specs.declared.fault.GeoFault.TheVariants.{NotJson, Deep, NotCollection, NotFeature, BadGeometry, OutOfRange, ShortRing, NoId, Memory}
 use Rattle.ml_geojson.proofs.SameLemmas.{same_made, same_features}
 
--- the answer is this fault, or want of memory
+-- the answer is this fault, or out of memory
 abbrev pub IsDue : {X : Type 0} → Result X GeoFault → GeoFault → Type 0
 IsDue answer fault = (answer ≡ Err fault) ⊎ (answer ≡ Err Memory)
 
@@ -34,7 +34,7 @@ fault_due (ShortRing k) fault reading e h = inl (ap Err (let both : Err (ShortRi
 fault_due NoId fault reading e h = inl (ap Err (let both : Err NoId ≡ Err fault = sym h ∙ e in cc))
 fault_due Memory fault reading e h = inr refl
 
--- a reading that has a value is refused for want of memory alone
+-- a reading that has a value is refused only when memory runs out
 value_due : {Y : Type 0} (given : GeoFault) (reading : Reading Y) (y : Y) → reading ≡ Ok y → Refuses given reading → given ≡ Memory
 value_due (NotJson at) reading y e h = absurd (let both : Ok y ≡ Err (NotJson at) = sym e ∙ h in cc)
 value_due (Deep at) reading y e h = absurd (let both : Ok y ≡ Err (Deep at) = sym e ∙ h in cc)
@@ -68,7 +68,7 @@ feature_due (Err (ShortRing k)) fault reading e h = fault_due (ShortRing k) faul
 feature_due (Err NoId) fault reading e h = absurd (let both : Ok h.0 ≡ Err fault = sym h.1 ∙ e in cc)
 feature_due (Err Memory) fault reading e h = inr refl
 
--- a reading with a value: the feature, or that it has no id, or want of memory
+-- a reading with a value: the feature, or that it has no id, or out of memory
 feature_given : (answer : Result Feature GeoFault) (one : Feature) (reading : Reading Parts) (parts : Parts) → reading ≡ Ok parts → parts.own ≡ Some one.id → IsMadeOf parts one → IsRead answer reading → GivesFeature answer one
 feature_given (Ok found) one reading parts e named made h =
     let same : h.0 ≡ parts = (let both : Ok h.0 ≡ Ok parts = sym h.1 ∙ e in cc) in
@@ -125,7 +125,7 @@ module _ {X Y : Type 0} (IsAnswer : Result X GeoFault → Reading Y → Type 0) 
   pub deep_due : (at : ℕ) → IsDeep bytes at → IsDue answer (Deep at)
   deep_due at fact = text_due (json.Deep at) ((reads.deep at).1 fact)
 
-  -- what holds of an answer to the tree, and of want of memory, holds of the answer
+  -- what holds of an answer to the tree, and of out of memory, holds of the answer
   on_tree : (P : Result X GeoFault → Type 0) (tree : Tree) (f : Result Lent JsonFault) → GivesTree lent_of f tree → IsAnswerTo IsAnswer read f answer → (IsAnswer answer (read tree) → P answer) → P (Err Memory) → P answer
   on_tree P tree (Ok value) same h due memory = due (subst (λ (t : Tree). IsAnswer answer (read t)) same h)
   on_tree P tree (Err (json.NotJson at)) same h due memory = absurd same

@@ -44,7 +44,7 @@ module _ (bytes : List ℕ) (one_tree : (v w : Tree) → Reads bytes v → Reads
       absurd (let both : Ok accepted.parts ≡ Err fault = sym read ∙ faulty in cc)
 
   module _ (text_or_fault : (tree : Tree) (fault : JsonFault) → IsText bytes tree → Refuses fault bytes → fault ≡ json.Memory) where
-    -- a map file is refused for want of memory alone
+    -- a map file is refused only when memory runs out
     pub map_or_fault : (features : List Feature) (fault : GeoFault) → IsMap bytes features → IsMapFault bytes fault → fault ≡ Memory
     map_or_fault features (NotJson at) accepted refused = absurd (let e = text_or_fault accepted.tree (json.NotJson at) accepted.text refused in cc)
     map_or_fault features (Deep at) accepted refused = absurd (let e = text_or_fault accepted.tree (json.Deep at) accepted.text refused in cc)
@@ -56,7 +56,7 @@ module _ (bytes : List ℕ) (one_tree : (v w : Tree) → Reads bytes v → Reads
     map_or_fault features NoId accepted refused = absurd (no_map_fault features NoId accepted refused.0 refused.1 refused.2)
     map_or_fault features Memory accepted refused = refl
 
-    -- a feature with an id is refused for want of memory alone
+    -- a feature with an id is refused only when memory runs out
     pub feature_or_fault : (one : Feature) (fault : GeoFault) → IsFeature bytes one → IsFeatureFault bytes fault → fault ≡ Memory
     feature_or_fault one (NotJson at) accepted refused = absurd (let e = text_or_fault accepted.tree (json.NotJson at) accepted.text refused in cc)
     feature_or_fault one (Deep at) accepted refused = absurd (let e = text_or_fault accepted.tree (json.Deep at) accepted.text refused in cc)

@@ -15,7 +15,7 @@ fault_of json.Memory = Memory
 abbrev pub IsFaultOf : JsonFault → GeoFault → Type 0
 IsFaultOf fault answer = answer ≡ fault_of fault
 
--- an answer's refusal is the reading's, or want of memory, which says nothing
+-- an answer's refusal is the reading's, or out of memory, which says nothing
 abbrev pub Refuses : {X : Type 0} → GeoFault → Reading X → Type 0
 Refuses Memory reading = Unit {0}
 Refuses fault reading = reading ≡ Err fault

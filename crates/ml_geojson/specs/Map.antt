@@ -55,14 +55,14 @@ pub record IsMap (bytes : List ℕ) (features : List Feature) : Type 0 where
   pub reads : collection tree ≡ Ok parts
   pub made : AreMadeOf parts features
 
--- why the bytes are no map file; want of memory says nothing
+-- why the bytes are no map file; out of memory says nothing
 abbrev pub IsMapFault : List ℕ → GeoFault → Type 0
 IsMapFault bytes (NotJson at) = IsNotJson bytes at
 IsMapFault bytes (Deep at) = IsDeep bytes at
 IsMapFault bytes Memory = Unit {0}
 IsMapFault bytes fault = (tree : Tree) × IsText bytes tree × (collection tree ≡ Err fault)
 
--- the answer is the same features, or want of memory
+-- the answer is the same features, or out of memory
 abbrev pub GivesMap : Result (List Feature) GeoFault → List Feature → Type 0
 GivesMap (Ok found) features = AreSameFeatures found features
 GivesMap (Err Memory) features = Unit {0}
@@ -91,7 +91,7 @@ pub record HasNoId (bytes : List ℕ) : Type 0 where
   pub reads : feature 0 tree ≡ Ok parts
   pub unnamed : parts.own ≡ None
 
--- why the bytes are no feature with an id; want of memory says nothing
+-- why the bytes are no feature with an id; out of memory says nothing
 abbrev pub IsFeatureFault : List ℕ → GeoFault → Type 0
 IsFeatureFault bytes (NotJson at) = IsNotJson bytes at
 IsFeatureFault bytes (Deep at) = IsDeep bytes at
@@ -99,7 +99,7 @@ IsFeatureFault bytes NoId = HasNoId bytes
 IsFeatureFault bytes Memory = Unit {0}
 IsFeatureFault bytes fault = (tree : Tree) × IsText bytes tree × (feature 0 tree ≡ Err fault)
 
--- the answer is the same feature, or want of memory
+-- the answer is the same feature, or out of memory
 abbrev pub GivesFeature : Result Feature GeoFault → Feature → Type 0
 GivesFeature (Ok found) one = IsSameFeature found one
 GivesFeature (Err Memory) one = Unit {0}

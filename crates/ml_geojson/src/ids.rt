@@ -64,7 +64,7 @@ fn take_own(
 /// Takes the id of the feature at place `k`: its own where it is new, else a fresh one.
 ///
 /// # Errors
-/// Want of memory.
+/// Out of memory.
 pub fn take_id(
     alloc: Global,
     taken: &mut BTreeSet<Text>,

@@ -10,7 +10,7 @@ ghost use Rattle.ml_geojson.specs.declared.fault.GeoFault.{GeoFault};
 
 use ml_json::laws;
 
-/// A map file is refused for want of memory alone.
+/// A map file is refused only when memory runs out.
 pub fn map_or_fault()
     ensures { (bytes : List ℕ) (features : List Feature) (fault : GeoFault) → IsMap bytes features → IsMapFault bytes fault → fault ≡ GeoFault.Memory }
 {
@@ -18,7 +18,7 @@ pub fn map_or_fault()
     laws::text_or_fault();
 }
 
-/// A feature with an id is refused for want of memory alone.
+/// A feature with an id is refused only when memory runs out.
 pub fn feature_or_fault()
     ensures { (bytes : List ℕ) (one : Feature) (fault : GeoFault) → IsFeature bytes one → IsFeatureFault bytes fault → fault ≡ GeoFault.Memory }
 {
@@ -26,7 +26,7 @@ pub fn feature_or_fault()
     laws::text_or_fault();
 }
 
-/// One thing is wrong with bytes that are no map file, but for want of memory; and one with bytes that
+/// One thing is wrong with bytes that are no map file, unless memory runs out; and one with bytes that
 /// are no feature with an id.
 pub fn one_fault()
     ensures map { (bytes : List ℕ) (one other : GeoFault) → one ≢ GeoFault.Memory → other ≢ GeoFault.Memory →

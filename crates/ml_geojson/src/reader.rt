@@ -102,7 +102,7 @@ fn read_tree(alloc: Global, json: &Lent) -> Result<Seq<Feature>, GeoFault>
 /// The text's own faults, [`GeoFault::NotJson`] and [`GeoFault::Deep`]; [`GeoFault::NotCollection`];
 /// else the first fault of the features in order, and within a feature from left to right:
 /// [`GeoFault::NotFeature`], [`GeoFault::BadGeometry`], [`GeoFault::OutOfRange`],
-/// [`GeoFault::ShortRing`]; want of memory.
+/// [`GeoFault::ShortRing`]; out of memory.
 pub fn read_collection(alloc: Global, bytes: &[u8]) -> Result<Seq<Feature>, GeoFault>
     ensures ok { IfOk result (IsMap bytes.now) }
     ensures different_ids { IfOk result HaveDifferentIds }

@@ -12,7 +12,7 @@ use std::alloc::{AllocError, Global};
 /// properties in byte order of their keys. Reading it gives the same features.
 ///
 /// # Errors
-/// Want of memory.
+/// Out of memory.
 pub fn write_collection(alloc: Global, features: &Seq<Feature>) -> Result<Seq<u8>, AllocError>
     requires { HaveDifferentIds features.now }
     ensures ok { IfOk result (λ text. text ≡ collection_text features.now) }
@@ -26,7 +26,7 @@ pub fn write_collection(alloc: Global, features: &Seq<Feature>) -> Result<Seq<u8
 /// The canonical text of one feature. Reading it gives the same feature.
 ///
 /// # Errors
-/// Want of memory.
+/// Out of memory.
 pub fn write_feature(alloc: Global, feature: &Feature) -> Result<Seq<u8>, AllocError>
     ensures ok { IfOk result (λ text. text ≡ feature_text feature.now) }
     ensures back { IfOk result (λ text. IsFeature text feature.now) }

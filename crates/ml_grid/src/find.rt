@@ -117,7 +117,7 @@ pub fn ascending(found: Seq<u32>) -> Vec<u32>
 /// Appends the numbers.
 ///
 /// # Errors
-/// Want of memory; a prefix of them was appended.
+/// Out of memory; a prefix of them was appended.
 pub fn append(numbers: &[u32], out: &mut Seq<u32>) -> Result<(), AllocError>
     ensures ok { OnOk result (out.new ≡ out.old ++ numbers.now) }
     ensures err { OnErr result ((k : ℕ) × (out.new ≡ out.old ++ take k numbers.now)) }
@@ -136,7 +136,7 @@ pub fn append(numbers: &[u32], out: &mut Seq<u32>) -> Result<(), AllocError>
 /// Appends the numbers, a step for each.
 ///
 /// # Errors
-/// Want of memory; a prefix of them was appended.
+/// Out of memory; a prefix of them was appended.
 pub fn append_counted<L: Ledger>(
     numbers: &[u32],
     out: &mut Seq<u32>,

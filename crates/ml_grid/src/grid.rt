@@ -58,7 +58,7 @@ impl Grid {
     /// those of one entry and none has the number. Its end is the one that `ends` has for its number.
     ///
     /// # Errors
-    /// Want of memory; some of them were appended.
+    /// Out of memory; some of them were appended.
     pub fn mark(
         marks: &mut Marks,
         number: u32,
@@ -77,7 +77,7 @@ impl Grid {
     /// The grid of the entries that are marked, no two of which may be the same, with no room.
     ///
     /// # Errors
-    /// Want of memory.
+    /// Out of memory.
     pub fn of_marks(alloc: Global, marks: Marks, ends: &Ends) -> Result<Grid, AllocError>
         requires apart { AreApart (marked ends.now marks.items) }
         ensures entries { IfOk result (λ grid. IsPermutation (marked ends.now marks.items) grid.entries) }
@@ -117,7 +117,7 @@ impl Grid {
     /// Makes sure that at least `n` entries may come in. It makes no more room than is missing.
     ///
     /// # Errors
-    /// Want of memory, which leaves the entries; the room may have grown.
+    /// Out of memory, which leaves the entries; the room may have grown.
     pub fn reserve(&mut self, n: usize) -> Result<(), AllocError>
         ensures ok { OnOk result (n ≤ self.new.spare) }
         ensures same { self.new.entries ≡ self.old.entries }
@@ -164,7 +164,7 @@ impl Grid {
     /// and each once. The band is at most 27. The label itself need not be in the grid.
     ///
     /// # Errors
-    /// Want of memory; the first of them were appended.
+    /// Out of memory; the first of them were appended.
     pub fn near(&self, label: &Label, band: u8, out: &mut Seq<u32>) -> Result<(), AllocError>
         requires { band ≤ 27 }
         ensures ok { OnOk result (AppendsNumbers (IsInHull label.now band) self.now.entries out.old out.new) }
@@ -179,7 +179,7 @@ impl Grid {
     /// and however often. The band is at most 27. The label itself need not be in the grid.
     ///
     /// # Errors
-    /// Want of memory.
+    /// Out of memory.
     pub fn in_hull(&self, label: &Label, band: u8, out: &mut Seq<u32>) -> Result<(), AllocError>
         requires { band ≤ 27 }
         ensures { OnOk result (Finds (IsInHull label.now band) self.now.entries out.old out.new) }
@@ -191,7 +191,7 @@ impl Grid {
     /// end of at least the scale, in whatever order and however often.
     ///
     /// # Errors
-    /// Want of memory.
+    /// Out of memory.
     pub fn in_cells(
         &self,
         alloc: Global,
@@ -220,7 +220,7 @@ impl Grid {
     /// ascending and each once. It spends a step for each number appended.
     ///
     /// # Errors
-    /// Want of memory; the first of them were appended.
+    /// Out of memory; the first of them were appended.
     pub fn in_window<L: Ledger>(
         &self,
         view: &View,

@@ -168,7 +168,7 @@ fn mark_band(
 /// Appends the marks of the entries of a label whose number has none.
 ///
 /// # Errors
-/// Want of memory.
+/// Out of memory.
 pub fn mark_all(
     marks: &mut Marks,
     number: u32,

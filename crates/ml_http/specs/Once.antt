@@ -13,7 +13,7 @@ pub record AreOneAnswer (one other : LinkAnswer) (t u : State) : Type 0 where
   pub cost : one.cost ≡ other.cost
   pub state : t ≡ u
 
--- the connection ended by neither a fault nor want of memory
+-- the connection ended by neither a fault nor a lack of memory
 abbrev pub EndsWell : ConnEnd → Type 0
 EndsWell Shut = Unit {0}
 EndsWell Closed = Unit {0}

@@ -45,7 +45,7 @@ query_body name = codes "{\"error\":\"query\",\"name\":\"" ++ (name ++ codes "\"
 abbrev pub query_reply : Bool → List ℕ → List ℕ
 query_reply closes name = json_reply 400 closes (query_body name)
 
--- the status of an edit that is refused; want of memory is no refusal
+-- the status of an edit that is refused; running out of memory is no refusal
 abbrev pub fault_code : EditFault → Option ℕ
 fault_code (faults.RevMoved now) = Some 409
 fault_code faults.Memory = None

@@ -22,7 +22,7 @@ impl<W: Watcher, L: Ledger> Context<'_, '_, W, L> {
     /// Answers one event, and gives the bytes of the reply.
     ///
     /// # Errors
-    /// Want of memory: the map, the watchers and the tiles are as before.
+    /// Out of memory: the map, the watchers and the tiles are as before.
     pub(crate) fn answer(&mut self, event: &Event) -> Result<Vec<u8>, AllocError>
         requires texts { HoldsTexts (state_of self.old) }
         ensures loan { IsSameLoan self.old self.new }

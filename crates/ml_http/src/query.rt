@@ -19,7 +19,7 @@ const MOST_WORDS: usize = 5;
 /// The decoded names and values of a query, in order.
 ///
 /// # Errors
-/// Want of memory.
+/// Out of memory.
 pub(crate) fn pairs_of(alloc: Global, query: &[u8]) -> Result<Vec<Pair<'_>>, AllocError>
     ensures { IfOk result (λ all. map pair_bytes all.items ≡ query_pairs query.now) }
 {

@@ -103,7 +103,7 @@ fn query_body(alloc: Global, name: &str) -> Result<String, AllocError>
     format!(in alloc; "{{\"error\":\"query\",\"name\":\"{name}\"}}")
 }
 
-// The status of an edit that is refused; want of memory is no refusal.
+// The status of an edit that is refused; running out of memory is no refusal.
 fn fault_status(fault: &EditFault) -> Option<StatusCode>
     ensures { result ≡ fault_code fault.now }
 {
@@ -117,7 +117,7 @@ fn fault_status(fault: &EditFault) -> Option<StatusCode>
 /// The reply to an edit that is refused.
 ///
 /// # Errors
-/// Want of memory, also where that is why there is no edit.
+/// Out of memory, also where that is why there is no edit.
 pub(crate) fn fault_reply(
     alloc: Global,
     closes: bool,

@@ -87,7 +87,7 @@ fn last_lines(
 /// they are told, whether the connection closes, and the body.
 ///
 /// # Errors
-/// Want of memory.
+/// Out of memory.
 pub fn reply(
     alloc: Global,
     status: StatusCode,

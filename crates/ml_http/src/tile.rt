@@ -32,7 +32,7 @@ fn tile_name(place: usize) -> &'static str
 /// The tile that the query asks for, or which word of the query is wrong.
 ///
 /// # Errors
-/// Want of memory: the tiles held are as before.
+/// Out of memory: the tiles held are as before.
 pub(crate) fn tile_reply(
     alloc: Global,
     editor: &Editor,

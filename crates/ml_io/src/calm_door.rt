@@ -35,7 +35,7 @@ impl CalmDoor {
     /// These connections to come.
     ///
     /// # Errors
-    /// Want of memory.
+    /// Out of memory.
     pub fn new(alloc: Global, links: Vec<CalmLink>) -> Result<CalmDoor, AllocError>
         ensures { IfOk result (λ door. door ≡ fresh_links links.items) }
     {

@@ -39,7 +39,7 @@ impl<I: Drop, O: Drop> LinkList<I, O> {
     /// These connections to come.
     ///
     /// # Errors
-    /// Want of memory.
+    /// Out of memory.
     pub(crate) fn new(alloc: Global, links: Vec<Link<I, O>>) -> Result<LinkList<I, O>, AllocError>
         ensures { IfOk result (λ list. list ≡ fresh_links links.items) }
     {

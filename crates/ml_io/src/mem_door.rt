@@ -44,7 +44,7 @@ impl MemDoor {
     /// These connections to come. Its calls of `next` that `fails` lists, counted from 0, fail.
     ///
     /// # Errors
-    /// Want of memory.
+    /// Out of memory.
     pub fn new(alloc: Global, links: Vec<MemLink>, fails: Vec<u64>) -> Result<MemDoor, AllocError>
         ensures { IfOk result (λ door. door ≡ fresh_door links.items fails.items) }
     {

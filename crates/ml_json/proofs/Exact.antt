@@ -93,13 +93,13 @@ pub ok_writable : {V : Type 0} (tree_of : V → Tree) (result : Result V JsonFau
 ok_writable tree_of (Ok v) bytes h = text_writable bytes (tree_of v) h
 ok_writable tree_of (Err e) bytes h = tt
 
--- a text of a tree is refused for want of memory alone
+-- a text of a tree is refused only when memory runs out
 pub text_or_fault : (bytes : List ℕ) (tree : Tree) (fault : JsonFault) → IsText bytes tree → Refuses fault bytes → fault ≡ faults.Memory
 text_or_fault bytes tree (faults.NotJson at) accepted refused = absurd (text_or_not bytes tree at accepted refused)
 text_or_fault bytes tree (faults.Deep at) accepted refused = absurd (text_or_deep bytes tree at accepted refused)
 text_or_fault bytes tree faults.Memory accepted refused = refl
 
--- one thing is wrong with bytes, but for want of memory
+-- one thing is wrong with bytes, unless memory runs out
 pub one_fault : (bytes : List ℕ) (one other : JsonFault) → one ≢ faults.Memory → other ≢ faults.Memory → Refuses one bytes → Refuses other bytes → one ≡ other
 one_fault bytes (faults.NotJson a) (faults.NotJson b) m n p q = ap faults.NotJson (one_place (IsNotJson bytes) a b (not_json_later bytes) p q)
 one_fault bytes (faults.NotJson a) (faults.Deep b) m n p q = absurd (deep_or_not bytes b a q p)

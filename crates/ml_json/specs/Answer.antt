@@ -25,7 +25,7 @@ pub record IsDeep (bytes : List ℕ) (at : ℕ) : Type 0 where
   pub begins : IsPrefix (take (at + 1) bytes)
   pub opens : depth (take (at + 1) bytes) ≡ 65
 
--- what a refusal says of the bytes; want of memory says nothing
+-- what a refusal says of the bytes; out of memory says nothing
 abbrev pub Refuses : JsonFault → List ℕ → Type 0
 Refuses (faults.NotJson at) bytes = IsNotJson bytes at
 Refuses (faults.Deep at) bytes = IsDeep bytes at
@@ -36,7 +36,7 @@ abbrev pub Answers : {V : Type 0} → (V → Tree) → Result V JsonFault → Li
 Answers tree_of (Ok v) bytes = IsText bytes (tree_of v)
 Answers tree_of (Err e) bytes = Refuses e bytes
 
--- the answer is a value of this tree, or want of memory
+-- the answer is a value of this tree, or out of memory
 abbrev pub GivesTree : {V : Type 0} → (V → Tree) → Result V JsonFault → Tree → Type 0
 GivesTree tree_of (Ok v) tree = tree_of v ≡ tree
 GivesTree tree_of (Err (faults.NotJson at)) tree = ⊥

@@ -10,7 +10,7 @@ use std::alloc::{AllocError, Global};
 /// The value with texts of its own.
 ///
 /// # Errors
-/// Want of memory.
+/// Out of memory.
 #[cycle(copying)]
 pub fn copy_value(alloc: Global, value: &Lent) -> Result<Json, AllocError>
     ensures { IfOk result (λ json. tree_of json ≡ lent_of value.now) }

@@ -9,7 +9,7 @@ use std::alloc::{AllocError, Global};
 /// A coordinate, in units of 10^-7 degree, as a JSON number of always seven decimals: `8.5417000`.
 ///
 /// # Errors
-/// Want of memory.
+/// Out of memory.
 pub fn write_e7(alloc: Global, v: i64) -> Result<Text, AllocError>
     ensures ok { IfOk result (λ text. text ≡ e7_text v) }
     ensures number { IfOk result IsNumber }

@@ -15,12 +15,12 @@ pub fn one_tree()
     ensures { (bytes : List ℕ) (one other : Tree) → Reads bytes one → Reads bytes other → one ≡ other }
 {}
 
-/// What is a text is refused for want of memory alone.
+/// What is a text is refused only when memory runs out.
 pub fn text_or_fault()
     ensures { (bytes : List ℕ) (tree : Tree) (fault : JsonFault) → IsText bytes tree → Refuses fault bytes → fault ≡ JsonFault.Memory }
 {}
 
-/// One thing is wrong with bytes that are no text, but for want of memory.
+/// One thing is wrong with bytes that are no text, unless memory runs out.
 pub fn one_fault()
     ensures { (bytes : List ℕ) (one other : JsonFault) → one ≢ JsonFault.Memory → other ≢ JsonFault.Memory →
         Refuses one bytes → Refuses other bytes → one ≡ other }

@@ -16,7 +16,7 @@ use std::alloc::{AllocError, Global};
 /// with the members of each map in byte order of their keys.
 ///
 /// # Errors
-/// Want of memory.
+/// Out of memory.
 pub fn write(alloc: Global, value: &Json) -> Result<Seq<u8>, AllocError>
     ensures ok { IfOk result (λ text. text ≡ canonical (tree_of value.now)) }
     ensures reads { IsPrintable (tree_of value.now) → IfOk result (λ text. IsText text (settled (tree_of value.now))) }

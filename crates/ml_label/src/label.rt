@@ -67,7 +67,7 @@ fn label_at(
 /// of boxes along it where that can be.
 ///
 /// # Errors
-/// Want of memory.
+/// Out of memory.
 pub fn label_of(
     alloc: Global,
     style: &Style,

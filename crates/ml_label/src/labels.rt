@@ -14,7 +14,7 @@ use std::alloc::{AllocError, Global};
 /// over. No two features may have the same id.
 ///
 /// # Errors
-/// Want of memory.
+/// Out of memory.
 pub fn labels_of(
     alloc: Global,
     style: &Style,

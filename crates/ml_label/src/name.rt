@@ -41,7 +41,7 @@ fn is_blank(text: &str) -> bool
 /// none where it has no name, or one of spaces alone.
 ///
 /// # Errors
-/// Want of memory.
+/// Out of memory.
 pub fn label_name(
     alloc: Global,
     style: &Style,

@@ -197,7 +197,7 @@ fn along(
 /// too far.
 ///
 /// # Errors
-/// Want of memory.
+/// Out of memory.
 pub fn place(
     alloc: Global,
     font: &Font,

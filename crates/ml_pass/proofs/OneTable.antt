@@ -134,7 +134,7 @@ one_wrong bytes labels Full (SameId j) some more v w =
     absurd (v.new w.known.0 (subst (λ (l : Label). IsPlaceOf labels l.order.id w.known.0) same w.known.1))
 one_wrong bytes labels Full Full some more v w = refl
 
--- what a fault other than want of memory says
+-- what a fault other than out of memory says
 abbrev IsAfter : List ℕ → TableFault → Type 0
 IsAfter bytes fault = (labels : List Label) × AreFirst bytes labels × (length labels < length (entries bytes)) × IsFaultAfter bytes labels fault
 

@@ -17,7 +17,7 @@ pub enum TableFault {
     /// More than 32,768 labels.
     #[error("more than 32768 labels")]
     Full,
-    /// Want of memory.
+    /// Out of memory.
     #[error("out of memory")]
     Memory,
 }

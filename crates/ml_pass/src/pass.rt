@@ -25,7 +25,7 @@ use std::sync::ledger::{Blank, Ledger};
 /// It evaluates each label once, among those before it that are near.
 ///
 /// # Errors
-/// Want of memory.
+/// Out of memory.
 pub fn assign(alloc: Global, labels: &[Label]) -> Result<Seq<Slot>, AllocError>
     requires { length labels.now ≤ most_labels }
     ensures slots { IfOk result (λ slots. AreSlots (λ j. j) labels.now slots) }

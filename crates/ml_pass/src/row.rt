@@ -18,7 +18,7 @@ use std::alloc::{AllocError, Global};
 /// None where the line is no such text.
 ///
 /// # Errors
-/// Want of memory.
+/// Out of memory.
 pub fn read_row<'a>(
     alloc: Global,
     line: &'a [u8],
@@ -88,7 +88,7 @@ fn read_label(alloc: Global, place: u32, fields: &Fields<'_>) -> Result<Option<L
 /// The id as the first piece of text of `count` boxes, and an empty piece for each further box.
 ///
 /// # Errors
-/// Want of memory.
+/// Out of memory.
 pub fn pieces_of(alloc: Global, id: &str, count: usize) -> Result<Seq<Text>, AllocError>
     ensures { IfOk result (λ pieces. pieces ≡ id.now ∷ replicate (count - 1) []) }
 {
@@ -123,7 +123,7 @@ fn is_id(id: &str) -> bool
 /// The boxes that the texts write, as `-10,-5,10,5`, one each; none where one of them writes no box.
 ///
 /// # Errors
-/// Want of memory.
+/// Out of memory.
 pub fn read_boxes(alloc: Global, texts: &[&str]) -> Result<Option<Seq<BoxPx>>, AllocError>
     ensures { IfOk result (λ answer. MatchOption answer ((boxes : List BoxPx) → ¬ (AllZip ReadsBox (map (λ p. p.now) texts.now) boxes))
         (λ boxes. AllZip ReadsBox (map (λ p. p.now) texts.now) boxes)) }

@@ -50,7 +50,7 @@ impl Search<'_> {
     /// to a bound that these leave.
     ///
     /// # Errors
-    /// Want of memory.
+    /// Out of memory.
     pub fn gather(&self, field: &Field, places: &mut Vec<u32>) -> Result<(), AllocError>
         requires some { 0 < length field.now.strips.items }
         requires strips { AreStrips self.now.labels.now field.now.strips.items }

@@ -11,7 +11,7 @@ use std::alloc::{AllocError, Global};
 /// lowest terms, and the id of its blocker or `-`, with one space between and LF behind.
 ///
 /// # Errors
-/// Want of memory.
+/// Out of memory.
 pub fn write_slots(alloc: Global, labels: &[Label], slots: &[Slot]) -> Result<Seq<u8>, AllocError>
     requires one_each { length slots.now ≡ length labels.now }
     requires places { All (λ slot. IsBlockerPlace labels.now slot.blocker) slots.now }

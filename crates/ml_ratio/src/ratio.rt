@@ -125,7 +125,7 @@ impl Ratio {
     /// The text `n/d` in lowest terms, also `0/1` and `20/1`.
     ///
     /// # Errors
-    /// Want of memory.
+    /// Out of memory.
     pub fn text(&self, alloc: Global) -> Result<Text, AllocError>
         ensures { IfOk result (λ t. t ≡ ratio_text self.now) }
     {

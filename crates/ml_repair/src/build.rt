@@ -89,7 +89,7 @@ fn settle_all(alloc: Global, labels: Vec<Label>) -> Result<Store, AllocError>
 /// The labels with the slots of the longest choice. They may come in any order.
 ///
 /// # Errors
-/// Want of memory.
+/// Out of memory.
 pub fn build_store(alloc: Global, labels: Seq<Label>) -> Result<Store, AllocError>
     requires differ { AllPairs (λ one other. one.order.id ≢ other.order.id) labels }
     requires few { length labels ≤ most_labels }

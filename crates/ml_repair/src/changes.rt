@@ -80,7 +80,7 @@ fn push_edited(edited: Option<Change>, out: &mut Vec<Change>) -> Result<(), Allo
 /// one, if it has one.
 ///
 /// # Errors
-/// Want of memory.
+/// Out of memory.
 pub fn edit_changes(
     alloc: Global,
     roster: &Roster<'_>,

@@ -49,7 +49,7 @@ impl Engine {
     /// the same id.
     ///
     /// # Errors
-    /// Want of memory.
+    /// Out of memory.
     pub fn build(alloc: Global, labels: Seq<Label>) -> Result<Engine, AllocError>
         requires differ { AllPairs (λ one other. one.order.id ≢ other.order.id) labels }
         requires few { length labels ≤ most_labels }
@@ -103,7 +103,7 @@ impl Engine {
     /// The numbers of all labels in priority order.
     ///
     /// # Errors
-    /// Want of memory.
+    /// Out of memory.
     pub fn in_order(&self, alloc: Global) -> Result<Seq<u32>, AllocError>
         ensures numbers { IfOk result (λ numbers. numbers ≡ numbers_in self.now.rows) }
         ensures live { IfOk result (λ numbers. All (IsLive self.now.rows) numbers) }
@@ -115,7 +115,7 @@ impl Engine {
     /// that is evaluated: just those that the edit touches.
     ///
     /// # Errors
-    /// Want of memory.
+    /// Out of memory.
     pub fn plan_add<L: Ledger>(
         &self,
         alloc: Global,
@@ -133,7 +133,7 @@ impl Engine {
     /// for each label that is evaluated: just those that the edit touches.
     ///
     /// # Errors
-    /// Want of memory.
+    /// Out of memory.
     pub fn plan_remove<L: Ledger>(
         &self,
         alloc: Global,
@@ -151,7 +151,7 @@ impl Engine {
     /// the coming of the other touches.
     ///
     /// # Errors
-    /// Want of memory.
+    /// Out of memory.
     pub fn plan_replace<L: Ledger>(
         &self,
         alloc: Global,
@@ -180,7 +180,7 @@ impl Engine {
     /// Takes the memory that the plan needs, which is of the present labels.
     ///
     /// # Errors
-    /// Want of memory, which leaves the labels; the room may have grown.
+    /// Out of memory, which leaves the labels; the room may have grown.
     pub fn reserve(&mut self, plan: &Plan) -> Result<(), AllocError>
         requires { IsPlanOf plan.now self.old.rows }
         ensures ok { OnOk result (HasRoom (room_of plan.now) self.new) }
@@ -206,7 +206,7 @@ impl Engine {
     /// near the view.
     ///
     /// # Errors
-    /// Want of memory.
+    /// Out of memory.
     pub fn shown<L: Ledger>(
         &self,
         alloc: Global,

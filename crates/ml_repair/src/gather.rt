@@ -221,7 +221,7 @@ fn gather_all(alloc: Global, sought: &Sought<'_>) -> Result<Vec<u32>, AllocError
 /// band with a neighbour four bands are passed over at a time.
 ///
 /// # Errors
-/// Want of memory.
+/// Out of memory.
 pub fn gather(alloc: Global, sought: &Sought<'_>) -> Result<Vec<u32>, AllocError>
     requires { sought.now.place < length sought.now.roster.now }
     ensures ascending { IfOk result (λ places. IsStrictlyIncreasing places.items) }

@@ -128,7 +128,7 @@ fn settle_among<L: Ledger>(
 /// none, that one and those are enough. It spends one step.
 ///
 /// # Errors
-/// Want of memory.
+/// Out of memory.
 pub fn settle_again<L: Ledger>(
     alloc: Global,
     roster: &Roster<'_>,

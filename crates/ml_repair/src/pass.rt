@@ -25,7 +25,7 @@ use std::sync::ledger::Ledger;
 /// are evaluated.
 ///
 /// # Errors
-/// Want of memory.
+/// Out of memory.
 pub fn pass_out<L: Ledger>(
     alloc: Global,
     store: &Store,
@@ -51,7 +51,7 @@ pub fn pass_out<L: Ledger>(
 /// The slot of the label that comes in at `at`.
 ///
 /// # Errors
-/// Want of memory.
+/// Out of memory.
 pub fn settle_coming<L: Ledger>(
     alloc: Global,
     store: &Store,
@@ -86,7 +86,7 @@ pub fn settle_coming<L: Ledger>(
 /// how many labels that touches. Just these are evaluated.
 ///
 /// # Errors
-/// Want of memory.
+/// Out of memory.
 pub fn pass_in<L: Ledger>(
     alloc: Global,
     store: &Store,

@@ -85,7 +85,7 @@ fn change_between(old: &Row, new: &Row) -> Result<Option<Change>, AllocError>
 /// A plan for the coming of a label with a new id.
 ///
 /// # Errors
-/// Want of memory.
+/// Out of memory.
 pub fn plan_in<L: Ledger>(
     alloc: Global,
     store: &Store,
@@ -121,7 +121,7 @@ pub fn plan_in<L: Ledger>(
 /// A plan for the going of the label with this id, which is live.
 ///
 /// # Errors
-/// Want of memory.
+/// Out of memory.
 pub fn plan_out<L: Ledger>(
     alloc: Global,
     store: &Store,
@@ -154,7 +154,7 @@ pub fn plan_out<L: Ledger>(
 /// A plan for the coming of a label in place of that with its id, which is live.
 ///
 /// # Errors
-/// Want of memory.
+/// Out of memory.
 pub fn plan_instead<L: Ledger>(
     alloc: Global,
     store: &Store,

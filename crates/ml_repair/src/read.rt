@@ -22,7 +22,7 @@ pub fn row_at(store: &Store, number: u32) -> &Row
 /// The numbers of the labels at some places.
 ///
 /// # Errors
-/// Want of memory.
+/// Out of memory.
 pub fn numbers_of(alloc: Global, store: &Store, places: &[u32]) -> Result<Seq<u32>, AllocError>
     requires { All (λ p. p < length store.now.rows) places.now }
     ensures { IfOk result (λ numbers. numbers ≡ map (number_at store.now.rows) places.now) }
@@ -38,7 +38,7 @@ pub fn numbers_of(alloc: Global, store: &Store, places: &[u32]) -> Result<Seq<u3
 /// The numbers of all labels in priority order.
 ///
 /// # Errors
-/// Want of memory.
+/// Out of memory.
 pub fn all_numbers(alloc: Global, store: &Store) -> Result<Seq<u32>, AllocError>
     ensures { IfOk result (λ numbers. numbers ≡ numbers_in store.now.rows) }
 {

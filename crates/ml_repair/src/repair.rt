@@ -144,7 +144,7 @@ fn note(
 /// just these are evaluated, each once. A label that comes has its slot already.
 ///
 /// # Errors
-/// Want of memory.
+/// Out of memory.
 pub fn repair<L: Ledger>(
     alloc: Global,
     roster: &Roster<'_>,

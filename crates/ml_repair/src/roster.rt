@@ -166,7 +166,7 @@ fn push_place(roster: &Roster<'_>, number: u32, out: &mut Seq<u32>) -> Result<()
 /// Appends the places of those of the numbers that have one.
 ///
 /// # Errors
-/// Want of memory.
+/// Out of memory.
 pub fn push_places(
     roster: &Roster<'_>,
     numbers: &[u32],
@@ -290,7 +290,7 @@ impl<'a> Roster<'a> {
     /// band, which is at most 27.
     ///
     /// # Errors
-    /// Want of memory.
+    /// Out of memory.
     pub fn near(
         &self,
         alloc: Global,
@@ -311,7 +311,7 @@ impl<'a> Roster<'a> {
     /// whose own slots end at the scale at the earliest.
     ///
     /// # Errors
-    /// Want of memory.
+    /// Out of memory.
     pub fn overlapping(
         &self,
         alloc: Global,

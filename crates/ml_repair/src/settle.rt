@@ -23,7 +23,7 @@ use std::sync::ledger::Ledger;
 /// have new slots is told, for the sake of time alone. It spends one step.
 ///
 /// # Errors
-/// Want of memory.
+/// Out of memory.
 pub fn settle<L: Ledger>(
     alloc: Global,
     roster: &Roster<'_>,

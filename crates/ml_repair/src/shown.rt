@@ -69,7 +69,7 @@ fn shown_among(
 /// near the view.
 ///
 /// # Errors
-/// Want of memory.
+/// Out of memory.
 pub fn shown_numbers<L: Ledger>(
     alloc: Global,
     store: &Store,

@@ -11,7 +11,7 @@ use std::alloc::{AllocError, Global};
 /// The column is copied at once: `vec!` would write one element after another, at each edit.
 ///
 /// # Errors
-/// Want of memory.
+/// Out of memory.
 pub fn none_waits(alloc: Global, many: usize) -> Result<Vec<bool>, AllocError>
     requires { many ≤ most_labels }
     ensures { IfOk result (λ waits. waits.items ≡ replicate many false) }

@@ -142,7 +142,7 @@ fn are_few_idle(waits: &[bool], from: usize) -> bool
 /// The later rivals of the label at `i` wait from now on.
 ///
 /// # Errors
-/// Want of memory.
+/// Out of memory.
 pub fn wake(
     alloc: Global,
     roster: &Roster<'_>,
@@ -182,7 +182,7 @@ fn wake_near(
 /// labels were woken before is told, for the sake of time alone.
 ///
 /// # Errors
-/// Want of memory.
+/// Out of memory.
 pub fn wake_more(
     alloc: Global,
     roster: &Roster<'_>,

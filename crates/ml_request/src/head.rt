@@ -25,7 +25,7 @@ fn whole_head(bytes: &[u8], headers: &mut [HeaderSpan; 64]) -> Option<RequestSpa
 /// How the bytes of a head are judged.
 ///
 /// # Errors
-/// Want of memory.
+/// Out of memory.
 pub(crate) fn judge(alloc: Global, bytes: &[u8]) -> Result<Result<Head, Refusal>, AllocError>
     ensures { IfOk result (λ judged. IsJudged bytes.now judged) }
 {

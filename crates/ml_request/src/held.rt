@@ -34,7 +34,7 @@ impl Held {
     /// No bytes yet, and room for as many as a head may have.
     ///
     /// # Errors
-    /// Want of memory.
+    /// Out of memory.
     pub fn new(alloc: Global) -> Result<Held, AllocError>
         ensures { IfOk result (λ held. held ≡ []) }
     {
@@ -101,7 +101,7 @@ impl Held {
     /// Moves the first bytes, up to so many, behind those of `body`.
     ///
     /// # Errors
-    /// Want of memory; nothing was moved.
+    /// Out of memory; nothing was moved.
     pub(crate) fn move_into(&mut self, body: &mut Vec<u8>, wanted: usize) -> Result<(), AllocError>
         ensures body { OnOk result (body.new.items ≡ body.old.items ++ take wanted self.old) }
         ensures held { OnOk result (self.new ≡ drop wanted self.old) }

@@ -123,6 +123,6 @@ pub(crate) enum HeadEnd {
 pub enum ReadFault {
     /// The source failed.
     Failed,
-    /// Want of memory.
+    /// Out of memory.
     Memory,
 }

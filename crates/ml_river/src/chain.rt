@@ -158,7 +158,7 @@ fn cluster_box(
 /// run, or where an offset is outside -512..=512.
 ///
 /// # Errors
-/// Want of memory.
+/// Out of memory.
 pub fn chain(
     alloc: Global,
     class: RiverClass,

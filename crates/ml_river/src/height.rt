@@ -12,7 +12,7 @@ use std::alloc::{AllocError, Global};
 /// the last.
 ///
 /// # Errors
-/// Want of memory.
+/// Out of memory.
 pub fn turned(alloc: Global, line: &[Pos], from: usize, to: usize) -> Result<Vec<Pos>, AllocError>
     requires order { from < to }
     requires there { to < length line.now }

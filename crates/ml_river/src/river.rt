@@ -42,7 +42,7 @@ pub struct Placed {
 /// line. Each number is rounded down.
 ///
 /// # Errors
-/// Want of memory.
+/// Out of memory.
 pub fn chain_of(
     alloc: Global,
     g: &Geometry,

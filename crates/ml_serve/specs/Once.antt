@@ -15,7 +15,7 @@ abbrev pub AreTold : {I O : Type 0} → LinkEnds I O → List (Visit I O LinkAns
 AreTold ends [] = Unit {0}
 AreTold ends (visit ∷ visits) = ((bytes : List ℕ) × (ends.left visit.came.source ≡ Some bytes)) × AreTold ends visits
 
--- each connection ended by neither a fault nor want of memory
+-- each connection ended by neither a fault nor a lack of memory
 abbrev pub AllEndWell : {I O : Type 0} → List (Visit I O LinkAnswer) → Type 0
 AllEndWell [] = Unit {0}
 AllEndWell (visit ∷ visits) = EndsWell visit.end × AllEndWell visits

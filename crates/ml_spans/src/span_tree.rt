@@ -63,7 +63,7 @@ impl<K: Key, E: Key, V: Key> SpanTree<K, E, V> {
     /// low as an index of so many entries can be.
     ///
     /// # Errors
-    /// Want of memory.
+    /// Out of memory.
     pub fn of_sorted(
         alloc: Global,
         sorted: &[Entry<K, E, V>],
@@ -80,7 +80,7 @@ impl<K: Key, E: Key, V: Key> SpanTree<K, E, V> {
     /// no spare nodes. It is as low as an index of so many entries can be.
     ///
     /// # Errors
-    /// Want of memory.
+    /// Out of memory.
     pub fn of_read<T, R: Reads<T, K, E, V>>(
         alloc: Global,
         reads: &R,
@@ -129,7 +129,7 @@ impl<K: Key, E: Key, V: Key> SpanTree<K, E, V> {
     /// Makes sure that at least `n` entries can be put in. It adds no more spare nodes than are missing.
     ///
     /// # Errors
-    /// Want of memory, after which there may be more spare nodes than before.
+    /// Out of memory, after which there may be more spare nodes than before.
     pub fn reserve(&mut self, n: usize) -> Result<(), AllocError>
         ensures ok { OnOk result (n ≤ self.new.spare) }
         ensures same { (self.new.entries ≡ self.old.entries) × (self.new.height ≡ self.old.height) }
@@ -213,7 +213,7 @@ impl<K: Key, E: Key, V: Key> SpanTree<K, E, V> {
     /// the order of the entries. Parts of the tree without such an end are passed over.
     ///
     /// # Errors
-    /// Want of memory, after which a first part of them was appended.
+    /// Out of memory, after which a first part of them was appended.
     pub fn stab(&self, from: &K, to: &K, at: &E, out: &mut Seq<V>) -> Result<(), AllocError>
         ensures ok { OnOk result (out.new ≡ out.old
             ++ values_where (is_stabbed K.order E.order from.now to.now at.now) self.now.entries) }
@@ -248,7 +248,7 @@ impl<K: Key, E: Key, V: Key> SpanTree<K, E, V> {
     /// Appends the values of the entries with a key in the closed range, in the order of the entries.
     ///
     /// # Errors
-    /// Want of memory, after which a first part of them was appended.
+    /// Out of memory, after which a first part of them was appended.
     pub fn range(&self, from: &K, to: &K, out: &mut Seq<V>) -> Result<(), AllocError>
         ensures ok { OnOk result (out.new ≡ out.old
             ++ values_where (is_in_range K.order from.now to.now) self.now.entries) }

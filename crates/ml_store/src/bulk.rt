@@ -82,7 +82,7 @@ fn list_pairs(alloc: Global, rows: &[Box<Row>]) -> Result<Vec<Entry<u32, u32, u3
 /// The index of blockers of all rows, with no room.
 ///
 /// # Errors
-/// Want of memory.
+/// Out of memory.
 pub fn pairs_of(alloc: Global, rows: &[Box<Row>]) -> Result<Pairs, AllocError>
     requires { HaveOwnNumbers (unboxed rows.now) }
     ensures paired { IfOk result (λ pairs. IsIndex IsPairIn (unboxed rows.now) pairs.entries) }
@@ -95,7 +95,7 @@ pub fn pairs_of(alloc: Global, rows: &[Box<Row>]) -> Result<Pairs, AllocError>
 /// The grid of all rows, whose numbers are their places, with no room.
 ///
 /// # Errors
-/// Want of memory.
+/// Out of memory.
 pub fn grid_of(alloc: Global, rows: &[Box<Row>]) -> Result<Grid, AllocError>
     requires few { length rows.now ≤ most_labels }
     requires in_turn { AreInTurn (unboxed rows.now) }

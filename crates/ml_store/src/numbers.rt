@@ -112,7 +112,7 @@ impl Numbers {
     /// No number is in use.
     ///
     /// # Errors
-    /// Want of memory.
+    /// Out of memory.
     pub fn new(alloc: Global) -> Result<Numbers, AllocError>
         ensures { IfOk result (λ numbers. numbers ≡ []) }
     {
@@ -122,7 +122,7 @@ impl Numbers {
     /// The first numbers are in use, ascending.
     ///
     /// # Errors
-    /// Want of memory.
+    /// Out of memory.
     pub fn first(alloc: Global, used: usize) -> Result<Numbers, AllocError>
         requires { used ≤ most_labels }
         ensures count { IfOk result (λ numbers. length numbers ≡ used) }

@@ -44,7 +44,7 @@ fn numbers_of(alloc: Global, names: &[Named<'_>]) -> Result<Vec<u32>, AllocError
 /// The rows' numbers in byte order of ids.
 ///
 /// # Errors
-/// Want of memory.
+/// Out of memory.
 pub fn by_name(alloc: Global, rows: &[Box<Row>]) -> Result<Vec<u32>, AllocError>
     requires { HaveOwnIds (unboxed rows.now) }
     ensures by_name { IfOk result (λ ids. AreByName (names_in (unboxed rows.now)) ids.items) }

@@ -219,7 +219,7 @@ impl Store {
     /// No labels, and no room.
     ///
     /// # Errors
-    /// Want of memory.
+    /// Out of memory.
     pub fn new(alloc: Global) -> Result<Store, AllocError>
         ensures { IfOk result (λ s. s ≡ record { rows = []; labels = 0; cells = 0; blocks = 0 }) }
     {
@@ -235,7 +235,7 @@ impl Store {
     /// The labels of these rows, whose numbers are their places, and no room.
     ///
     /// # Errors
-    /// Want of memory.
+    /// Out of memory.
     pub fn of(alloc: Global, rows: Vec<Box<Row>>) -> Result<Store, AllocError>
         requires few { length rows.items ≤ most_labels }
         requires in_turn { AreInTurn (unboxed rows.items) }
@@ -345,7 +345,7 @@ impl Store {
     /// Makes room for so many labels, entries and pairs.
     ///
     /// # Errors
-    /// Want of memory, which leaves the labels; the room may have grown.
+    /// Out of memory, which leaves the labels; the room may have grown.
     pub fn reserve(&mut self, labels: usize, cells: usize, blocks: usize) -> Result<(), AllocError>
         ensures ok { OnOk result ((labels ≤ self.new.labels) × (cells ≤ self.new.cells) × (blocks ≤ self.new.blocks)) }
         ensures rows { self.new.rows ≡ self.old.rows }
@@ -382,7 +382,7 @@ impl Store {
     /// at most 27. The label itself need not be there.
     ///
     /// # Errors
-    /// Want of memory.
+    /// Out of memory.
     pub fn near(&self, label: &Label, band: u8, out: &mut Seq<u32>) -> Result<(), AllocError>
         requires { band ≤ 27 }
         ensures ok { OnOk result (Gathers (IsNumberWith (λ r. IsFoundIn label.now r.label band) self.now.rows) out.old out.new) }
@@ -394,7 +394,7 @@ impl Store {
     /// 27, and that are active up to the scale at least; in whatever order and however often.
     ///
     /// # Errors
-    /// Want of memory.
+    /// Out of memory.
     pub fn overlapping(
         &self,
         alloc: Global,
@@ -448,7 +448,7 @@ impl Store {
     /// for each.
     ///
     /// # Errors
-    /// Want of memory.
+    /// Out of memory.
     pub fn seen<L: Ledger>(
         &self,
         alloc: Global,

@@ -107,7 +107,7 @@ impl Table {
     /// No rows, and no room.
     ///
     /// # Errors
-    /// Want of memory.
+    /// Out of memory.
     pub fn new(alloc: Global) -> Result<Table, AllocError>
         ensures { IfOk result (λ t. t ≡ record { rows = []; room = 0 }) }
     {
@@ -123,7 +123,7 @@ impl Table {
     /// These rows, whose numbers are their places, and no room.
     ///
     /// # Errors
-    /// Want of memory.
+    /// Out of memory.
     pub fn of(alloc: Global, rows: Vec<Box<Row>>) -> Result<Table, AllocError>
         requires few { length rows.items ≤ most_labels }
         requires in_turn { AreInTurn (unboxed rows.items) }
@@ -226,7 +226,7 @@ impl Table {
     /// Makes room for `n` rows.
     ///
     /// # Errors
-    /// Want of memory, which leaves the rows; the room may have grown.
+    /// Out of memory, which leaves the rows; the room may have grown.
     pub fn reserve(&mut self, n: usize) -> Result<(), AllocError>
         ensures ok { OnOk result (n ≤ self.new.room) }
         ensures rows { self.new.rows ≡ self.old.rows }

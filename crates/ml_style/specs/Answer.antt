@@ -6,7 +6,7 @@ use Rattle.ml_style.specs.declared.fault.StyleFault.{StyleFault}
 use Rattle.ml_style.specs.declared.fault.StyleFault.TheVariants.{NotToml, Memory}
 use Rattle.ml_style.specs.declared.style.Style.{Style}
 
--- what a refusal says of the bytes; want of memory says nothing
+-- what a refusal says of the bytes; out of memory says nothing
 abbrev pub IsRefusal : List ℕ → StyleFault → Type 0
 IsRefusal bytes NotToml = IsNoToml bytes
 IsRefusal bytes Memory = Unit {0}

@@ -12,7 +12,7 @@ abbrev pub first : List StyleFault → Option StyleFault
 first [] = None
 first (fault ∷ faults) = Some fault
 
--- what a refusal says of the faults of what a TOML table writes; want of memory says nothing
+-- what a refusal says of the faults of what a TOML table writes; out of memory says nothing
 abbrev pub Refuses : StyleFault → List StyleFault → Type 0
 Refuses Memory faults = Unit {0}
 Refuses NotToml faults = ⊥

@@ -46,7 +46,7 @@ fn kind_named(name: &str) -> Option<Kind>
 /// The rule of class `k`, if it has one: a key and a value, which must both be texts.
 ///
 /// # Errors
-/// BadClass with the part that is none, the key first; want of memory.
+/// BadClass with the part that is none, the key first; out of memory.
 pub(crate) fn rule_in(alloc: Global, k: usize, class: &Table) -> Result<Option<Prop>, StyleFault>
     ensures rule { Answers result (rule_faults k (table_view class.now)) (IsRuleOf (table_view class.now)) }
     ensures text { IfOk result IsRule }

@@ -40,7 +40,7 @@ pub(crate) fn read_look<'a>(
 /// The placing of labels of class `k`, which is of this kind.
 ///
 /// # Errors
-/// BadClass with the first field that is wrong: ref, dx or dy; want of memory.
+/// BadClass with the first field that is wrong: ref, dx or dy; out of memory.
 pub(crate) fn read_placing(
     alloc: Global,
     k: usize,
@@ -60,7 +60,7 @@ pub(crate) fn read_placing(
 /// they may not.
 ///
 /// # Errors
-/// BadClass with the first field that is wrong, min or max; want of memory.
+/// BadClass with the first field that is wrong, min or max; out of memory.
 pub(crate) fn read_range(
     alloc: Global,
     k: usize,
@@ -77,7 +77,7 @@ pub(crate) fn read_range(
 /// The margin of labels of class `k`, in a style of this version.
 ///
 /// # Errors
-/// BadClass with margin; want of memory.
+/// BadClass with margin; out of memory.
 pub(crate) fn read_margin(
     alloc: Global,
     k: usize,

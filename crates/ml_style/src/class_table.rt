@@ -18,7 +18,7 @@ use toml::{Table, Value};
 /// The classes that the values write, one each, in a style of this version.
 ///
 /// # Errors
-/// The first fault, class by class; want of memory.
+/// The first fault, class by class; out of memory.
 pub(crate) fn read_classes(
     alloc: Global,
     version: u32,

@@ -27,7 +27,7 @@ pub enum StyleFault {
     /// The class with this number has no scale to be shown at.
     #[error("class {0} has an empty range of scales")]
     EmptyRange(usize),
-    /// Want of memory.
+    /// Out of memory.
     #[error("out of memory")]
     Memory,
 }

@@ -10,7 +10,7 @@ use std::alloc::Global;
 /// The value of this field of class `k`.
 ///
 /// # Errors
-/// BadClass where there is none; want of memory.
+/// BadClass where there is none; out of memory.
 pub(crate) fn field<T>(
     alloc: Global,
     k: usize,

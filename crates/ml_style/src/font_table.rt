@@ -15,7 +15,7 @@ use toml::{Table, Value};
 /// The font that the value writes; none where it writes none.
 ///
 /// # Errors
-/// Want of memory.
+/// Out of memory.
 pub(crate) fn read_font(alloc: Global, value: &Value) -> Result<Option<Font>, AllocError>
     ensures { IfOk result (IsFontFound (view value.now)) }
 {

@@ -33,7 +33,7 @@ pub(crate) fn find_font<'a>(fonts: &'a [NamedFont], name: &str) -> Option<&'a Fo
 /// The fonts of a table of them, in byte order of their names.
 ///
 /// # Errors
-/// The first member that is no font; want of memory.
+/// The first member that is no font; out of memory.
 pub(crate) fn read_fonts(alloc: Global, table: &Table) -> Result<Seq<NamedFont>, StyleFault>
     ensures fonts { Answers result (font_faults (table_view table.now)) (AreFonts (table_view table.now)) }
     ensures ascending { IfOk result AreAscending }

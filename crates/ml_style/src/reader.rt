@@ -31,7 +31,7 @@ use std::alloc::Global;
 /// whose value is no font. For each class in order: BadClass with the first of its fields that is
 /// wrong, in the order above; UnknownFont where it names none of the fonts; EmptyRange where `min` is
 /// at least `max`. A `class` that is no list is BadClass 0 `class`, and a member of it that is no table
-/// BadClass with its place and `class`. Want of memory.
+/// BadClass with its place and `class`. Out of memory.
 pub fn read_style(alloc: Global, bytes: &[u8]) -> Result<Style, StyleFault>
     ensures ok { IfOk result (λ style. IsStyle bytes.now style) }
     ensures accepted { IsFaultless bytes.now → IsOkUnless result StyleFault.Memory }

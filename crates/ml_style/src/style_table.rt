@@ -19,7 +19,7 @@ use toml::Table;
 /// The style that the table writes.
 ///
 /// # Errors
-/// The first fault; want of memory.
+/// The first fault; out of memory.
 pub(crate) fn read_table(alloc: Global, table: &Table) -> Result<Style, StyleFault>
     ensures { Answers result (style_faults (table_view table.now)) (IsStyleIn (table_view table.now)) }
 {

@@ -85,7 +85,7 @@ const THREE_POINTS: &str = r#"{"type":"FeatureCollection","features":[
 {"type":"Feature","id":"C","geometry":{"type":"Point","coordinates":[0.00008,0]},"properties":{"name":"ab","place":"city","pop":1}}]}"#;
 
 /// What a connection got, how it ended, and the map's revision afterwards; what its watcher heard, and
-/// how often a tile was held that was asked for, or was not kept for want of memory.
+/// how often a tile was held that was asked for, or was not kept because memory ran out.
 #[derive(Drop)]
 struct Exchange {
     sink: MemSink,

@@ -21,7 +21,7 @@ pub struct Cluster {
 /// The extended grapheme clusters of the text (Unicode Standard Annex 29), in order.
 ///
 /// # Errors
-/// Want of memory.
+/// Out of memory.
 pub fn clusters(alloc: Global, font: &Font, text: &Text) -> Result<Seq<Cluster>, AllocError>
     ensures value { IfOk result (λ all. all ≡ clusters_of font.now text.now) }
     ensures joined { IfOk result (λ all. concat (map (λ c. c.text) all) ≡ text.now) }

@@ -9,7 +9,7 @@ use std::alloc::{AllocError, Global};
 /// replaced by one space.
 ///
 /// # Errors
-/// Want of memory.
+/// Out of memory.
 pub fn label_text(alloc: Global, raw: &Text) -> Result<Text, AllocError>
     ensures value { IfOk result (λ text. text ≡ text_there raw.now) }
     ensures short { IfOk result (λ text. length text ≤ length raw.now) }

@@ -23,7 +23,7 @@ longest_body = 65536
 abbrev pub HeldTile : Type 0
 HeldTile = TileKey × List ℕ
 
--- the tiles that are held, most recent first; how often a tile that was asked for was held; and how often one was not kept for want of memory
+-- the tiles that are held, most recent first; how often a tile that was asked for was held; and how often one was not kept because memory ran out
 pub record Cache : Type 0 where
   pub tiles : List HeldTile
   pub hits : ℕ

@@ -48,7 +48,7 @@ impl Tiles {
     /// No tiles.
     ///
     /// # Errors
-    /// Want of memory.
+    /// Out of memory.
     pub fn new(alloc: Global) -> Result<Tiles, AllocError>
         ensures { IfOk result (λ tiles. tiles ≡ record { tiles = []; hits = 0; skips = 0 }) }
     {
@@ -74,7 +74,7 @@ impl Tiles {
         self.hits
     }
 
-    /// How often a tile was not kept for want of memory.
+    /// How often a tile was not kept because memory ran out.
     pub fn skips(&self) -> u64
         ensures { result ≡ self.now.skips }
     {
@@ -121,7 +121,7 @@ impl Tiles {
     /// was kept: a body of more than 65,536 bytes is not.
     ///
     /// # Errors
-    /// Want of memory, which leaves the tiles, and is counted as a skip.
+    /// Out of memory, which leaves the tiles, and is counted as a skip.
     pub fn keep(&mut self, key: TileKey, body: &Seq<u8>) -> Result<bool, AllocError>
         requires { ¬ (IsHeld key self.old.tiles) }
         ensures ok { IfOk result (λ kept. MatchBool kept

@@ -13,7 +13,7 @@ use std::alloc::{AllocError, Global};
 /// of which a box meets its window.
 ///
 /// # Errors
-/// Want of memory.
+/// Out of memory.
 pub fn shown(
     alloc: Global,
     labels: &[Label],

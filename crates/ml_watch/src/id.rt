@@ -10,7 +10,7 @@ use std::alloc::{AllocError, Global};
 /// and two upper-case hexadecimal digits. An empty id is `%`.
 ///
 /// # Errors
-/// Want of memory.
+/// Out of memory.
 pub fn id_text(alloc: Global, id: &Text) -> Result<Seq<u8>, AllocError>
     ensures { IfOk result (λ text. text ≡ id_text id.now) }
 {
@@ -65,7 +65,7 @@ pub(crate) fn hex_digit(n: u8) -> u8
 /// The id that a text spells as [`id_text`] does; none for any other text.
 ///
 /// # Errors
-/// Want of memory.
+/// Out of memory.
 pub fn read_id(alloc: Global, text: &str) -> Result<Option<Text>, AllocError>
     ensures { IfOk result (λ answer. MatchOption answer ((id : List ℕ) → ¬ (Spells text.now id)) (Spells text.now)) }
 {

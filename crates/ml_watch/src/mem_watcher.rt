@@ -49,7 +49,7 @@ impl MemWatcher {
     /// bytes each. Its calls of `tell` that `fails` lists, counted from 0, fail.
     ///
     /// # Errors
-    /// Want of memory.
+    /// Out of memory.
     pub fn new(alloc: Global, room: usize, fails: Vec<u64>) -> Result<MemWatcher, AllocError>
         ensures { IfOk result (λ watcher. watcher ≡ silent_watcher room fails.items) }
     {
