@@ -13,8 +13,8 @@ use std::borrow::CowStr;
 use std::cmp::Ordering;
 use std::marker::Model;
 
-/// A JSON value, as [`crate::Json`] but for its texts, which are parts of the bytes that were read
-/// wherever those have them as they are.
+/// A JSON value, as [`crate::Json`] but for its texts: strings of plain ASCII and numbers in a list or a
+/// map are parts of the bytes that were read, and the rarer others are made.
 #[derive(Drop)]
 #[cycle(lent)]
 pub enum Lent<'a> {
@@ -40,8 +40,7 @@ pub struct LentPair<'a> {
     pub value: Lent<'a>,
 }
 
-/// A text in UTF-8, which is borrowed or, where it had to be made, its own. It is ordered and compared
-/// by its bytes.
+/// A text in UTF-8, which is borrowed or, if it was made, its own. It is ordered and compared by its bytes.
 #[derive(Drop)]
 pub struct LentText<'a> {
     held: CowStr<'a>,
@@ -88,7 +87,7 @@ impl<'a> LentText<'a> {
     /// A copy that borrows nothing.
     ///
     /// # Errors
-    /// Want of memory.
+    /// Out of memory.
     pub fn to_text(&self, alloc: Global) -> Result<Text, AllocError>
         ensures { IfOk result (λ t. t ≡ self.now) }
     {

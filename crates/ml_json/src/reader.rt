@@ -44,7 +44,7 @@ fn finish<'a>(frames: Vec<Frame<'a>>, mode: Mode<'a>) -> Option<Lent<'a>>
 ///
 /// # Errors
 /// [`JsonFault::NotJson`] at the first byte with which no text begins, or at the end of bytes that are
-/// none; [`JsonFault::Deep`] at the byte that opens a 65th list or map; want of memory.
+/// none; [`JsonFault::Deep`] at the byte that opens a 65th list or map; out of memory.
 pub fn read(alloc: Global, bytes: &[u8]) -> Result<Json, JsonFault>
     ensures ok { IfOk result (λ value. IsText bytes.now (tree_of value)) }
     ensures writable { IfOk result (λ value. IsWritable (tree_of value)) }
@@ -55,8 +55,8 @@ pub fn read(alloc: Global, bytes: &[u8]) -> Result<Json, JsonFault>
     scan_and_copy(alloc, bytes)
 }
 
-/// Reads JSON text as [`read`] does, and borrows each number, and each text that stands in the bytes
-/// as it is, from them.
+/// Reads JSON text as [`read`] does, and borrows from the bytes what it takes as whole tokens: strings of
+/// plain ASCII, and numbers in a list or a map.
 ///
 /// # Errors
 /// Those of [`read`].
