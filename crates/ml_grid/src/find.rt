@@ -1,6 +1,5 @@
 //! The numbers that are found in cells.
 ghost use Rattle.std.specs.Prelude.{ℕ, ◌≡◌, ◌+◌, ◌<◌, ◌++◌, ◌≤ℤ◌, ◌↔◌, IsTrue, OnOk, OnErr, Contains, take, length};
-ghost use Rattle.std.specs.List.Sorted.{IsStrictlyIncreasing};
 ghost use Rattle.ml_ratio.specs.Fraction.{value_of, IsAtMost};
 ghost use Rattle.ml_grid.specs.Cell.{cell_of};
 ghost use Rattle.ml_grid.specs.Count.{AreUpToNine};
@@ -101,17 +100,6 @@ pub fn has_in_cells(tree: &Tree, cells: &Cells, scale: &Ratio) -> bool
         }
     }
     false
-}
-
-/// The same numbers, ascending and each once.
-pub fn ascending(found: Seq<u32>) -> Vec<u32>
-    ensures ascending { IsStrictlyIncreasing result.items }
-    ensures same { (n : ℕ) → Contains result.items n ↔ Contains found n }
-{
-    let mut numbers = found.into_vec();
-    numbers.sort_unstable();
-    numbers.dedup();
-    numbers
 }
 
 /// Appends the numbers.

@@ -12,12 +12,12 @@ ghost use Rattle.ml_grid.specs.Column.{IsAmongFrom};
 ghost use Rattle.ml_grid.specs.Marks.{marked, end_by};
 
 use crate::bands::entries_of;
-use crate::find::{append, append_counted, ascending, find_cells, find_cells_from, has_in_cells};
+use crate::find::{append, append_counted, find_cells, find_cells_from, has_in_cells};
 use crate::keep::{Tree, add_all, drop_all, move_all};
 use crate::marks::{Ends, Marks, mark_all};
 use crate::window::window_cells;
 use ml_cone::{Cells, Label, Span, View, hull};
-use ml_ratio::{Ratio, Seq, Steps};
+use ml_ratio::{Ratio, Seq, Steps, ascending};
 use ml_spans::SpanTree;
 use std::alloc::{AllocError, Global};
 use std::marker::Model;

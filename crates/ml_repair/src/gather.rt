@@ -16,19 +16,8 @@ use crate::moves::Moves;
 use crate::sought::{Edited, Sought};
 use ml_cone::Label;
 use ml_conflict::limit_up_to;
-use ml_ratio::{Ratio, Seq};
+use ml_ratio::{Ratio, Seq, ascending};
 use std::alloc::{AllocError, Global};
-
-/// The same places, ascending and each once.
-pub fn ascending(places: Seq<u32>) -> Vec<u32>
-    ensures ascending { IsStrictlyIncreasing result.items }
-    ensures same { (p : ℕ) → Contains result.items p ↔ Contains places p }
-{
-    let mut sorted = places.into_vec();
-    sorted.sort_unstable();
-    sorted.dedup();
-    sorted
-}
 
 // Whether the place is before `i`, and that of the edited label only where that comes.
 fn stands(edited: Edited, i: usize, place: usize) -> bool

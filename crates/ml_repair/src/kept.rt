@@ -10,7 +10,6 @@ ghost use Rattle.ml_repair.specs.Repair.{Stands, AreLeaving, present_slots};
 ghost use Rattle.ml_repair.specs.Kept.{IsOwnBefore, IsStaying, IsLeftBy};
 
 use crate::chosen::{Chosen, present_slot};
-use crate::gather::ascending;
 use crate::moves::Moves;
 use crate::roster::Roster;
 use crate::settle::settle;
@@ -18,7 +17,7 @@ use crate::sought::Edited;
 use ml_cone::Slot;
 use ml_conflict::evaluate;
 use ml_conflict::laws::{same_limits, smaller_ends};
-use ml_ratio::{Seq, Steps};
+use ml_ratio::{Seq, Steps, ascending};
 use std::alloc::{AllocError, Global};
 use std::sync::ledger::Ledger;
 

@@ -9,10 +9,9 @@ ghost use Rattle.ml_store.specs.Table.{IsRowAt};
 ghost use Rattle.ml_repair.specs.Settled.{IsSettled};
 ghost use Rattle.ml_repair.specs.Shown.{AreShownNumbers, AreApart, AreNear, IsShownIn};
 
-use crate::gather::ascending;
 use crate::read::numbers_of;
 use ml_cone::{Span, View, active, meets};
-use ml_ratio::{Seq, Steps};
+use ml_ratio::{Seq, Steps, ascending};
 use ml_store::{Row, Store};
 use std::alloc::{AllocError, Global};
 use std::sync::ledger::Ledger;

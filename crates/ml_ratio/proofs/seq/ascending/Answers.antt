@@ -6,7 +6,7 @@ use Rattle.std.proofs.lemmas.List.Filters.{dedup_is}
 use Rattle.std.proofs.lemmas.List.Kept.{Contains-dedup_nat, Contains-from_dedup}
 use Rattle.std.proofs.lemmas.List.Sorted.{Contains-permutation, IsPermutation-sym}
 use Rattle.std.proofs.lemmas.Map.Keys.{IsStrictlyIncreasing-dedup}
-use Rattle.ml_repair.proofs.gather.ascending.Goals as goal
+use Rattle.ml_ratio.proofs.seq.ascending.Goals as goal
 
 pub returns-clause-ascending : goal.returns-clause-ascending
 returns-clause-ascending c =

@@ -1,2 +1,0 @@
--- What proofs of other crates may cite: features that are the same one by one are one list.
-pub mod SameFeatures
