@@ -1,5 +1,5 @@
 -- A file that is accepted is not refused.
-use Rattle.std.proofs.Common.{◌≡◌, ℕ, ◌<◌, List, length, Some, arith, ◌∙◌, sym, inl, inr}
+use Rattle.std.proofs.Common.{◌≡◌, ℕ, ◌<◌, List, length, Some, arith, ap, ◌∙◌, sym, inl, inr}
 use Rattle.std.specs.Prelude.{◌≢◌}
 use Rattle.ml_io.specs.Files.{FileSet, IsLoaded, IsTooLong}
 use Rattle.ml_cert.specs.SlotsText.{AreSlotLines, IsSlotsFault}
@@ -13,7 +13,7 @@ use Rattle.ml_pass.specs.Table.{IsTable, IsTableFault}
 use Rattle.ml_pass.specs.declared.fault.TableFault.{TableFault}
 use Rattle.ml_pass.specs.declared.fault.TableFault.TheVariants as tables
 use Rattle.ml_ratio.specs.declared.feature.Feature.{Feature}
-use Rattle.ml_geojson.specs.Map.{IsMap, IsMapFault, AreSameFeatures}
+use Rattle.ml_geojson.specs.Map.{IsMap, IsMapFault}
 use Rattle.ml_geojson.specs.declared.fault.GeoFault.{GeoFault}
 use Rattle.ml_geojson.specs.declared.fault.GeoFault.TheVariants as maps
 use Rattle.ml_style.specs.Answer.{IsRefusal}
@@ -33,7 +33,7 @@ pub record KnownFiles : Type 0 where
   pub no_slots_fault : (labels : List Label) (bytes : List ℕ) (slots : List Slot) (k : ℕ) → AreSlotLines labels bytes slots → ¬ (IsSlotsFault labels bytes (slots_fault.BadLine k))
   pub no_style_fault : (bytes : List ℕ) (style : Style) (fault : StyleFault) → IsStyle bytes style → IsRefusal bytes fault → fault ≡ styles.Memory
   pub no_map_fault : (bytes : List ℕ) (features : List Feature) (fault : GeoFault) → IsMap bytes features → IsMapFault bytes fault → fault ≡ maps.Memory
-  pub one_map : (bytes : List ℕ) (features others : List Feature) → IsMap bytes features → IsMap bytes others → AreSameFeatures features others
+  pub one_map : (bytes : List ℕ) (features others : List Feature) → IsMap bytes features → IsMap bytes others → features ≡ others
   pub no_states_fault : (bytes : List ℕ) (states : List State) (k : ℕ) → AreStates bytes states → ¬ (IsStatesFault bytes (state_fault.BadState k))
 
 -- a name has one file
@@ -88,7 +88,7 @@ module _ (known : KnownFiles) where
       impossible
   map_or_not files name features line has (inr full) =
       let same = same_file files name has.0 full.0 has.1.file full.2.file in
-      let count = (known.one_map full.0 features full.1 (rw same at has.2) full.3).one_each in
+      let count = ap (λ (fs : List Feature). length fs) (known.one_map full.0 features full.1 (rw same at has.2) full.3) in
       let few = has.3 in
       let more = full.4 in
       absurd (omega arith)

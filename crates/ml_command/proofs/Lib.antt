@@ -3,7 +3,6 @@ mod CommandLemmas
 mod FollowEnds
 mod FollowLemmas
 mod GapLemmas
-pub mod lemmas
 mod MapLines
 mod MapViewing
 mod OneAnswer

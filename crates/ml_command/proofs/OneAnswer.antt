@@ -16,7 +16,7 @@ use Rattle.ml_flight.specs.declared.stay.Stay.{Stay}
 use Rattle.ml_flight.specs.declared.window.Window.{Window}
 use Rattle.ml_gaps.specs.Gaps.{AreGaps, AreShownGaps, IsShownGap}
 use Rattle.ml_gaps.specs.declared.gap.Gap.{Gap}
-use Rattle.ml_geojson.specs.Map.{AreSameFeatures, IsMap, IsSameFeature}
+use Rattle.ml_geojson.specs.Map.{IsMap}
 use Rattle.ml_label.specs.Labels.{AreLabelsOf}
 use Rattle.ml_label.proofs.lemmas.SamePlaces.{same_listed}
 use Rattle.ml_pass.specs.SlotsText.{slots_text}
@@ -24,7 +24,6 @@ use Rattle.ml_pass.specs.Table.{IsTable}
 use Rattle.ml_style.specs.StyleTable.{IsStyle}
 use Rattle.ml_style.specs.declared.style.Style.{Style}
 use Rattle.ml_editor.specs.State.{State, first_state}
-use Rattle.ml_command.proofs.lemmas.SameFeatures.{same_features}
 use Rattle.ml_command.specs.Answers.{IsMapAnswer, IsTableAnswer, IsTableText, IsTextOf, IsViewOf}
 use Rattle.ml_command.specs.GapLines.{gap_lines, slot_of}
 use Rattle.ml_command.specs.Inputs.{most_bytes}
@@ -84,8 +83,7 @@ module _ (tables : (bytes : List ℕ) (labels others : List Label) → IsTable b
 -- ---- maps
 
 module _ (styles : (bytes : List ℕ) (one other : Style) → IsStyle bytes one → IsStyle bytes other → one ≡ other)
-    (maps : (bytes : List ℕ) (features others : List Feature) → IsMap bytes features → IsMap bytes others → AreSameFeatures features others)
-    (same_is_one : (one other : Feature) → IsSameFeature one other → one ≡ other) where
+    (maps : (bytes : List ℕ) (features others : List Feature) → IsMap bytes features → IsMap bytes others → features ≡ others) where
   same_style : (files : FileSet) (name : List ℕ) (one other : Style) → HasStyle (Some files) name one → HasStyle (Some files) name other → one ≡ other
   same_style files name one other x y =
       let bytes : y.0 ≡ x.0 = same_file files name y.0 x.0 y.1 x.1 in
@@ -94,7 +92,7 @@ module _ (styles : (bytes : List ℕ) (one other : Style) → IsStyle bytes one 
   same_map : (files : FileSet) (name : List ℕ) (features others : List Feature) → HasMap (Some files) name features → HasMap (Some files) name others → features ≡ others
   same_map files name features others x y =
       let bytes : y.0 ≡ x.0 = same_file files name y.0 x.0 y.1 x.1 in
-      same_features same_is_one features others (maps x.0 features others x.2 (rw bytes at y.2))
+      maps x.0 features others x.2 (rw bytes at y.2)
 
   pub one_first_state : (files : FileSet) (style name : List ℕ) (one other : State) → IsFirstState (Some files) style name one → IsFirstState (Some files) style name other → one ≡ other
   one_first_state files style name one other x y =

@@ -17,7 +17,7 @@ use ml_conflict::laws::one_choice;
 use ml_flight::laws::{one_peak, one_timeline};
 use ml_follow::laws::one_reading;
 use ml_gaps::laws::one_answer;
-use ml_geojson::laws::{one_map, same_is_one};
+use ml_geojson::laws::one_map;
 use ml_label::laws::one_list;
 use ml_pass::laws::one_table;
 use ml_style::laws::one_style;
@@ -44,7 +44,6 @@ pub fn one_map_answer()
 {
     one_style();
     one_map();
-    same_is_one();
     one_list();
     one_choice();
     one_timeline();
@@ -58,7 +57,6 @@ pub fn one_first_state()
 {
     one_style();
     one_map();
-    same_is_one();
 }
 
 /// A told file holds one list of states; and where all of them are adopted, they are answered alike, so that the

@@ -4,7 +4,6 @@ use Rattle.std.specs.Str.{bytes_eq}
 use Rattle.std.proofs.lemmas.List.Elements.{Contains-append_left, Contains-append_right}
 use Rattle.std.proofs.lemmas.Slice.Eq.{bytes_eq-Decides}
 use Rattle.ml_ratio.specs.declared.feature.Feature.{Feature}
-use Rattle.ml_geojson.specs.Map.{AreSameFeatures}
 use Rattle.ml_editor.specs.State.{HasFeature}
 use Rattle.ml_gen.specs.Thing.{Thing, thing_of, first_town, things_in}
 use Rattle.ml_gen.specs.declared.group.Group.{Group}
@@ -125,18 +124,6 @@ others_absent (f ∷ fs) g id other none there = elim (feature_cases f (fs ++ g 
 ]
 
 -- ---- the features that are read
-
-has_at : (fs : List Feature) (k : ℕ) (d : Feature) → k < length fs → HasFeature fs (get_or fs k d).id
-has_at [] k d lt = absurd (omega (arith, lt))
-has_at (f ∷ fs) zero d lt = first_is f fs f.id refl
-has_at (f ∷ fs) (suc k) d lt = one_more f fs (get_or fs k d).id (has_at fs k d (omega (arith, lt)))
-
--- the same features have the same ids
-pub same_have : (found made : List Feature) (id : List ℕ) → AreSameFeatures found made → HasFeature made id → HasFeature found id
-same_have found made id same there =
-    let lt : there.1.0 < length found = (let n = same.one_each in omega (arith, there.1.1)) in
-    let is : (get_or found there.1.0 there.0).id ≡ id = (same.same there.1.0 there.0 lt).id ∙ ap (λ (f : Feature). f.id) there.1.2 ∙ there.2 in
-    subst (HasFeature found) is (has_at found there.1.0 there.0 lt)
 
 -- a feature is there for each thing
 pub made_have : (fs : List Feature) (t : Thing) → Contains (map thing_of fs) t → HasFeature fs t.id

@@ -1,7 +1,7 @@
 //! The map of groups, by way of its own text.
 ghost use Rattle.std.specs.Prelude.{◌≡◌, ◌*◌, ◌≤◌, List, length, All, IfOk, Contains, codes, flat_map};
 ghost use Rattle.ml_ratio.specs.declared.feature.Feature.{Feature as FeatureOfMap};
-ghost use Rattle.ml_geojson.specs.Map.{HaveDifferentIds, AreSameFeatures};
+ghost use Rattle.ml_geojson.specs.Map.{HaveDifferentIds};
 ghost use Rattle.ml_editor.specs.State.{HasFeature, first_state};
 ghost use Rattle.ml_gen.specs.Group.{IsGroupPlace, HaveOwnNumbers};
 ghost use Rattle.ml_gen.specs.Thing.{id_of, things_in};
@@ -20,7 +20,7 @@ fn read_back(alloc: Global, made: &Seq<Feature>) -> Result<Seq<Feature>, AllocEr
     requires { HaveDifferentIds made.now }
     ensures read { IfOk result (AreReadBack made.now) }
     ensures differ { IfOk result HaveDifferentIds }
-    ensures same { IfOk result (λ read. AreSameFeatures read made.now) }
+    ensures same { IfOk result (λ read. read ≡ made.now) }
 {
     let text = write_collection(alloc, made)?;
     match read_collection(alloc, text.as_slice()) {

@@ -7,7 +7,7 @@ use Rattle.ml_json.specs.Answer.{IsText, Refuses}
 use Rattle.ml_json.specs.declared.value.JsonFault.{JsonFault}
 use Rattle.ml_json.specs.declared.value.JsonFault.TheVariants as json
 use Rattle.ml_geojson.specs.Collection.{Parts, feature, collection}
-use Rattle.ml_geojson.specs.Map.{AreMadeOf, IsMadeOf, IsMap, IsMapFault, IsFeature, IsFeatureFault, IsSameFeature, AreSameFeatures}
+use Rattle.ml_geojson.specs.Map.{AreMadeOf, IsMadeOf, IsMap, IsMapFault, IsFeature, IsFeatureFault}
 use Rattle.ml_geojson.specs.declared.fault.GeoFault.{GeoFault}
 use Rattle.ml_geojson.specs.declared.fault.GeoFault.TheVariants.{NotJson, Deep, NotCollection, NotFeature, BadGeometry, OutOfRange, ShortRing, NoId, Memory}
 use Rattle.ml_geojson.proofs.SameLemmas.{same_made, same_features}
@@ -15,7 +15,7 @@ use Rattle.std.proofs.lemmas.Option.{same_Some}
 
 module _ (bytes : List ℕ) (one_tree : (v w : Tree) → Reads bytes v → Reads bytes w → v ≡ w) where
   -- a map file has the same features only
-  pub one_map : (features others : List Feature) → IsMap bytes features → IsMap bytes others → AreSameFeatures features others
+  pub one_map : (features others : List Feature) → IsMap bytes features → IsMap bytes others → features ≡ others
   one_map features others a b =
       let tree : a.tree ≡ b.tree = one_tree a.tree b.tree a.text.reads b.text.reads in
       let read : collection b.tree ≡ Ok a.parts = ap collection (sym tree) ∙ a.reads in
@@ -23,7 +23,7 @@ module _ (bytes : List ℕ) (one_tree : (v w : Tree) → Reads bytes v → Reads
       same_features a.parts features others a.made (subst (λ (ps : List Parts). AreMadeOf ps others) parts b.made)
 
   -- a feature is one
-  pub one_feature : (one other : Feature) → IsFeature bytes one → IsFeature bytes other → IsSameFeature one other
+  pub one_feature : (one other : Feature) → IsFeature bytes one → IsFeature bytes other → one ≡ other
   one_feature one other a b =
       let tree : a.tree ≡ b.tree = one_tree a.tree b.tree a.text.reads b.text.reads in
       let read : feature 0 b.tree ≡ Ok a.parts = ap (feature 0) (sym tree) ∙ a.reads in

@@ -11,7 +11,6 @@ use Rattle.ml_ratio.specs.declared.feature.Prop.{Prop}
 use Rattle.ml_ratio.specs.declared.geometry.Pos.{Pos}
 use Rattle.ml_ratio.specs.declared.geometry.Geometry.{Geometry}
 use Rattle.ml_ratio.specs.declared.geometry.Geometry.TheVariants.{Point, MultiPoint, LineString, MultiLineString, Polygon, MultiPolygon}
-use Rattle.ml_geojson.specs.Map.{IsSameFeature}
 use Rattle.ml_geojson.specs.Shape.{Place, place_of, places_of, lines_of, polygons_of, shape_of, some_shape_of}
 
 -- positions with the same coordinates
@@ -103,5 +102,5 @@ same_parts f g id geometry properties i =
       ascending = is_prop→PathP (λ j. AreAscending (properties j)) (λ j. hlevel props) f.ascending g.ascending i;
     }
 
-pub same_is_one : (one other : Feature) → IsSameFeature one other → one ≡ other
-same_is_one one other same = same_parts one other same.id (same_some one.geometry other.geometry same.shape) same.props
+pub same_is_one : (one other : Feature) → one.id ≡ other.id → some_shape_of one.geometry ≡ some_shape_of other.geometry → one.props ≡ other.props → one ≡ other
+same_is_one one other id shape properties = same_parts one other id (same_some one.geometry other.geometry shape) properties

@@ -2,15 +2,16 @@
 use Rattle.std.proofs.Common.{◌≡◌, ℕ, zero, suc, ◌<◌, ◌≤◌, List, ◌∷◌, [], ◌++◌, length, get_or, take, Bool, true, false, Option, Some, None, refl, sym, ap, ◌∙◌, subst, arith, inl, inr}
 use Rattle.std.proofs.Math.Seq.{take-suc}
 use Rattle.std.proofs.lemmas.Bool.{cases_order}
-use Rattle.std.proofs.lemmas.List.{length-map, get_or-map}
+use Rattle.std.proofs.lemmas.List.{length-map, get_or-map, same_lists}
 use Rattle.ml_ratio.specs.declared.feature.Feature.{Feature}
 use Rattle.ml_geojson.specs.Collection.{Parts}
 use Rattle.ml_geojson.specs.Ids.{is_among, marked, IsFresh, IsIdOf}
-use Rattle.ml_geojson.specs.Map.{ids, IsMadeOf, AreMadeOf, IsSameFeature, AreSameFeatures}
+use Rattle.ml_geojson.specs.Map.{ids, IsMadeOf, AreMadeOf}
+use Rattle.ml_geojson.proofs.SameFeature.{same_is_one}
 
 -- two features with one id that are made of the same parts
-pub same_made : (parts : Parts) (f g : Feature) → f.id ≡ g.id → IsMadeOf parts f → IsMadeOf parts g → IsSameFeature f g
-same_made parts f g e one other = record { id = e; shape = one.shape ∙ sym other.shape; props = one.props ∙ sym other.props }
+pub same_made : (parts : Parts) (f g : Feature) → f.id ≡ g.id → IsMadeOf parts f → IsMadeOf parts g → f ≡ g
+same_made parts f g e one other = same_is_one f g e (one.shape ∙ sym other.shape) (one.props ∙ sym other.props)
 
 -- no number of signs is needed for the one and too small for the other
 fewer : (taken : List ℕ → Bool) (k : ℕ) (one other : List ℕ) (a : IsFresh taken k one) (b : IsFresh taken k other) → a.signs < b.signs → ⊥
@@ -62,15 +63,13 @@ module _ (parts : List Parts) (fs gs : List Feature) (are : AreMadeOf parts fs) 
       let other = next gs k (omega arith) in
       one ∙ ap (λ (front : List (List ℕ)). front ++ ((get_or fs k f).id ∷ [])) before ∙ ap (λ (id : List ℕ). take k (ids gs) ++ (id ∷ [])) here ∙ sym other
 
-  same_at : (k : ℕ) → k < length parts → IsSameFeature (get_or fs k f) (get_or gs k f)
+  same_at : (k : ℕ) → k < length parts → get_or fs k f ≡ get_or gs k f
   same_at k lt = same_made (get_or parts k p) (get_or fs k f) (get_or gs k f) (id_at k lt (fronts k (omega arith))) (are.made k p f lt) (like.made k p f lt)
 
 no_parts : Parts
 no_parts = record { own = None; shape = None; props = [] }
 
 -- features that are made of the same parts
-pub same_features : (parts : List Parts) (fs gs : List Feature) → AreMadeOf parts fs → AreMadeOf parts gs → AreSameFeatures fs gs
-same_features parts fs gs are like = record {
-  one_each = are.one_each ∙ sym like.one_each;
-  same = λ k f lt. (let n = are.one_each in same_at parts fs gs are like no_parts f k (omega arith));
-}
+pub same_features : (parts : List Parts) (fs gs : List Feature) → AreMadeOf parts fs → AreMadeOf parts gs → fs ≡ gs
+same_features parts fs gs are like =
+    same_lists fs gs (are.one_each ∙ sym like.one_each) (λ k f lt. (let n = are.one_each in same_at parts fs gs are like no_parts f k (omega arith)))

@@ -31,17 +31,6 @@ pub record AreMadeOf (parts : List Parts) (features : List Feature) : Type 0 whe
   pub made : (k : ℕ) (p : Parts) (f : Feature) → k < length parts → IsMadeOf (slice_index_or parts k p) (slice_index_or features k f)
   pub named : (k : ℕ) (p : Parts) (f : Feature) → k < length parts → IsIdOf (is_among (take k (ids features))) k (slice_index_or parts k p).own (slice_index_or features k f).id
 
--- two features have the same id, the same shape and the same properties
-pub record IsSameFeature (one other : Feature) : Type 0 where
-  pub id : one.id ≡ other.id
-  pub shape : some_shape_of one.geometry ≡ some_shape_of other.geometry
-  pub props : one.props ≡ other.props
-
--- the same features in the same order
-pub record AreSameFeatures (features others : List Feature) : Type 0 where
-  pub one_each : length features ≡ length others
-  pub same : (k : ℕ) (f : Feature) → k < length features → IsSameFeature (slice_index_or features k f) (slice_index_or others k f)
-
 -- an answer gives features made of what is read, or the reading's refusal
 abbrev pub AreRead : Result (List Feature) GeoFault → Reading (List Parts) → Type 0
 AreRead (Ok features) reading = (parts : List Parts) × (reading ≡ Ok parts) × AreMadeOf parts features
@@ -64,7 +53,7 @@ IsMapFault bytes fault = (tree : Tree) × IsText bytes tree × (collection tree 
 
 -- the answer is the same features, or out of memory
 abbrev pub GivesMap : Result (List Feature) GeoFault → List Feature → Type 0
-GivesMap (Ok found) features = AreSameFeatures found features
+GivesMap (Ok found) features = found ≡ features
 GivesMap (Err Memory) features = Unit {0}
 GivesMap (Err fault) features = ⊥
 
@@ -101,6 +90,6 @@ IsFeatureFault bytes fault = (tree : Tree) × IsText bytes tree × (feature 0 tr
 
 -- the answer is the same feature, or out of memory
 abbrev pub GivesFeature : Result Feature GeoFault → Feature → Type 0
-GivesFeature (Ok found) one = IsSameFeature found one
+GivesFeature (Ok found) one = found ≡ one
 GivesFeature (Err Memory) one = Unit {0}
 GivesFeature (Err fault) one = ⊥

@@ -4,7 +4,8 @@ ghost use Rattle.std.specs.Prelude.{◌≡◌, ◌≢◌, ℕ, List, map as mapp
 ghost use Rattle.ml_json.specs.Canonical.{settled, IsPrintable};
 ghost use Rattle.ml_ratio.specs.declared.feature.Feature.{Feature};
 ghost use Rattle.ml_geojson.specs.Collection.{own_parts, feature, collection};
-ghost use Rattle.ml_geojson.specs.Map.{HaveDifferentIds, IsMap, IsMapFault, IsFeature, IsFeatureFault, IsSameFeature, AreSameFeatures};
+ghost use Rattle.ml_geojson.specs.Map.{HaveDifferentIds, IsMap, IsMapFault, IsFeature, IsFeatureFault};
+ghost use Rattle.ml_geojson.specs.Shape.{some_shape_of};
 ghost use Rattle.ml_geojson.specs.Text.{feature_tree, collection_tree};
 ghost use Rattle.ml_geojson.specs.declared.fault.GeoFault.{GeoFault};
 
@@ -41,7 +42,7 @@ pub fn one_fault()
 
 /// Bytes are a map file of the same features only.
 pub fn one_map()
-    ensures { (bytes : List ℕ) (features others : List Feature) → IsMap bytes features → IsMap bytes others → AreSameFeatures features others }
+    ensures { (bytes : List ℕ) (features others : List Feature) → IsMap bytes features → IsMap bytes others → features ≡ others }
 {
     laws::one_tree();
 }
@@ -53,14 +54,14 @@ pub fn ids_differ()
 
 /// Bytes are one feature only.
 pub fn one_feature()
-    ensures { (bytes : List ℕ) (one other : Feature) → IsFeature bytes one → IsFeature bytes other → IsSameFeature one other }
+    ensures { (bytes : List ℕ) (one other : Feature) → IsFeature bytes one → IsFeature bytes other → one ≡ other }
 {
     laws::one_tree();
 }
 
 /// Features of the same id, shape and properties are one.
 pub fn same_is_one()
-    ensures { (one other : Feature) → IsSameFeature one other → one ≡ other }
+    ensures { (one other : Feature) → one.id ≡ other.id → some_shape_of one.geometry ≡ some_shape_of other.geometry → one.props ≡ other.props → one ≡ other }
 {}
 
 /// The trees of features and of collections can be printed, and read as what they were made of.
