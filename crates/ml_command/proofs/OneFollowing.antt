@@ -1,5 +1,5 @@
 -- States that are all adopted are answered in one way.
-use Rattle.std.proofs.Common.{◌≡◌, ℕ, suc, ◌<◌, Bool, true, false, List, [], ◌∷◌, ◌++◌, length, map, get_or, Contains, All, Option, Some, None, inl, inr, refl, sym, ap, subst, ◌∙◌, arith}
+use Rattle.std.proofs.Common.{◌≡◌, ℕ, suc, ◌<◌, true, List, [], ◌∷◌, ◌++◌, length, map, get_or, Option, Some, None, inl, inr, refl, sym, ap, subst, ◌∙◌, arith}
 use Rattle.std.specs.Ordering.{nat_cmp}
 use Rattle.std.specs.Cmp.Lexicographic.{slice_cmp}
 use Rattle.std.specs.List.Sorted.{IsStrictlySortedBy}
@@ -8,7 +8,7 @@ use Rattle.std.proofs.lemmas.Bool.{false≢true}
 use Rattle.std.proofs.lemmas.Cmp.{nat_list_cmp_total, tied_itself}
 use Rattle.std.proofs.lemmas.List.{get_or-map, length-map, append-nil}
 use Rattle.std.proofs.lemmas.Map.Keys.{Less-from_sorted}
-use Rattle.ml_io.specs.Files.{FileSet, IsLoaded}
+use Rattle.ml_io.specs.Files.{FileSet}
 use Rattle.ml_cone.specs.declared.label.Label.{Label}
 use Rattle.ml_cone.specs.declared.slot.Slot.{Slot}
 use Rattle.ml_follow.specs.Changes.{AreChanges, IsChange}
@@ -18,7 +18,6 @@ use Rattle.ml_follow.specs.declared.state.State.{State}
 use Rattle.ml_label.proofs.lemmas.SameLists.{one_list}
 use Rattle.ml_watch.specs.declared.change.Change.{Change}
 use Rattle.ml_command.specs.Following.{AllAdopted, Following, HasStates, IsAdoption, IsOffer, Offered, Offers}
-use Rattle.ml_command.specs.FollowLines.{adopted_line}
 use Rattle.ml_command.proofs.OneAnswer.{same_file}
 
 -- a told file holds one list of states

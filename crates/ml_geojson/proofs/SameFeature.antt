@@ -1,5 +1,5 @@
 -- Features of the same id, shape and properties are one, since each fact that a feature carries has one proof at most.
-use Rattle.std.proofs.Common.{◌≡◌, ℕ, ℤ, List, [], ◌∷◌, map, Option, Some, None, refl, sym, ap, ◌∙◌}
+use Rattle.std.proofs.Common.{◌≡◌, List, [], ◌∷◌, map, Option, Some, None, refl, ap}
 use Rattle.std.proofs.Props.{props}
 use Rattle.std.proofs.lemmas.Option.{same_Some}
 use mathlib.Core.HLevel.{is_prop→PathP}
@@ -7,7 +7,6 @@ use Rattle.ml_ratio.specs.Feature.{HaveScalars, HaveScalars-prop, AreAscending}
 use Rattle.ml_ratio.specs.Geometry.{IsSomeGeometry, IsSomeGeometry-prop}
 use Rattle.ml_ratio.specs.World.{IsInWorld}
 use Rattle.ml_ratio.specs.declared.feature.Feature.{Feature}
-use Rattle.ml_ratio.specs.declared.feature.Prop.{Prop}
 use Rattle.ml_ratio.specs.declared.geometry.Pos.{Pos}
 use Rattle.ml_ratio.specs.declared.geometry.Geometry.{Geometry}
 use Rattle.ml_ratio.specs.declared.geometry.Geometry.TheVariants.{Point, MultiPoint, LineString, MultiLineString, Polygon, MultiPolygon}
