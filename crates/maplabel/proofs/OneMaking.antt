@@ -3,7 +3,6 @@ use Rattle.std.proofs.Common.{◌≡◌, ℕ, ◌*◌, ◌<◌, List, [], ◌∷
 use Rattle.std.specs.Prelude.{◌↔◌, MatchOption, sum_by}
 use Rattle.ml_ratio.specs.Fraction.{IsSame, value_of}
 use Rattle.ml_ratio.specs.declared.feature.Feature.{Feature}
-use Rattle.ml_ratio.specs.declared.ratio.Ratio.{Ratio}
 use Rattle.ml_cone.specs.Choice.{Choice, IsLongest}
 use Rattle.ml_cone.specs.Label.{IsLabelList}
 use Rattle.ml_cone.specs.Shown.{AreShown, IsShown, IsShownUntil}
@@ -12,7 +11,8 @@ use Rattle.ml_cone.specs.declared.label.Label.{Label}
 use Rattle.ml_cone.specs.declared.slot.Slot.{Slot}
 use Rattle.ml_cone.specs.declared.view.View.{View}
 use Rattle.ml_watch.specs.declared.change.Change.{Change}
-use Rattle.ml_geojson.specs.Map.{AreSameFeatures, IsMap, IsSameFeature}
+use Rattle.ml_geojson.specs.Map.{IsMap}
+use Rattle.ml_geojson.specs.Shape.{some_shape_of}
 use Rattle.ml_geojson.specs.Text.{collection_text, feature_text}
 use Rattle.ml_style.specs.StyleTable.{IsStyle}
 use Rattle.ml_style.specs.declared.style.Style.{Style}
@@ -22,30 +22,28 @@ use Rattle.ml_view.proofs.lemmas.OneView.{same_ratio, same_view}
 use Rattle.ml_repair.specs.Changes.{AreChanges}
 use Rattle.ml_repair.specs.Cost.{IsCost}
 use Rattle.ml_editor.specs.Editing.{IsEditCost, id_of}
-use Rattle.ml_editor.specs.Faults.{IsAdding}
-use Rattle.ml_editor.specs.State.{State, first_state, step}
+use Rattle.ml_editor.specs.Faults.{Wish, AsksFor, adds}
+use Rattle.ml_editor.specs.State.{State, first_state}
 use Rattle.ml_editor.specs.declared.edit.Edit.{Edit}
-use Rattle.ml_gen.specs.Group.{order}
 use Rattle.ml_gen.specs.Thing.{Thing, thing_of}
 use Rattle.ml_gen.specs.Totals.{AreRead, AreTotals, HasNumbers, totals_text}
-use Rattle.ml_gen.specs.Turn.{Costs, HaveLabels, IsMade, IsTurn, IsViewOf, Makes, MakesChanges, Run, Shows, Turn, comes, goes, group_in, turns}
+use Rattle.ml_gen.specs.Turn.{Costs, IsMade, IsTurn, IsViewOf, Makes, MakesChanges, Run, Shows, Turn, comes, goes, group_in, turns}
 use Rattle.ml_gen.specs.declared.counts.Counts.{Counts}
 use Rattle.ml_gen.specs.declared.group.Group.{Group}
 use Rattle.ml_gen.specs.declared.totals.Totals.{Totals}
-use Rattle.ml_command.proofs.lemmas.SameFeatures.{same_features}
 use Rattle.ml_http.proofs.lemmas.SameChanges.{SameEnds, changes_moved}
 use Rattle.maplabel.specs.Making.{IsTotalsOf, sample_style}
 
 -- what is known of maps and edits
 pub record KnownMaking : Type 0 where
   pub one_style : (bytes : List ℕ) (one other : Style) → IsStyle bytes one → IsStyle bytes other → one ≡ other
-  pub one_map : (bytes : List ℕ) (features others : List Feature) → IsMap bytes features → IsMap bytes others → AreSameFeatures features others
-  pub same_is_one : (one other : Feature) → IsSameFeature one other → one ≡ other
+  pub one_map : (bytes : List ℕ) (features others : List Feature) → IsMap bytes features → IsMap bytes others → features ≡ others
+  pub same_is_one : (one other : Feature) → one.id ≡ other.id → some_shape_of one.geometry ≡ some_shape_of other.geometry → one.props ≡ other.props → one ≡ other
   pub one_list : (style : Style) (features others : List Feature) (labels rest : List Label) → ((f : Feature) → (Rattle.std.proofs.Common.Contains features f) ↔ (Rattle.std.proofs.Common.Contains others f)) → AreLabelsOf style features labels → AreLabelsOf style others rest → labels ≡ rest
   pub longest : (labels : List Label) (one other : Choice) → IsLongest labels one → IsLongest labels other → (i : ℕ) → i < length labels → IsSame (one i) (other i)
   pub one_changes : (labels : List Label) (slots : List Slot) (new_labels : List Label) (new_slots : List Slot) (changes others : List Change) → AreChanges labels slots new_labels new_slots changes → AreChanges labels slots new_labels new_slots others → changes ≡ others
   pub one_cost : (before after : List Label) (id : List ℕ) (cost other : ℕ) → IsLabelList before → IsLabelList after → IsCost before after id cost → IsCost before after id other → cost ≡ other
-  pub one_add : (body : List ℕ) (one other : Edit) → IsAdding body one → IsAdding body other → one ≡ other
+  pub one_edit : (ask : Wish) (one other : Edit) → AsksFor ask one → AsksFor ask other → one ≡ other
 
 heads : {X : Type 0} (x y : X) (xs ys : List X) → x ∷ xs ≡ y ∷ ys → (x ≡ y) × (xs ≡ ys)
 heads x y xs ys e = (cc (e), cc (e))
@@ -55,7 +53,7 @@ module _ (known : KnownMaking) where
 
   feature_again : (f g : Feature) → thing_of f ≡ thing_of g → f ≡ g
   feature_again f g same =
-      known.same_is_one f g (record { id = ap (λ (t : Thing). t.id) same; shape = ap (λ (t : Thing). t.shape) same; props = ap (λ (t : Thing). t.props) same })
+      known.same_is_one f g (ap (λ (t : Thing). t.id) same) (ap (λ (t : Thing). t.shape) same) (ap (λ (t : Thing). t.props) same)
 
   features_again : (fs gs : List Feature) → map thing_of fs ≡ map thing_of gs → fs ≡ gs
   features_again [] [] same = refl
@@ -69,7 +67,7 @@ module _ (known : KnownMaking) where
   read_again things fs gs x y =
       let made : y.made ≡ x.made = features_again y.made x.made (y.are ∙ sym x.are) in
       let text : y.back.text ≡ x.back.text = y.back.text_is ∙ ap collection_text made ∙ sym x.back.text_is in
-      same_features known.same_is_one fs gs (known.one_map x.back.text fs gs x.back.is_map (rw text at y.back.is_map))
+      known.one_map x.back.text fs gs x.back.is_map (rw text at y.back.is_map)
 
   labels_again : (s : State) (labels others : List Label) → AreLabelsOf s.style s.features labels → AreLabelsOf s.style s.features others → labels ≡ others
   labels_again s labels others x y = known.one_list s.style s.features s.features labels others (λ f. (λ h. h, λ h. h)) x y
@@ -126,9 +124,9 @@ module _ (known : KnownMaking) where
 
   edit_again : (turn : Turn) (one other : Edit) → Makes turn one → Makes turn other → one ≡ other
   edit_again (goes group) one other x y = x ∙ sym y
-  edit_again (comes group) one other (f, is, adds) (g, was, added) =
+  edit_again (comes group) one other (f, is, makes) (g, was, made) =
       let same : g ≡ f = feature_again g f (was ∙ sym is) in
-      known.one_add (feature_text f) one other adds (rw same at added)
+      known.one_edit (adds (feature_text f)) one other makes (subst (λ (h : Feature). AsksFor (adds (feature_text h)) other) same made)
 
   same_counts : (c d : Counts) → c.shown ≡ d.shown → c.changes ≡ d.changes → c.evaluated ≡ d.evaluated → c ≡ d
   same_counts c d shown changes evaluated i = record { shown = shown i; changes = changes i; evaluated = evaluated i }

@@ -12,7 +12,6 @@ use Rattle.ml_follow.specs.declared.state.State as follow
 use Rattle.ml_watch.specs.Hearing.{AllHear, Hearing}
 use Rattle.ml_watch.specs.declared.change.Change.{Change}
 use Rattle.ml_editor.specs.State.{IsState, State}
-use Rattle.ml_http.specs.Connection.{Exchange}
 use Rattle.ml_http.specs.Link.{IsLinkServed, LinkState}
 use Rattle.ml_http.specs.Once.{AreLikeStates, EndsWell}
 use Rattle.ml_http.specs.Step.{LinkAnswer}
@@ -25,8 +24,8 @@ use Rattle.ml_serve.specs.Session.{Visit}
 use Rattle.ml_serve.specs.declared.serve_end.ServeEnd.{ServeEnd}
 use Rattle.ml_serve.specs.declared.serve_end.ServeEnd.TheVariants as serving
 use Rattle.ml_command.specs.Answers.{IsMapAnswer, IsTableAnswer}
-use Rattle.ml_command.specs.Commands.{Ask, IsForm}
-use Rattle.ml_command.specs.Following.{AllAdopted, Following, HasStates, IsEndOfFollowing, IsFollowed, IsPrintedWhole, Offered, changes_of, joined, lines_of}
+use Rattle.ml_command.specs.Commands.{Ask}
+use Rattle.ml_command.specs.Following.{AllAdopted, Following, HasStates, IsEndOfFollowing, IsPrintedWhole, Offered, changes_of, joined, lines_of}
 use Rattle.ml_command.specs.FollowLines.{held_line}
 use Rattle.ml_command.specs.Loading.{IsFirstState}
 use Rattle.ml_command.specs.Once.{plain}
@@ -43,10 +42,10 @@ use Rattle.ml_command.specs.declared.stop.Stop.TheVariants as stop
 use Rattle.maplabel.specs.Making.{IsTotalsOf}
 use Rattle.maplabel.specs.Once.{DoAlike, FindAlike, FindLinks, ReadAlike, ServeAlike, TellAlike, TellBytes}
 use Rattle.maplabel.specs.Outcome.{IsCheckAnswer, IsPrinted, IsStopLine, IsStopPrinted, status_of, usage_line}
-use Rattle.maplabel.specs.Run.{AreFollowed, Call, IsDone, IsRun, IsSiteServed, IsStopped, IsTextEnd, IsTold, status_of_following}
+use Rattle.maplabel.specs.Run.{AreFollowed, Call, IsDone, IsRun, IsStopped, IsTextEnd, status_of_following}
 use Rattle.maplabel.specs.Serving.{IsAllServed, IsPiped, at_first, status_of_link, status_of_serving}
 use Rattle.maplabel.specs.declared.status.Status.{Status}
-use Rattle.maplabel.specs.declared.status.Status.TheVariants.{Done, NotBest, Usage, StyleRefused, InputRefused, FileFault, WriteFault, Memory, TooLong}
+use Rattle.maplabel.specs.declared.status.Status.TheVariants.{Done, Usage, StyleRefused, InputRefused, FileFault, Memory, TooLong}
 
 -- ---- what is printed
 

@@ -1,5 +1,5 @@
 -- Runs that are one.
-use Rattle.std.specs.Prelude.{◌≡◌, ℕ, List, [], ◌∷◌, flat_map, length, Option, Some}
+use Rattle.std.specs.Prelude.{◌≡◌, ℕ, List, [], ◌∷◌, flat_map, length, Some}
 use Rattle.ml_io.specs.Calls.{LinkEnds}
 use Rattle.ml_io.specs.Files.{FileSet}
 use Rattle.ml_io.specs.declared.link.Link.{Link}

@@ -1,5 +1,5 @@
 -- How connections are served over a map that was loaded.
-use Rattle.std.specs.Prelude.{◌≡◌, ℕ, List, [], length, Option, Some}
+use Rattle.std.specs.Prelude.{◌≡◌, ℕ, List, length, Some}
 use Rattle.ml_io.specs.Calls.{Put, Taken, Passed, LinkEnds}
 use Rattle.ml_watch.specs.Hearing.{Hearing}
 use Rattle.ml_editor.specs.State.{State}

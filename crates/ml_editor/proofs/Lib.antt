@@ -6,9 +6,7 @@ mod After
 mod States
 mod Unchanged
 mod Readiness
-mod OneEdit
 mod Refusals
 mod Checks
 mod Changing
 mod Works
-mod Accepted

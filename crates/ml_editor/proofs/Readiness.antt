@@ -1,6 +1,6 @@
 -- Edits with what was drawn up for them, as edits that are ready.
 use Rattle.std.proofs.Common.{◌≡◌, ℕ, ◌+◌, ◌<◌, ◌≤◌, List, length, Contains, Option, Some, None, Result, Ok, Err, ◌⊎◌, inl, inr, refl, sym, subst, arith}
-use Rattle.std.specs.Prelude.{◌↔◌, IfOk, IfSome}
+use Rattle.std.specs.Prelude.{◌↔◌, IfSome, MatchOption}
 use Rattle.std.proofs.lemmas.List.{length-map}
 use Rattle.ml_ratio.specs.declared.feature.Feature.{Feature}
 use Rattle.ml_cone.specs.Label.{IsLabelList}
@@ -10,18 +10,19 @@ use Rattle.ml_label.specs.Labelling.{IsLabelling}
 use Rattle.ml_label.specs.Labels.{AreLabelsOf}
 use Rattle.ml_label.specs.declared.reason.Reason.{Reason}
 use Rattle.ml_style.specs.declared.style.Style.{Style}
-use Rattle.ml_watch.specs.declared.change.Change.{Change}
 use Rattle.ml_store.specs.Rows.{labels_in, slots_in, HasId, Stored}
 use Rattle.ml_store.specs.declared.row.Row.{Row}
 use Rattle.ml_repair.specs.Changes.{AreChanges}
+use Rattle.ml_repair.specs.Cost.{IsCost}
 use Rattle.ml_repair.specs.Edit.{IsEdited}
 use Rattle.ml_repair.specs.Settled.{IsSettled}
 use Rattle.ml_editor.specs.declared.draft.Draft.{Draft}
+use Rattle.ml_editor.specs.declared.edit.Edit.{Edit}
 use Rattle.ml_editor.specs.declared.edit.Edit.TheVariants.{Add, Replace, Remove, Restyle}
 use Rattle.ml_editor.specs.declared.work.Work.{Work}
-use Rattle.ml_editor.specs.State.{State, HasFeature, IsAllowed, last_rev}
+use Rattle.ml_editor.specs.State.{State, HasFeature, IsAllowed, step, last_rev}
 use Rattle.ml_editor.specs.Faults.{IsLast}
-use Rattle.ml_editor.specs.Editing.{Editing, Prepared, IsEditing, IsReady, IsWorkOn, IsDraft, IsLabelFor, IsFeatureDraft, IsStyleDraft, IsLabelWith, label_given, prepared, rows_after, evaluated_of}
+use Rattle.ml_editor.specs.Editing.{Editing, Prepared, IsEditing, IsReady, IsWorkOn, IsWorkFor, IsDraft, IsLabelFor, IsFeatureDraft, IsStyleDraft, IsLabelWith, id_of, label_given, prepared, rows_after, changes_of, evaluated_of}
 use Rattle.ml_editor.proofs.After.{no_label, after_add, after_replace, after_remove, no_more_labels, fewer_labels, label_of_feature, labels_again}
 use Rattle.ml_editor.proofs.States.{reached}
 
@@ -64,16 +65,12 @@ first_editing style features given kept labels built engine room rev low differ 
     })
 
 -- a ready edit is of the same state and labels
-ready_is : (ready p : Prepared) (s new : State) (rows others : List Row) → ready ≡ p → new ≡ s → others ≡ rows → IsReady p s rows → IsReady ready new others
+pub ready_is : (ready p : Prepared) (s new : State) (rows others : List Row) → ready ≡ p → new ≡ s → others ≡ rows → IsReady p s rows → IsReady ready new others
 ready_is ready p s new rows others a b d h =
     let P : Prepared → Type 0 = λ r. IsReady r new others in
     let Q : State → Type 0 = λ t. IsReady p t others in
     let R : List Row → Type 0 = λ rs. IsReady p s rs in
     subst P (sym a) (subst Q (sym b) (subst R (sym d) h))
-
-pub all_ready : {E : Type 0} (result : Result Prepared E) (p : Prepared) (s new : State) (rows others : List Row) → new ≡ s → others ≡ rows → IsReady p s rows → IfOk result (λ ready. ready ≡ p) → IfOk result (λ ready. IsReady ready new others)
-all_ready (Ok ready) p s new rows others b d h same = ready_is ready p s new rows others same b d h
-all_ready (Err e) p s new rows others b d h same = tt
 
 -- the label with the id after an edit is that which came
 edited_label : (id : List ℕ) (come : Option Label) (before after : List Label) → IsEdited id come before after → IfSome come (λ l. l.order.id ≡ id) → IsLabelWith after come id
@@ -82,22 +79,6 @@ edited_label id None before after edited own = λ there. elim ((edited there.0).
   | inr none ↦ no_label there.0 none
 ]
 edited_label id (Some l) before after edited own = ((edited l).1 (inr refl), own)
-
-module _ (rows : List Row) (draft : Draft) (id : List ℕ) (come : Option Label) (drawn : IsDraft draft rows id come) (own : IfSome come (λ l. l.order.id ≡ id)) where
-  its_label : IsLabelWith (labels_in (rows_after draft.work rows)) draft.label id
-  its_label =
-      let P : Option Label → Type 0 = λ o. IsLabelWith (labels_in (rows_after draft.work rows)) o id in
-      subst P (sym drawn.label) (edited_label id come (labels_in rows) (labels_in (rows_after draft.work rows)) drawn.work.edited own)
-
-  its_edit : IsEdited id draft.label (labels_in rows) (labels_in (rows_after draft.work rows))
-  its_edit =
-      let P : Option Label → Type 0 = λ o. IsEdited id o (labels_in rows) (labels_in (rows_after draft.work rows)) in
-      subst P (sym drawn.label) drawn.work.edited
-
-  its_changes : AreChanges (labels_in rows) (slots_in rows) (labels_in (rows_after draft.work rows)) (slots_in (rows_after draft.work rows)) draft.changes
-  its_changes =
-      let P : List Change → Type 0 = λ cs. AreChanges (labels_in rows) (slots_in rows) (labels_in (rows_after draft.work rows)) (slots_in (rows_after draft.work rows)) cs in
-      subst P (sym drawn.changes) drawn.work.changes
 
 module _ (e : Editing) (draft : Draft) (holds : IsEditing e) (not_last : ¬ (IsLast e.state)) where
   abbrev style : Style
@@ -109,64 +90,39 @@ module _ (e : Editing) (draft : Draft) (holds : IsEditing e) (not_last : ¬ (IsL
   abbrev rows : List Row
   rows = e.engine.rows
 
+  abbrev before : List Label
+  before = labels_in rows
+
+  abbrev after : List Label
+  after = labels_in (rows_after draft.work rows)
+
+  -- an edit of the feature with the id
+  by_id : (edit : Edit) (id : List ℕ) → id_of edit ≡ Some id → IsAllowed features edit → IsWorkFor draft.work rows id draft.label →
+      IfSome draft.label (λ l. l.order.id ≡ id) → AreLabelsOf (step e.state edit).style (step e.state edit).features after →
+      IsReady (prepared edit draft (e.state.rev + 1)) e.state rows
+  by_id edit id is allowed work own labels = record {
+    allowed = allowed;
+    reached = reached e.state edit holds.state allowed not_last;
+    rev = refl;
+    work = work.of_labels;
+    labels = labels;
+    settled = work.settled;
+    label = subst (λ o. MatchOption o (draft.label ≡ None) (IsLabelWith after draft.label)) (sym is) (edited_label id draft.label before after work.edited own);
+    edited = subst (λ o. MatchOption o (Unit {0}) (λ i. IsEdited i draft.label before after)) (sym is) work.edited;
+    changes = work.changes;
+    cost = subst (λ o. MatchOption o (evaluated_of draft.work ≡ 0) (λ i. IsCost before after i (evaluated_of draft.work))) (sym is) work.cost;
+  }
+
   -- what comes for a feature is the label that its answer gives
-  edited_by : (f : Feature) (label : Option Label) → (made : IsLabelFor style f label) → IsDraft draft rows f.id label → IsEdited f.id (label_given made.0) (labels_in rows) (labels_in (rows_after draft.work rows))
-  edited_by f label made drawn =
-      let P : Option Label → Type 0 = λ o. IsEdited f.id o (labels_in rows) (labels_in (rows_after draft.work rows)) in
-      subst P made.2 drawn.work.edited
+  edited_by : (f : Feature) → (drawn : IsFeatureDraft style rows f draft) → IsEdited f.id (label_given drawn.label.0) before after
+  edited_by f drawn = let P : Option Label → Type 0 = λ o. IsEdited f.id o before after in subst P drawn.label.2 drawn.work.edited
 
-  pub ready_add : (f : Feature) → IsAllowed features (Add f) → IsFeatureDraft style rows f draft → IsReady (prepared (Add f) draft (e.state.rev + 1)) e.state rows
-  ready_add f allowed (label, made, drawn) =
-      let state = reached e.state (Add f) holds.state allowed not_last in
-      record {
-        allowed = allowed;
-        reached = state;
-        rev = refl;
-        work = drawn.work.of_labels;
-        labels = after_add style features (labels_in rows) (labels_in (rows_after draft.work rows)) holds.labels drawn.work.settled.in_order f made.0 made.1 (edited_by f label made drawn) allowed.0 state.own_ids;
-        settled = drawn.work.settled;
-        label = its_label rows draft f.id label drawn (own_label style f label made);
-        edited = its_edit rows draft f.id label drawn (own_label style f label made);
-        changes = its_changes rows draft f.id label drawn (own_label style f label made);
-        cost = drawn.work.cost;
-      }
-
-  pub ready_replace : (f : Feature) → IsAllowed features (Replace f) → IsFeatureDraft style rows f draft → IsReady (prepared (Replace f) draft (e.state.rev + 1)) e.state rows
-  ready_replace f allowed (label, made, drawn) =
-      let state = reached e.state (Replace f) holds.state allowed not_last in
-      record {
-        allowed = allowed;
-        reached = state;
-        rev = refl;
-        work = drawn.work.of_labels;
-        labels = after_replace style features (labels_in rows) (labels_in (rows_after draft.work rows)) holds.labels drawn.work.settled.in_order f made.0 made.1 (edited_by f label made drawn) allowed state.own_ids;
-        settled = drawn.work.settled;
-        label = its_label rows draft f.id label drawn (own_label style f label made);
-        edited = its_edit rows draft f.id label drawn (own_label style f label made);
-        changes = its_changes rows draft f.id label drawn (own_label style f label made);
-        cost = drawn.work.cost;
-      }
-
-  pub ready_remove : (id : List ℕ) → HasFeature features id → IsDraft draft rows id None → IsReady (prepared (Remove id) draft (e.state.rev + 1)) e.state rows
-  ready_remove id known drawn =
-      let state = reached e.state (Remove id) holds.state known not_last in
-      record {
-        allowed = known;
-        reached = state;
-        rev = refl;
-        work = drawn.work.of_labels;
-        labels = after_remove style features (labels_in rows) (labels_in (rows_after draft.work rows)) holds.labels drawn.work.settled.in_order id drawn.work.edited state.own_ids;
-        settled = drawn.work.settled;
-        label = its_label rows draft id None drawn tt;
-        edited = its_edit rows draft id None drawn tt;
-        changes = its_changes rows draft id None drawn tt;
-        cost = drawn.work.cost;
-      }
-
-  pub ready_style : (new : Style) → IsStyleDraft new features rows draft → IsReady (prepared (Restyle new) draft (e.state.rev + 1)) e.state rows
-  ready_style new drawn =
-      let P : Work → Type 0 = λ w. IsWorkOn w rows × AreLabelsOf new features (labels_in (rows_after w rows)) × IsSettled (rows_after w rows) × AreChanges (labels_in rows) (slots_in rows) (labels_in (rows_after w rows)) (slots_in (rows_after w rows)) draft.changes × (evaluated_of w ≡ 0) in
-      let all : P draft.work = subst P (sym drawn.work) (tt, drawn.labels, drawn.settled, drawn.changes, refl) in
+  -- a new style
+  of_style : (new : Style) → IsStyleDraft new features rows draft → IsReady (prepared (Restyle new) draft (e.state.rev + 1)) e.state rows
+  of_style new drawn =
+      let P : Work → Type 0 = λ w. IsWorkOn w rows × AreLabelsOf new features (labels_in (rows_after w rows)) × IsSettled (rows_after w rows)
+      × AreChanges before (slots_in rows) (labels_in (rows_after w rows)) (slots_in (rows_after w rows)) (changes_of w) × (evaluated_of w ≡ 0) in
+      let all : P draft.work = subst P (sym drawn.work) (tt, drawn.labels, drawn.settled, drawn.are_changes, refl) in
       record {
         allowed = tt;
         reached = reached e.state (Restyle new) holds.state tt not_last;
@@ -179,3 +135,21 @@ module _ (e : Editing) (draft : Draft) (holds : IsEditing e) (not_last : ¬ (IsL
         changes = all.3;
         cost = all.4;
       }
+
+  -- what was drawn up for an edit that the features allow makes it ready
+  pub ready_of : (edit : Edit) → IsAllowed features edit → IsDraft e.state rows edit draft → IsReady (prepared edit draft (e.state.rev + 1)) e.state rows
+  ready_of (Add f) allowed drawn =
+      let ids = (reached e.state (Add f) holds.state allowed not_last).own_ids in
+      by_id (Add f) f.id refl allowed drawn.work (own_label style f draft.label drawn.label)
+      (after_add style features before after holds.labels drawn.work.settled.in_order f drawn.label.0 drawn.label.1 (edited_by f drawn) allowed.0 ids)
+  ready_of (Replace f) allowed drawn =
+      let ids = (reached e.state (Replace f) holds.state allowed not_last).own_ids in
+      by_id (Replace f) f.id refl allowed drawn.work (own_label style f draft.label drawn.label)
+      (after_replace style features before after holds.labels drawn.work.settled.in_order f drawn.label.0 drawn.label.1 (edited_by f drawn) allowed ids)
+  ready_of (Remove id) allowed drawn =
+      let ids = (reached e.state (Remove id) holds.state allowed not_last).own_ids in
+      let P : Option Label → Type 0 = λ o. IsWorkFor draft.work rows id o in
+      let Q : Option Label → Type 0 = λ o. IfSome o (λ l. l.order.id ≡ id) in
+      by_id (Remove id) id refl allowed (subst P (sym drawn.label) drawn.work) (subst Q (sym drawn.label) tt)
+      (after_remove style features before after holds.labels drawn.work.settled.in_order id drawn.work.edited ids)
+  ready_of (Restyle new) allowed drawn = of_style new drawn

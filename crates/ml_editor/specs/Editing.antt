@@ -1,5 +1,5 @@
 -- What contracts see of an editor and of an edit that is ready, and when the one may be carried out on the other.
-use Rattle.std.specs.Prelude.{◌≡◌, ℕ, ◌+◌, ◌<◌, ◌≤◌, List, [], Option, Some, None, MatchOption, Result, Ok, Err, Contains}
+use Rattle.std.specs.Prelude.{◌≡◌, ℕ, ◌+◌, ◌<◌, ◌≤◌, List, Option, Some, None, MatchOption, Result, Ok, Err, Contains}
 use Rattle.ml_cone.specs.declared.label.Label.{Label}
 use Rattle.ml_ratio.specs.declared.feature.Feature.{Feature}
 use Rattle.ml_style.specs.declared.style.Style.{Style}
@@ -13,7 +13,7 @@ use Rattle.ml_repair.specs.Changes.{AreChanges}
 use Rattle.ml_repair.specs.Cost.{IsCost}
 use Rattle.ml_repair.specs.Edit.{IsEdited}
 use Rattle.ml_repair.specs.Settled.{IsSettled}
-use Rattle.ml_repair.specs.Plan.{IsPlanOf, planned_rows, room_of, HasRoom, KeepsRoom}
+use Rattle.ml_repair.specs.Plan.{Planned, IsPlanOf, planned_rows, room_of, HasRoom, KeepsRoom}
 use Rattle.ml_editor.specs.State.{State, IsState, IsAllowed, step}
 use Rattle.ml_editor.specs.declared.edit.Edit.{Edit}
 use Rattle.ml_editor.specs.declared.edit.Edit.TheVariants.{Add, Replace, Remove, Restyle}
@@ -44,27 +44,27 @@ pub record Prepared : Type 0 where
 
 -- the labels after the work
 abbrev pub rows_after : Work → List Row → List Row
-rows_after Nothing rows = rows
+rows_after (Nothing none) rows = rows
 rows_after (Plans plan) rows = planned_rows plan rows
-rows_after (Rebuilds engine) rows = engine.rows
+rows_after (Rebuilds engine changes) rows = engine.rows
 
 -- the work is of these labels
 abbrev pub IsWorkOn : Work → List Row → Type 0
-IsWorkOn Nothing rows = Unit {0}
+IsWorkOn (Nothing none) rows = Unit {0}
 IsWorkOn (Plans plan) rows = IsPlanOf plan rows
-IsWorkOn (Rebuilds engine) rows = Unit {0}
+IsWorkOn (Rebuilds engine changes) rows = Unit {0}
 
--- what the work changes of the labels; a new engine does not say
+-- what the work changes of the labels
 abbrev pub changes_of : Work → List Change
-changes_of Nothing = []
+changes_of (Nothing none) = none
 changes_of (Plans plan) = plan.changes
-changes_of (Rebuilds engine) = []
+changes_of (Rebuilds engine changes) = changes
 
 -- how many labels were evaluated for the work; none are where all are made anew
 abbrev pub evaluated_of : Work → ℕ
-evaluated_of Nothing = 0
+evaluated_of (Nothing none) = 0
 evaluated_of (Plans plan) = plan.evaluated
-evaluated_of (Rebuilds engine) = 0
+evaluated_of (Rebuilds engine changes) = 0
 
 -- the label that an answer gives, if it gives one
 abbrev pub label_given : Result Label Reason → Option Label
@@ -79,34 +79,67 @@ pub record IsWorkFor (work : Work) (rows : List Row) (id : List ℕ) (come : Opt
   pub changes : AreChanges (labels_in rows) (slots_in rows) (labels_in (rows_after work rows)) (slots_in (rows_after work rows)) (changes_of work)
   pub cost : IsCost (labels_in rows) (labels_in (rows_after work rows)) id (evaluated_of work)
 
--- what was drawn up is the work that makes these labels those but any with the id, and that which comes, if one does, with its changes
-pub record IsDraft (draft : Draft) (rows : List Row) (id : List ℕ) (come : Option Label) : Type 0 where
-  pub work : IsWorkFor draft.work rows id come
-  pub label : draft.label ≡ come
-  pub changes : draft.changes ≡ changes_of draft.work
-
 -- the label of a feature, or none where it has none
 abbrev pub IsLabelFor : Style → Feature → Option Label → Type 0
 IsLabelFor style f label = (answer : Result Label Reason) × IsLabelling style f answer × (label ≡ label_given answer)
 
--- what was drawn up for a feature that comes
-abbrev pub IsFeatureDraft : Style → List Row → Feature → Draft → Type 0
-IsFeatureDraft style rows f draft = (label : Option Label) × IsLabelFor style f label × IsDraft draft rows f.id label
+-- what was drawn up for a feature that comes: its label, and the work where that comes in place of that with its id
+pub record IsFeatureDraft (style : Style) (rows : List Row) (f : Feature) (draft : Draft) : Type 0 where
+  pub label : IsLabelFor style f draft.label
+  pub work : IsWorkFor draft.work rows f.id draft.label
+
+-- what was drawn up where the feature with the id goes
+pub record IsRemovalDraft (rows : List Row) (id : List ℕ) (draft : Draft) : Type 0 where
+  pub label : draft.label ≡ None
+  pub work : IsWorkFor draft.work rows id None
 
 -- what was drawn up for a new style: a new engine with the labels under it, and the changes between the two
 pub record IsStyleDraft (style : Style) (features : List Feature) (rows : List Row) (draft : Draft) : Type 0 where
   pub engine : Stored
-  pub work : draft.work ≡ Rebuilds engine
+  pub changes : List Change
+  pub work : draft.work ≡ Rebuilds engine changes
   pub label : draft.label ≡ None
   pub labels : AreLabelsOf style features (labels_in engine.rows)
   pub settled : IsSettled engine.rows
-  pub changes : AreChanges (labels_in rows) (slots_in rows) (labels_in engine.rows) (slots_in engine.rows) draft.changes
+  pub are_changes : AreChanges (labels_in rows) (slots_in rows) (labels_in engine.rows) (slots_in engine.rows) changes
+
+-- the key is the id of the edit's feature
+abbrev pub IsKeyOf : Edit → List ℕ → Type 0
+IsKeyOf (Add f) key = key ≡ f.id
+IsKeyOf (Replace f) key = key ≡ f.id
+IsKeyOf (Remove id) key = key ≡ id
+IsKeyOf (Restyle style) key = Unit {0}
+
+-- what was drawn up for an edit of a map with these labels
+abbrev pub IsDraft : State → List Row → Edit → Draft → Type 0
+IsDraft s rows (Add f) draft = IsFeatureDraft s.style rows f draft
+IsDraft s rows (Replace f) draft = IsFeatureDraft s.style rows f draft
+IsDraft s rows (Remove id) draft = IsRemovalDraft rows id draft
+IsDraft s rows (Restyle style) draft = IsStyleDraft style s.features rows draft
+
+-- the same with its key; a step was spent for each label that was evaluated
+pub record IsEditDraft (s : State) (rows : List Row) (edit : Edit) (before after : ℕ) (draft : Draft) : Type 0 where
+  pub is : IsDraft s rows edit draft
+  pub key : IsKeyOf edit draft.key
+  pub spent : after ≡ before + evaluated_of draft.work
+
+-- a draft with a plan, if there is one
+abbrev pub IsDrawn : {E : Type 0} → List ℕ → Result Planned E → Option Label → Result Draft E → Type 0
+IsDrawn key (Ok plan) label result = result ≡ Ok (record { key = key; work = Plans plan; label = label })
+IsDrawn key (Err e) label result = result ≡ Err e
+
+-- what was drawn up where any label with the id goes, and this one comes, if one does; a step was spent for each label that was evaluated
+pub record IsDrawnFor (draft : Draft) (rows : List Row) (id : List ℕ) (come : Option Label) (before after : ℕ) : Type 0 where
+  pub key : draft.key ≡ id
+  pub label : draft.label ≡ come
+  pub work : IsWorkFor draft.work rows id come
+  pub spent : after ≡ before + evaluated_of draft.work
 
 -- there is room for the work
 abbrev pub HasRoomForWork : Work → Stored → Type 0
-HasRoomForWork Nothing held = Unit {0}
+HasRoomForWork (Nothing none) held = Unit {0}
 HasRoomForWork (Plans plan) held = HasRoom (room_of plan) held
-HasRoomForWork (Rebuilds engine) held = Unit {0}
+HasRoomForWork (Rebuilds engine changes) held = Unit {0}
 
 -- there is room for the feature that comes, if one does
 abbrev pub HasRoomForFeature : Edit → ℕ → Type 0
@@ -153,7 +186,7 @@ pub record IsReady (ready : Prepared) (s : State) (rows : List Row) : Type 0 whe
 
 -- the edit with what was drawn up for it, as one that is ready
 abbrev pub prepared : Edit → Draft → ℕ → Prepared
-prepared edit draft rev = record { edit = edit; work = draft.work; label = draft.label; rev = rev; changes = draft.changes; evaluated = evaluated_of draft.work }
+prepared edit draft rev = record { edit = edit; work = draft.work; label = draft.label; rev = rev; changes = changes_of draft.work; evaluated = evaluated_of draft.work }
 
 -- there is room for all that the edit brings
 pub record HasRoomFor (ready : Prepared) (e : Editing) : Type 0 where
@@ -166,10 +199,3 @@ pub record IsSameMap (old new : Editing) : Type 0 where
   pub rows : new.engine.rows ≡ old.engine.rows
   pub features_room : old.room ≤ new.room
   pub labels_room : KeepsRoom old.engine new.engine
-
--- the key is the id of the edit's feature
-abbrev pub IsKeyOf : Edit → List ℕ → Type 0
-IsKeyOf (Add f) key = key ≡ f.id
-IsKeyOf (Replace f) key = key ≡ f.id
-IsKeyOf (Remove id) key = key ≡ id
-IsKeyOf (Restyle style) key = Unit {0}

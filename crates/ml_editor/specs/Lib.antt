@@ -3,5 +3,6 @@ pub mod State
 pub mod Faults
 pub mod Features
 pub mod Editing
+pub mod Outcome
 pub mod Standing
 pub mod Changing

@@ -20,9 +20,9 @@ pub(crate) fn work_on(engine: &mut Engine, work: Work)
     ensures { engine.new.rows ≡ rows_after work engine.old.rows }
 {
     match work {
-        Work::Nothing => {}
+        Work::Nothing(_) => {}
         Work::Plans(plan) => engine.apply(plan),
-        Work::Rebuilds(rebuilt) => *engine = rebuilt,
+        Work::Rebuilds(rebuilt, _) => *engine = rebuilt,
     }
 }
 
@@ -46,7 +46,7 @@ pub(crate) fn edit_map(style: &mut Style, features: &mut Features, edit: Edit, k
 /// Takes the room for the feature that comes, if one does.
 ///
 /// # Errors
-/// Want of memory.
+/// Out of memory.
 pub(crate) fn reserve_feature(features: &mut Features, edit: &Edit) -> Result<(), AllocError>
     ensures ok { OnOk result (HasRoomForFeature edit.now features.new.room) }
     ensures same { features.new.list ≡ features.old.list }
@@ -63,7 +63,7 @@ pub(crate) fn reserve_feature(features: &mut Features, edit: &Edit) -> Result<()
 /// Takes the room for the work.
 ///
 /// # Errors
-/// Want of memory.
+/// Out of memory.
 pub(crate) fn reserve_work(engine: &mut Engine, work: &Work) -> Result<(), AllocError>
     requires { IsWorkOn work.now engine.old.rows }
     ensures ok { OnOk result (HasRoomForWork work.now engine.new) }
@@ -71,8 +71,8 @@ pub(crate) fn reserve_work(engine: &mut Engine, work: &Work) -> Result<(), Alloc
     ensures room { KeepsRoom engine.old engine.new }
 {
     match work {
-        Work::Nothing => Ok(()),
+        Work::Nothing(_) => Ok(()),
         Work::Plans(plan) => engine.reserve(plan),
-        Work::Rebuilds(_) => Ok(()),
+        Work::Rebuilds(_, _) => Ok(()),
     }
 }

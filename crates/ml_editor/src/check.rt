@@ -1,12 +1,14 @@
 //! What refuses an edit.
-ghost use Rattle.std.specs.Prelude.{◌≡◌, ℕ, IfOk, IfErr, OnOk, MatchBool, None as any_rev};
+ghost use Rattle.std.specs.Prelude.{◌≡◌, ◌<◌, length, IfOk, IfErr, OnOk, MatchBool};
+ghost use Rattle.ml_ratio.specs.Limits.{most_labels};
 ghost use Rattle.ml_geojson.specs.Map.{IsFeature};
 ghost use Rattle.ml_style.specs.StyleTable.{IsStyle};
 ghost use Rattle.ml_editor.specs.State.{HasFeature, IsAllowed};
-ghost use Rattle.ml_editor.specs.declared.edit.Edit.TheVariants.{Add as add_edit, Replace as replace_edit};
 ghost use Rattle.ml_editor.specs.Editing.{IsEditing};
-ghost use Rattle.ml_editor.specs.Faults.{HasMoved, IsPresent, IsFull, IsLast, IsNewFault, MayCome, IsAddition, IsAddFault, IsReplacement, IsReplaceFault, IsRemoval, IsRemoveFault, IsRestyle, IsStyleFault, IsBodyFault, IsStyleBodyFault};
+ghost use Rattle.ml_editor.specs.Faults.{IsMoved, IsPresent, IsLast, IsBarred, IsMissing, IsNoFeature, IsNoStyle, IsUnread, IsDenied, IsRefused, IsFault, IsGranted, AsksFor, OrMemory, wish_of};
 
+use crate::asked::Asked;
+use crate::edit::Edit;
 use crate::editor::Editor;
 use crate::fault::EditFault;
 use ml_geojson::{GeoFault, read_feature};
@@ -20,7 +22,7 @@ pub const LAST_REV: u64 = 9007199254740992;
 // The feature that the body is, with its id.
 fn read_feature_body(alloc: Global, body: &[u8]) -> Result<Feature, EditFault>
     ensures ok { IfOk result (IsFeature body.now) }
-    ensures err { IfErr result (IsBodyFault body.now) }
+    ensures err { IfErr result (OrMemory (IsNoFeature body.now)) }
 {
     match read_feature(alloc, body) {
         Ok(feature) => Ok(feature),
@@ -32,7 +34,7 @@ fn read_feature_body(alloc: Global, body: &[u8]) -> Result<Feature, EditFault>
 // The style that the body is.
 fn read_style_body(alloc: Global, body: &[u8]) -> Result<Style, EditFault>
     ensures ok { IfOk result (IsStyle body.now) }
-    ensures err { IfErr result (IsStyleBodyFault body.now) }
+    ensures err { IfErr result (OrMemory (IsNoStyle body.now)) }
 {
     match read_style(alloc, body) {
         Ok(style) => Ok(style),
@@ -41,11 +43,24 @@ fn read_style_body(alloc: Global, body: &[u8]) -> Result<Style, EditFault>
     }
 }
 
+// The edit that is asked for.
+fn read_edit(alloc: Global, asked: Asked<'_>) -> Result<Edit, EditFault>
+    ensures ok { IfOk result (AsksFor (wish_of asked.entry)) }
+    ensures err { IfErr result (OrMemory (IsUnread (wish_of asked.entry))) }
+{
+    match asked {
+        Asked::Add(body) => Ok(Edit::Add(read_feature_body(alloc, body)?)),
+        Asked::Replace(body) => Ok(Edit::Replace(read_feature_body(alloc, body)?)),
+        Asked::Remove(id) => Ok(Edit::Remove(Text::of(alloc, id)?)),
+        Asked::Restyle(body) => Ok(Edit::Restyle(read_style_body(alloc, body)?)),
+    }
+}
+
 impl Editor {
     // Whether no other revision was asked for than the present one.
     fn check_rev(&self, rev: Option<u64>) -> Result<(), EditFault>
         ensures ok { OnOk result (IsPresent self.now.state rev) }
-        ensures err { IfErr result (λ e. (now : ℕ) × (e ≡ EditFault.RevMoved now) × HasMoved self.now.state rev now) }
+        ensures err { IfErr result (IsMoved self.now.state rev) }
     {
         match rev {
             Some(asked) => if asked == self.revision {
@@ -69,7 +84,7 @@ impl Editor {
 
     // Whether there is no room for one more feature.
     fn is_full(&self) -> bool
-        ensures full { MatchBool result (IsFull self.now.state) (¬ (IsFull self.now.state)) }
+        ensures full { MatchBool result (length self.now.state.features ≡ most_labels) (length self.now.state.features < most_labels) }
         ensures holds { IsEditing self.now }
     {
         self.features.len() == MOST_LABELS
@@ -85,8 +100,8 @@ impl Editor {
 
     // Whether a feature with this id may come as a new one.
     fn check_new(&self, id: &Text) -> Result<(), EditFault>
-        ensures ok { OnOk result (MayCome self.now.state id.now) }
-        ensures err { IfErr result (IsNewFault self.now.state id.now) }
+        ensures ok { OnOk result (¬ (HasFeature self.now.state.features id.now) × (length self.now.state.features < most_labels)) }
+        ensures err { IfErr result (OrMemory (IsBarred self.now.state.features id.now)) }
     {
         if self.has_feature(id) {
             return Err(EditFault::Duplicate(id.copy()?));
@@ -94,85 +109,57 @@ impl Editor {
         if self.is_full() {
             return Err(EditFault::Full);
         }
-        if self.is_last() {
-            return Err(EditFault::RevEnd);
-        }
         Ok(())
     }
 
-    // Whether the feature with this id may be replaced or removed.
+    // Whether a feature with this id may be replaced or removed.
     fn check_known(&self, id: &Text) -> Result<(), EditFault>
-        ensures ok { OnOk result (IsRemoval self.now.state any_rev id.now) }
-        ensures err { IfErr result (IsRemoveFault self.now.state any_rev id.now) }
+        ensures ok { OnOk result (HasFeature self.now.state.features id.now) }
+        ensures err { IfErr result (OrMemory (IsMissing self.now.state.features id.now)) }
     {
-        if !self.has_feature(id) {
-            return Err(EditFault::Unknown(id.copy()?));
+        if self.has_feature(id) {
+            return Ok(());
         }
+        Err(EditFault::Unknown(id.copy()?))
+    }
+
+    // Whether the features allow the edit.
+    fn check_features(&self, edit: &Edit) -> Result<(), EditFault>
+        ensures ok { OnOk result (IsAllowed self.now.state.features edit.now) }
+        ensures err { IfErr result (OrMemory (IsDenied self.now.state.features edit.now)) }
+    {
+        match edit {
+            Edit::Add(feature) => self.check_new(&feature.id),
+            Edit::Replace(feature) => self.check_known(&feature.id),
+            Edit::Remove(id) => self.check_known(id),
+            Edit::Restyle(_) => Ok(()),
+        }
+    }
+
+    // Whether nothing refuses the edit.
+    fn check_edit(&self, edit: &Edit) -> Result<(), EditFault>
+        ensures ok { OnOk result (IsAllowed self.now.state.features edit.now × ¬ (IsLast self.now.state)) }
+        ensures err { IfErr result (OrMemory (IsRefused self.now.state edit.now)) }
+    {
+        self.check_features(edit)?;
         if self.is_last() {
             return Err(EditFault::RevEnd);
         }
         Ok(())
     }
 
-    // The feature that is to come, if nothing refuses it.
-    pub(crate) fn check_add(
+    // The edit that is asked for, if nothing refuses it.
+    pub(crate) fn check(
         &self,
         alloc: Global,
         rev: Option<u64>,
-        body: &[u8],
-    ) -> Result<Feature, EditFault>
-        ensures ok { IfOk result (λ _. IsAddition self.now.state rev body.now) }
-        ensures body { IfOk result (IsFeature body.now) }
-        ensures allowed { IfOk result (λ f. IsAllowed self.now.state.features (add_edit f)) }
-        ensures err { IfErr result (IsAddFault self.now.state rev body.now) }
+        asked: Asked<'_>,
+    ) -> Result<Edit, EditFault>
+        ensures ok { IfOk result (IsGranted self.now.state rev (wish_of asked.entry)) }
+        ensures err { IfErr result (OrMemory (IsFault self.now.state rev (wish_of asked.entry))) }
     {
         self.check_rev(rev)?;
-        let feature = read_feature_body(alloc, body)?;
-        self.check_new(&feature.id).and(Ok(feature))
-    }
-
-    // The feature that is to take the place of that with its id, if nothing refuses it.
-    pub(crate) fn check_replace(
-        &self,
-        alloc: Global,
-        rev: Option<u64>,
-        body: &[u8],
-    ) -> Result<Feature, EditFault>
-        ensures ok { IfOk result (λ _. IsReplacement self.now.state rev body.now) }
-        ensures body { IfOk result (IsFeature body.now) }
-        ensures allowed { IfOk result (λ f. IsAllowed self.now.state.features (replace_edit f)) }
-        ensures err { IfErr result (IsReplaceFault self.now.state rev body.now) }
-    {
-        self.check_rev(rev)?;
-        let feature = read_feature_body(alloc, body)?;
-        self.check_known(&feature.id).and(Ok(feature))
-    }
-
-    // Whether nothing refuses the removal of the feature with this id.
-    pub(crate) fn check_remove(&self, rev: Option<u64>, id: &Text) -> Result<(), EditFault>
-        ensures ok { OnOk result (IsRemoval self.now.state rev id.now) }
-        ensures err { IfErr result (IsRemoveFault self.now.state rev id.now) }
-    {
-        self.check_rev(rev)?;
-        self.check_known(id)
-    }
-
-    // The style that is to come, if nothing refuses it.
-    pub(crate) fn check_style(
-        &self,
-        alloc: Global,
-        rev: Option<u64>,
-        body: &[u8],
-    ) -> Result<Style, EditFault>
-        ensures ok { IfOk result (λ _. IsRestyle self.now.state rev body.now) }
-        ensures body { IfOk result (IsStyle body.now) }
-        ensures err { IfErr result (IsStyleFault self.now.state rev body.now) }
-    {
-        self.check_rev(rev)?;
-        let style = read_style_body(alloc, body)?;
-        if self.is_last() {
-            return Err(EditFault::RevEnd);
-        }
-        Ok(style)
+        let edit = read_edit(alloc, asked)?;
+        self.check_edit(&edit).and(Ok(edit))
     }
 }

@@ -28,18 +28,13 @@ impl Editor {
         ensures stood { IsEditing self.old }
         ensures holds { IsEditing self.new }
     {
-        let Ready {
-            edit,
-            key,
-            draft,
-            rev,
-        } = ready;
+        let Ready { edit, draft, rev } = ready;
         let Draft {
+            key,
             work,
             label: _,
-            changes,
         } = draft;
-        crowd.tell_all(&changes);
+        crowd.tell_all(work.changes());
         work_on(&mut self.engine, work);
         edit_map(&mut self.style, &mut self.features, edit, key);
         self.revision = rev;

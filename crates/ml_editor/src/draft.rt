@@ -1,36 +1,84 @@
 //! What is drawn up for an edit.
-ghost use Rattle.std.specs.Prelude.{◌≡◌, ◌+◌, ◌<◌, length, IfOk, IfSome, IsSome, OnOk};
+ghost use Rattle.std.specs.Prelude.{◌≡◌, ◌<◌, length, IfOk, IfSome, IsSome};
 ghost use Rattle.ml_ratio.specs.Limits.{most_labels};
 ghost use Rattle.ml_store.specs.Rows.{labels_in, HasId};
 ghost use Rattle.ml_repair.specs.Settled.{IsSettled};
-ghost use Rattle.ml_editor.specs.Editing.{IsDraft, IsWorkFor, changes_of, evaluated_of};
+ghost use Rattle.ml_editor.specs.State.{IsAllowed};
+ghost use Rattle.ml_editor.specs.Editing.{IsDrawn, IsDrawnFor, IsEditDraft, IsEditing, IsLabelFor, IsStyleDraft};
 
-use crate::work::{Work, plan_coming, plan_going};
+use crate::changes::changes_between;
+use crate::edit::Edit;
+use crate::editor::Editor;
+use crate::work::Work;
 use ml_cone::Label;
-use ml_ratio::{Seq, Steps, Text};
-use ml_repair::Engine;
-use ml_watch::Change;
+use ml_label::{label_of, labels_of};
+use ml_ratio::{Feature, Seq, Steps, Text};
+use ml_repair::{Engine, Plan};
+use ml_style::Style;
 use std::alloc::{AllocError, Global};
 use std::sync::ledger::Ledger;
 
-/// What is drawn up for an edit: the work on the labels, the label that the edit's feature has after
-/// it, if it has one, and the changes.
+/// What is drawn up for an edit: the id of its feature once more, the work on the labels, and the label
+/// that the feature has after it, if it has one.
 #[derive(Drop)]
 pub struct Draft {
+    pub(crate) key: Text,
     pub(crate) work: Work,
     pub(crate) label: Option<Label>,
-    pub(crate) changes: Seq<Change>,
 }
 
-impl Draft {
-    // Takes the changes of the work, as a list of its own.
-    fn copy_changes(&mut self, alloc: Global) -> Result<(), AllocError>
-        ensures changes { OnOk result (self.new.changes ≡ changes_of self.old.work) }
-        ensures work { self.new.work ≡ self.old.work }
-        ensures label { self.new.label ≡ self.old.label }
+impl Editor {
+    // What is drawn up for an edit that the features allow. It spends a step for each label that is
+    // evaluated.
+    pub(crate) fn draft<L: Ledger>(
+        &self,
+        alloc: Global,
+        edit: &Edit,
+        steps: &mut Steps<L>,
+    ) -> Result<Draft, AllocError>
+        requires { IsAllowed self.now.state.features edit.now }
+        ensures draft { IfOk result (IsEditDraft self.now.state self.now.engine.rows edit.now steps.old steps.new) }
+        ensures holds { IsEditing self.now }
     {
-        self.changes = self.work.changes(alloc)?;
-        Ok(())
+        match edit {
+            Edit::Add(feature) => {
+                let label = self.label_for(alloc, feature)?;
+                draft_for(&self.engine, alloc, &feature.id, label, steps)
+            }
+            Edit::Replace(feature) => {
+                let label = self.label_for(alloc, feature)?;
+                draft_for(&self.engine, alloc, &feature.id, label, steps)
+            }
+            Edit::Remove(id) => draft_for(&self.engine, alloc, id, None, steps),
+            Edit::Restyle(style) => self.draft_style(alloc, style),
+        }
+    }
+
+    // The label of a feature under the present style, or none where it has none.
+    fn label_for(&self, alloc: Global, feature: &Feature) -> Result<Option<Label>, AllocError>
+        ensures label { IfOk result (IsLabelFor self.now.state.style feature.now) }
+        ensures holds { IsEditing self.now }
+    {
+        match label_of(alloc, &self.style, feature)? {
+            Ok(label) => Ok(Some(label)),
+            Err(_) => Ok(None),
+        }
+    }
+
+    // What is drawn up for a new style.
+    fn draft_style(&self, alloc: Global, style: &Style) -> Result<Draft, AllocError>
+        ensures draft { IfOk result (IsStyleDraft style.now self.now.state.features self.now.engine.rows) }
+        ensures holds { IsEditing self.now }
+    {
+        let features = self.features.copy(alloc)?;
+        let labels = labels_of(alloc, style, features.as_slice())?;
+        let engine = Engine::build(alloc, Seq::of_vec(labels))?;
+        let changes = changes_between(alloc, features.as_slice(), &self.engine, &engine)?;
+        Ok(Draft {
+            key: Text::of_string(String::new(alloc)),
+            work: Work::Rebuilds(engine, changes),
+            label: None,
+        })
     }
 }
 
@@ -44,32 +92,26 @@ fn label_again(label: &Option<Label>) -> Result<Option<Label>, AllocError>
     }
 }
 
-// The work where a label comes, or goes where none comes.
-fn plan_for<L: Ledger>(
-    engine: &Engine,
-    alloc: Global,
-    id: &Text,
-    come: Option<Label>,
-    steps: &mut Steps<L>,
-) -> Result<Work, AllocError>
-    requires id { IfSome come (λ label. label.order.id ≡ id.now) }
-    requires few { IsSome come → ¬ (HasId (labels_in engine.now.rows) id.now) → length engine.now.rows < most_labels }
-    requires settled { IsSettled engine.now.rows }
-    ensures work { IfOk result (λ work. IsWorkFor work engine.now.rows id.now come) }
-    ensures spent { IfOk result (λ work. steps.new ≡ steps.old + evaluated_of work) }
+// What is drawn up with a plan.
+fn drawn(
+    key: Text,
+    plan: Result<Plan, AllocError>,
+    label: Option<Label>,
+) -> Result<Draft, AllocError>
+    ensures { IsDrawn key plan label result }
 {
-    match come {
-        Some(label) => plan_coming(engine, alloc, id, label, steps),
-        None => plan_going(engine, alloc, id, steps),
+    match plan {
+        Ok(plan) => Ok(Draft {
+            key,
+            work: Work::Plans(plan),
+            label,
+        }),
+        Err(error) => Err(error),
     }
 }
 
-/// What is drawn up where the label with an id goes, if there is one, and this one comes, if one does.
-/// It spends a step for each label that is evaluated.
-///
-/// # Errors
-/// Want of memory.
-pub(crate) fn draft_for<L: Ledger>(
+// What is drawn up where the label with an id goes, if there is one, and this one comes, if one does.
+fn draft_for<L: Ledger>(
     engine: &Engine,
     alloc: Global,
     id: &Text,
@@ -79,16 +121,22 @@ pub(crate) fn draft_for<L: Ledger>(
     requires id { IfSome come (λ label. label.order.id ≡ id.now) }
     requires few { IsSome come → ¬ (HasId (labels_in engine.now.rows) id.now) → length engine.now.rows < most_labels }
     requires settled { IsSettled engine.now.rows }
-    ensures draft { IfOk result (λ draft. IsDraft draft engine.now.rows id.now come) }
-    ensures spent { IfOk result (λ draft. steps.new ≡ steps.old + evaluated_of draft.work) }
+    ensures { IfOk result (λ draft. IsDrawnFor draft engine.now.rows id.now come steps.old steps.new) }
 {
+    let key = id.copy()?;
     let label = label_again(&come)?;
-    let work = plan_for(engine, alloc, id, come, steps)?;
-    let mut draft = Draft {
-        work,
-        label,
-        changes: Seq::new(alloc),
-    };
-    let copied = draft.copy_changes(alloc);
-    copied.and(Ok(draft))
+    match come {
+        Some(coming) => match engine.number_of(id) {
+            Some(_) => drawn(key, engine.plan_replace(alloc, coming, steps), label),
+            None => drawn(key, engine.plan_add(alloc, coming, steps), label),
+        },
+        None => match engine.number_of(id) {
+            Some(_) => drawn(key, engine.plan_remove(alloc, id, steps), label),
+            None => Ok(Draft {
+                key,
+                work: Work::Nothing(Seq::new(alloc)),
+                label,
+            }),
+        },
+    }
 }

@@ -1,29 +1,50 @@
 //! Making edits ready.
-ghost use Rattle.std.specs.Prelude.{◌≡◌, ◌≢◌, ◌+◌, ℕ, List, IfOk, IfErr, IsOkUnless};
-ghost use Rattle.ml_ratio.specs.Refusal.{RefusesExactly};
-ghost use Rattle.ml_geojson.specs.declared.fault.GeoFault.{GeoFault};
-ghost use Rattle.ml_style.specs.declared.fault.StyleFault.{StyleFault};
-ghost use Rattle.ml_editor.specs.declared.edit.Edit.TheVariants.{Remove as remove_edit};
-ghost use Rattle.ml_editor.specs.Faults.{IsAddition, IsAddFault, IsAdding, IsReplacement, IsReplaceFault, IsReplacing, IsRemoval, IsRemoveFault, IsRestyle, IsStyleFault, IsRestyling};
-ghost use Rattle.ml_editor.specs.Editing.{IsReady, IsSameMap, HasRoomFor};
+ghost use Rattle.std.specs.Prelude.{◌≡◌, ◌+◌, ◌<◌, IfOk, OnOk};
+ghost use Rattle.ml_editor.specs.Faults.{adds, replaces, removes, restyles, wish_of};
+ghost use Rattle.ml_editor.specs.Editing.{IsKeyOf, IsReady, IsSameMap, HasRoomFor, prepared};
+ghost use Rattle.ml_editor.specs.Outcome.{IsPaid, IsPrepared};
 
+use crate::asked::Asked;
+use crate::carry::{reserve_feature, reserve_work};
+use crate::draft::Draft;
+use crate::edit::Edit;
 use crate::editor::Editor;
 use crate::fault::EditFault;
+use crate::laws::one_refusal;
 use crate::ready::Ready;
-use ml_geojson::laws::{feature_or_fault, one_fault as one_geo_fault, one_feature};
 use ml_ratio::{Steps, Text};
-use ml_style::laws::{one_fault as one_style_fault, style_or_fault};
-use std::alloc::Global;
-use std::sync::ledger::Ledger;
+use std::alloc::{AllocError, Global};
+use std::marker::Brand;
+use std::sync::ledger::{Blank, Ledger};
 
 impl Editor {
-    /// Makes the addition of the feature that the body is ready, with all the memory that it takes. It
-    /// spends a step for each label that is evaluated, and none where it is refused. Of what contracts
-    /// see it changes nothing but the room, which may grow.
+    /// Makes what is asked ready, with all the memory that it takes. It spends a step for each label that
+    /// is evaluated, and none where it is refused. Of what contracts see it changes nothing but the room,
+    /// which may grow.
+    ///
+    /// # Errors
+    /// The first that stands of the refusals in [`EditFault`]; out of memory.
+    pub fn prepare<L: Ledger>(
+        &mut self,
+        alloc: Global,
+        rev: Option<u64>,
+        asked: Asked<'_>,
+        steps: &mut Steps<L>,
+    ) -> Result<Ready, EditFault>
+        ensures outcome { IsPrepared self.old self.new rev (wish_of asked.entry) result }
+        ensures paid { IsPaid steps.old steps.new result }
+    {
+        one_refusal();
+        let edit = self.check(alloc, rev, asked)?;
+        let draft = self.draft(alloc, &edit, steps)?;
+        Ok(self.make_ready(edit, draft)?)
+    }
+
+    /// Makes the addition of the feature that the body is ready, as [`Editor::prepare`].
     ///
     /// # Errors
     /// The first that stands of [`EditFault::RevMoved`], [`EditFault::Geo`], [`EditFault::Duplicate`],
-    /// [`EditFault::Full`] and [`EditFault::RevEnd`]; want of memory.
+    /// [`EditFault::Full`] and [`EditFault::RevEnd`]; out of memory.
     pub fn prepare_add<L: Ledger>(
         &mut self,
         alloc: Global,
@@ -31,33 +52,18 @@ impl Editor {
         body: &[u8],
         steps: &mut Steps<L>,
     ) -> Result<Ready, EditFault>
-        ensures ok { IfOk result (λ ready. IsAddition self.old.state rev body.now × IsAdding body.now ready.edit) }
-        ensures ready { IfOk result (λ ready. IsReady ready self.new.state self.new.engine.rows) }
-        ensures room { IfOk result (λ ready. HasRoomFor ready self.new) }
-        ensures spent { IfOk result (λ ready. steps.new ≡ steps.old + ready.evaluated) }
-        ensures free { IfErr result (λ e. e ≢ EditFault.Memory → steps.new ≡ steps.old) }
-        ensures fault { IfErr result (IsAddFault self.old.state rev body.now) }
-        ensures accepted { IsAddition self.old.state rev body.now → IsOkUnless result EditFault.Memory }
-        ensures rev_moved { (now : ℕ) → RefusesExactly result (EditFault.RevMoved now) EditFault.Memory (IsAddFault self.old.state rev body.now (EditFault.RevMoved now)) }
-        ensures geo { (fault : GeoFault) → RefusesExactly result (EditFault.Geo fault) EditFault.Memory (IsAddFault self.old.state rev body.now (EditFault.Geo fault)) }
-        ensures duplicate { (id : List ℕ) → RefusesExactly result (EditFault.Duplicate id) EditFault.Memory (IsAddFault self.old.state rev body.now (EditFault.Duplicate id)) }
-        ensures full { RefusesExactly result EditFault.Full EditFault.Memory (IsAddFault self.old.state rev body.now EditFault.Full) }
-        ensures rev_end { RefusesExactly result EditFault.RevEnd EditFault.Memory (IsAddFault self.old.state rev body.now EditFault.RevEnd) }
-        ensures same { IsSameMap self.old self.new }
+        ensures outcome { IsPrepared self.old self.new rev (adds body.now) result }
+        ensures paid { IsPaid steps.old steps.new result }
     {
-        one_geo_fault();
-        one_feature();
-        feature_or_fault();
-        self.add_from_body(alloc, rev, body, steps)
+        self.prepare(alloc, rev, Asked::Add(body), steps)
     }
 
-    /// Makes the replacement of the feature with the id of that which the body is ready, with all the
-    /// memory that it takes. It spends a step for each label that is evaluated, and none where it is
-    /// refused. Of what contracts see it changes nothing but the room, which may grow.
+    /// Makes the replacement of the feature with the id of that which the body is ready, as
+    /// [`Editor::prepare`].
     ///
     /// # Errors
     /// The first that stands of [`EditFault::RevMoved`], [`EditFault::Geo`], [`EditFault::Unknown`]
-    /// and [`EditFault::RevEnd`]; want of memory.
+    /// and [`EditFault::RevEnd`]; out of memory.
     pub fn prepare_replace<L: Ledger>(
         &mut self,
         alloc: Global,
@@ -65,32 +71,17 @@ impl Editor {
         body: &[u8],
         steps: &mut Steps<L>,
     ) -> Result<Ready, EditFault>
-        ensures ok { IfOk result (λ ready. IsReplacement self.old.state rev body.now × IsReplacing body.now ready.edit) }
-        ensures ready { IfOk result (λ ready. IsReady ready self.new.state self.new.engine.rows) }
-        ensures room { IfOk result (λ ready. HasRoomFor ready self.new) }
-        ensures spent { IfOk result (λ ready. steps.new ≡ steps.old + ready.evaluated) }
-        ensures free { IfErr result (λ e. e ≢ EditFault.Memory → steps.new ≡ steps.old) }
-        ensures fault { IfErr result (IsReplaceFault self.old.state rev body.now) }
-        ensures accepted { IsReplacement self.old.state rev body.now → IsOkUnless result EditFault.Memory }
-        ensures rev_moved { (now : ℕ) → RefusesExactly result (EditFault.RevMoved now) EditFault.Memory (IsReplaceFault self.old.state rev body.now (EditFault.RevMoved now)) }
-        ensures geo { (fault : GeoFault) → RefusesExactly result (EditFault.Geo fault) EditFault.Memory (IsReplaceFault self.old.state rev body.now (EditFault.Geo fault)) }
-        ensures unknown { (id : List ℕ) → RefusesExactly result (EditFault.Unknown id) EditFault.Memory (IsReplaceFault self.old.state rev body.now (EditFault.Unknown id)) }
-        ensures rev_end { RefusesExactly result EditFault.RevEnd EditFault.Memory (IsReplaceFault self.old.state rev body.now EditFault.RevEnd) }
-        ensures same { IsSameMap self.old self.new }
+        ensures outcome { IsPrepared self.old self.new rev (replaces body.now) result }
+        ensures paid { IsPaid steps.old steps.new result }
     {
-        one_geo_fault();
-        one_feature();
-        feature_or_fault();
-        self.replace_from_body(alloc, rev, body, steps)
+        self.prepare(alloc, rev, Asked::Replace(body), steps)
     }
 
-    /// Makes the removal of the feature with this id ready, with all the memory that it takes. It spends
-    /// a step for each label that is evaluated, and none where it is refused. Of what contracts see it
-    /// changes nothing but the room, which may grow.
+    /// Makes the removal of the feature with this id ready, as [`Editor::prepare`].
     ///
     /// # Errors
     /// The first that stands of [`EditFault::RevMoved`], [`EditFault::Unknown`] and
-    /// [`EditFault::RevEnd`]; want of memory.
+    /// [`EditFault::RevEnd`]; out of memory.
     pub fn prepare_remove<L: Ledger>(
         &mut self,
         alloc: Global,
@@ -98,122 +89,66 @@ impl Editor {
         id: &Text,
         steps: &mut Steps<L>,
     ) -> Result<Ready, EditFault>
-        ensures ok { IfOk result (λ ready. IsRemoval self.old.state rev id.now × (ready.edit ≡ remove_edit id.now)) }
-        ensures ready { IfOk result (λ ready. IsReady ready self.new.state self.new.engine.rows) }
-        ensures room { IfOk result (λ ready. HasRoomFor ready self.new) }
-        ensures spent { IfOk result (λ ready. steps.new ≡ steps.old + ready.evaluated) }
-        ensures free { IfErr result (λ e. e ≢ EditFault.Memory → steps.new ≡ steps.old) }
-        ensures fault { IfErr result (IsRemoveFault self.old.state rev id.now) }
-        ensures accepted { IsRemoval self.old.state rev id.now → IsOkUnless result EditFault.Memory }
-        ensures rev_moved { (now : ℕ) → RefusesExactly result (EditFault.RevMoved now) EditFault.Memory (IsRemoveFault self.old.state rev id.now (EditFault.RevMoved now)) }
-        ensures unknown { (other : List ℕ) → RefusesExactly result (EditFault.Unknown other) EditFault.Memory (IsRemoveFault self.old.state rev id.now (EditFault.Unknown other)) }
-        ensures rev_end { RefusesExactly result EditFault.RevEnd EditFault.Memory (IsRemoveFault self.old.state rev id.now EditFault.RevEnd) }
-        ensures same { IsSameMap self.old self.new }
+        ensures outcome { IsPrepared self.old self.new rev (removes id.now) result }
+        ensures paid { IsPaid steps.old steps.new result }
     {
-        self.remove_id(alloc, rev, id, steps)
+        self.prepare(alloc, rev, Asked::Remove(id.as_str()), steps)
     }
 
-    /// Makes the style that the body is ready in place of the present one, for all features, with all
-    /// the memory that it takes. All labels are made anew, so that none is evaluated for it. Of what
-    /// contracts see it changes nothing but the room, which may grow.
+    /// Makes the style that the body is ready in place of the present one, for all features, as
+    /// [`Editor::prepare`]. All labels are made anew, so that none is evaluated for it.
     ///
     /// # Errors
     /// The first that stands of [`EditFault::RevMoved`], [`EditFault::Style`] and
-    /// [`EditFault::RevEnd`]; want of memory.
+    /// [`EditFault::RevEnd`]; out of memory.
     pub fn prepare_style(
         &mut self,
         alloc: Global,
         rev: Option<u64>,
         body: &[u8],
     ) -> Result<Ready, EditFault>
-        ensures ok { IfOk result (λ ready. IsRestyle self.old.state rev body.now × IsRestyling body.now ready.edit) }
-        ensures ready { IfOk result (λ ready. IsReady ready self.new.state self.new.engine.rows) }
-        ensures room { IfOk result (λ ready. HasRoomFor ready self.new) }
-        ensures fault { IfErr result (IsStyleFault self.old.state rev body.now) }
-        ensures accepted { IsRestyle self.old.state rev body.now → IsOkUnless result EditFault.Memory }
-        ensures rev_moved { (now : ℕ) → RefusesExactly result (EditFault.RevMoved now) EditFault.Memory (IsStyleFault self.old.state rev body.now (EditFault.RevMoved now)) }
-        ensures style { (fault : StyleFault) → RefusesExactly result (EditFault.Style fault) EditFault.Memory (IsStyleFault self.old.state rev body.now (EditFault.Style fault)) }
-        ensures rev_end { RefusesExactly result EditFault.RevEnd EditFault.Memory (IsStyleFault self.old.state rev body.now EditFault.RevEnd) }
-        ensures same { IsSameMap self.old self.new }
+        ensures { IsPrepared self.old self.new rev (restyles body.now) result }
     {
-        one_style_fault();
-        style_or_fault();
-        self.restyle_from_body(alloc, rev, body)
-    }
-    // The addition, made ready if nothing refuses it.
-    fn add_from_body<L: Ledger>(
-        &mut self,
-        alloc: Global,
-        rev: Option<u64>,
-        body: &[u8],
-        steps: &mut Steps<L>,
-    ) -> Result<Ready, EditFault>
-        ensures ok { IfOk result (λ ready. IsAddition self.old.state rev body.now × IsAdding body.now ready.edit) }
-        ensures ready { IfOk result (λ ready. IsReady ready self.new.state self.new.engine.rows) }
-        ensures room { IfOk result (λ ready. HasRoomFor ready self.new) }
-        ensures spent { IfOk result (λ ready. steps.new ≡ steps.old + ready.evaluated) }
-        ensures free { IfErr result (λ e. e ≢ EditFault.Memory → steps.new ≡ steps.old) }
-        ensures fault { IfErr result (IsAddFault self.old.state rev body.now) }
-        ensures same { IsSameMap self.old self.new }
-    {
-        let feature = self.check_add(alloc, rev, body)?;
-        Ok(self.add_feature(alloc, feature, steps)?)
+        prepare_counted::<Brand>(self, alloc, rev, Asked::Restyle(body), Blank::new(1))
     }
 
-    // The replacement, made ready if nothing refuses it.
-    fn replace_from_body<L: Ledger>(
-        &mut self,
-        alloc: Global,
-        rev: Option<u64>,
-        body: &[u8],
-        steps: &mut Steps<L>,
-    ) -> Result<Ready, EditFault>
-        ensures ok { IfOk result (λ ready. IsReplacement self.old.state rev body.now × IsReplacing body.now ready.edit) }
-        ensures ready { IfOk result (λ ready. IsReady ready self.new.state self.new.engine.rows) }
-        ensures room { IfOk result (λ ready. HasRoomFor ready self.new) }
-        ensures spent { IfOk result (λ ready. steps.new ≡ steps.old + ready.evaluated) }
-        ensures free { IfErr result (λ e. e ≢ EditFault.Memory → steps.new ≡ steps.old) }
-        ensures fault { IfErr result (IsReplaceFault self.old.state rev body.now) }
+    // Takes the room for the edit and for the work that is drawn up for it.
+    fn reserve_for(&mut self, edit: &Edit, draft: &Draft) -> Result<(), AllocError>
+        requires of_state { IsReady (prepared edit.now draft.now (self.old.state.rev + 1)) self.old.state self.old.engine.rows }
+        ensures ok { OnOk result (HasRoomFor (prepared edit.now draft.now (self.old.state.rev + 1)) self.new) }
         ensures same { IsSameMap self.old self.new }
     {
-        let feature = self.check_replace(alloc, rev, body)?;
-        Ok(self.replace_feature(alloc, feature, steps)?)
+        reserve_feature(&mut self.features, edit)?;
+        reserve_work(&mut self.engine, &draft.work)
     }
 
-    // The removal, made ready if nothing refuses it.
-    fn remove_id<L: Ledger>(
-        &mut self,
-        alloc: Global,
-        rev: Option<u64>,
-        id: &Text,
-        steps: &mut Steps<L>,
-    ) -> Result<Ready, EditFault>
-        ensures ok { IfOk result (λ ready. IsRemoval self.old.state rev id.now × (ready.edit ≡ remove_edit id.now)) }
-        ensures ready { IfOk result (λ ready. IsReady ready self.new.state self.new.engine.rows) }
+    // The edit made ready, with the room that it and its work take.
+    fn make_ready(&mut self, edit: Edit, draft: Draft) -> Result<Ready, AllocError>
+        requires of_state { IsReady (prepared edit draft (self.old.state.rev + 1)) self.old.state self.old.engine.rows }
+        requires key { IsKeyOf edit draft.key }
+        ensures ok { IfOk result (λ ready. ready ≡ prepared edit draft (self.old.state.rev + 1)) }
         ensures room { IfOk result (λ ready. HasRoomFor ready self.new) }
-        ensures spent { IfOk result (λ ready. steps.new ≡ steps.old + ready.evaluated) }
-        ensures free { IfErr result (λ e. e ≢ EditFault.Memory → steps.new ≡ steps.old) }
-        ensures fault { IfErr result (IsRemoveFault self.old.state rev id.now) }
         ensures same { IsSameMap self.old self.new }
     {
-        self.check_remove(rev, id)?;
-        Ok(self.remove_feature(alloc, id, steps)?)
+        let rev = self.revision + 1;
+        self.reserve_for(&edit, &draft)
+            .and(Ok(Ready { edit, draft, rev }))
     }
+}
 
-    // The new style, made ready if nothing refuses it.
-    fn restyle_from_body(
-        &mut self,
-        alloc: Global,
-        rev: Option<u64>,
-        body: &[u8],
-    ) -> Result<Ready, EditFault>
-        ensures ok { IfOk result (λ ready. IsRestyle self.old.state rev body.now × IsRestyling body.now ready.edit) }
-        ensures ready { IfOk result (λ ready. IsReady ready self.new.state self.new.engine.rows) }
-        ensures room { IfOk result (λ ready. HasRoomFor ready self.new) }
-        ensures fault { IfErr result (IsStyleFault self.old.state rev body.now) }
-        ensures same { IsSameMap self.old self.new }
-    {
-        let style = self.check_style(alloc, rev, body)?;
-        Ok(self.restyle(alloc, style)?)
-    }
+// Makes what is asked ready, with a counter of its own.
+fn prepare_counted<L: Ledger>(
+    editor: &mut Editor,
+    alloc: Global,
+    rev: Option<u64>,
+    asked: Asked<'_>,
+    blank: Blank,
+) -> Result<Ready, EditFault>
+    requires name { blank.name ≡ L.name }
+    requires parts { blank.parts ≡ L.parts }
+    requires some { 0 < blank.parts }
+    ensures { IsPrepared editor.old editor.new rev (wish_of asked.entry) result }
+{
+    let mut steps: Steps<L> = Steps::new(blank);
+    editor.prepare(alloc, rev, asked, &mut steps)
 }

@@ -18,7 +18,6 @@ use std::marker::Model;
 #[derive(Drop)]
 pub struct Ready {
     pub(crate) edit: Edit,
-    pub(crate) key: Text,
     pub(crate) draft: Draft,
     pub(crate) rev: u64,
 }
@@ -35,7 +34,7 @@ impl Model for Ready {
 
     ghost view = { λ r. prepared r.edit r.draft r.rev };
 
-    ghost invariant = { λ r. IsKeyOf r.edit r.key };
+    ghost invariant = { λ r. IsKeyOf r.edit r.draft.key };
 }
 
 impl Ready {
@@ -50,7 +49,7 @@ impl Ready {
     pub fn changes(&self) -> &Seq<Change>
         ensures { result.now ≡ self.now.changes }
     {
-        &self.draft.changes
+        self.draft.work.changes()
     }
 
     /// How many labels were evaluated to make the edit ready: a step was spent for each.

@@ -4,7 +4,7 @@ use Rattle.std.proofs.lemmas.List.{length-map}
 use Rattle.ml_ratio.specs.Limits.{most_labels}
 use Rattle.ml_ratio.specs.declared.feature.Feature.{Feature}
 use Rattle.ml_cone.specs.declared.view.View.{View}
-use Rattle.ml_geojson.specs.Map.{IsFeature, IsSameFeature}
+use Rattle.ml_geojson.specs.Map.{IsFeature}
 use Rattle.ml_geojson.specs.Text.{feature_text}
 use Rattle.ml_store.specs.Rows.{labels_in, slots_in, number_at}
 use Rattle.ml_label.specs.Labels.{AreLabelsOf}
@@ -12,9 +12,9 @@ use Rattle.ml_repair.specs.Changes.{AreChanges}
 use Rattle.ml_repair.specs.Shown.{AreShownNumbers}
 use Rattle.ml_editor.specs.State.{State, HasFeature, step, last_rev}
 use Rattle.ml_editor.specs.Editing.{Editing, IsEditing, Prepared, IsReady, rows_after}
-use Rattle.ml_editor.specs.Faults.{IsRemoval, IsAddition, IsAdding}
+use Rattle.ml_editor.specs.Faults.{AsksFor, IsGranted, adds, removes}
 use Rattle.ml_editor.specs.declared.edit.Edit.{Edit}
-use Rattle.ml_editor.specs.declared.edit.Edit.TheVariants.{Add, Replace, Remove, Restyle}
+use Rattle.ml_editor.specs.declared.edit.Edit.TheVariants.{Add, Remove}
 use Rattle.ml_gen.specs.Thing.{Thing, thing_of, id_of, first_town}
 use Rattle.ml_gen.specs.Turn.{goes, comes, HaveLabels, IsViewOf, Shows, IsMade, IsTurn}
 use Rattle.ml_gen.specs.declared.counts.Counts.{Counts}
@@ -59,22 +59,12 @@ below_last : (n m : ℕ) → n < m → ¬ (n ≡ m)
 below_last n m low same = omega (arith, low, same)
 
 -- nothing refuses these edits
-pub removal_allowed : (s : State) (id : List ℕ) → HasFeature s.features id → s.rev < last_rev → IsRemoval s None id
-removal_allowed s id there early = record { present = tt; is_there = there; not_last = below_last s.rev last_rev early }
+pub removal_granted : (s : State) (id : List ℕ) → HasFeature s.features id → s.rev < last_rev → IsGranted s None (removes id) (Remove id)
+removal_granted s id there early = record { present = tt; asked = refl; allowed = there; not_last = below_last s.rev last_rev early }
 
-pub addition_allowed : (s : State) (body : List ℕ) (f : Feature) → IsFeature body f → ¬ (HasFeature s.features f.id) → length s.features < most_labels → s.rev < last_rev → IsAddition s None body
-addition_allowed s body f is gone few early = record {
-  is_new = (f.id, (tt, (f, is, refl)), gone);
-  not_full = below_last (length s.features) most_labels few;
-  not_last = below_last s.rev last_rev early;
-}
-
--- the feature that an addition brings
-pub adding : (body : List ℕ) (edit : Edit) → IsAdding body edit → (f : Feature) × IsFeature body f × (edit ≡ Add f)
-adding body (Add f) is = (f, is, refl)
-adding body (Replace f) is = absurd is
-adding body (Remove id) is = absurd is
-adding body (Restyle style) is = absurd is
+pub addition_granted : (s : State) (body : List ℕ) (f : Feature) →
+    IsFeature body f → ¬ (HasFeature s.features f.id) → length s.features < most_labels → s.rev < last_rev → IsGranted s None (adds body) (Add f)
+addition_granted s body f is gone few early = record { present = tt; asked = (f, refl, is); allowed = (gone, few); not_last = below_last s.rev last_rev early }
 
 -- so many labels are shown as there are numbers of shown labels
 pub shown_of : (e : Editing) (view : View) (numbers : List ℕ) (n : ℕ) → IsEditing e → AreShownNumbers e.engine.rows view numbers → n ≡ length numbers → Shows e.state view n
@@ -90,22 +80,22 @@ shown_of e view numbers n h are long = record {
 -- the removal that was made ready is that of the town, from the state before
 pub gone_out : (group : Group) (s mid t : State) (edit : Edit) (id : List ℕ) (counts : Counts) → mid ≡ s → edit ≡ Remove id → id ≡ id_of group (codes "a") →
     IsMade edit group mid counts t → IsTurn (goes group) s counts t × (t ≡ step s (Remove (id_of group (codes "a"))))
-gone_out group s mid t edit id counts before removes same done =
-    let is : edit ≡ Remove (id_of group (codes "a")) = removes ∙ ap Remove same in
+gone_out group s mid t edit id counts before is_made same done =
+    let is : edit ≡ Remove (id_of group (codes "a")) = is_made ∙ ap Remove same in
     let from : IsMade edit group s counts t = subst (λ (u : State). IsMade edit group u counts t) before done in
     ((edit, is, from), from.state ∙ ap (step s) is)
 
 -- a text is one feature only
 abbrev pub OneFeature : Type 0
-OneFeature = (bytes : List ℕ) (one other : Feature) → IsFeature bytes one → IsFeature bytes other → IsSameFeature one other
+OneFeature = (bytes : List ℕ) (one other : Feature) → IsFeature bytes one → IsFeature bytes other → one ≡ other
 
 -- the addition that was made ready is that of the town, to the state before
-pub come_back : (group : Group) (s mid t : State) (edit : Edit) (body : List ℕ) (town : Feature) (counts : Counts) → OneFeature → mid ≡ s → IsAdding body edit → body ≡ feature_text town → IsFeature body town →
+pub come_back : (group : Group) (s mid t : State) (edit : Edit) (body : List ℕ) (town : Feature) (counts : Counts) →
+    OneFeature → mid ≡ s → AsksFor (adds body) edit → body ≡ feature_text town → IsFeature body town →
     thing_of town ≡ first_town group → IsMade edit group mid counts t →
     IsTurn (comes group) s counts t × ((f : Feature) × (f.id ≡ id_of group (codes "a")) × (t ≡ step s (Add f)))
-come_back group s mid t edit body town counts one before adds text is thing done =
+come_back group s mid t edit body town counts one before asked text is thing done =
     let from : IsMade edit group s counts t = subst (λ (u : State). IsMade edit group u counts t) before done in
-    let which = adding body edit adds in
-    let id : which.0.id ≡ id_of group (codes "a") = (one body which.0 town which.1 is).id ∙ ap (λ (u : Thing). u.id) thing in
-    let makes : IsAdding (feature_text town) edit = subst (λ (bytes : List ℕ). IsAdding bytes edit) text adds in
-    ((edit, (town, thing, makes), from), (which.0, id, from.state ∙ ap (step s) which.2))
+    let id : asked.0.id ≡ id_of group (codes "a") = ap (λ (f : Feature). f.id) (one body asked.0 town asked.2 is) ∙ ap (λ (u : Thing). u.id) thing in
+    let makes : AsksFor (adds (feature_text town)) edit = subst (λ (bytes : List ℕ). AsksFor (adds bytes) edit) text asked in
+    ((edit, (town, thing, makes), from), (asked.0, id, from.state ∙ ap (step s) asked.1))

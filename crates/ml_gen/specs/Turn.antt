@@ -13,7 +13,7 @@ use Rattle.ml_watch.specs.declared.change.Change.{Change}
 use Rattle.ml_repair.specs.Changes.{AreChanges}
 use Rattle.ml_editor.specs.State.{State, IsAllowed, step}
 use Rattle.ml_editor.specs.Editing.{IsEditCost}
-use Rattle.ml_editor.specs.Faults.{IsAdding}
+use Rattle.ml_editor.specs.Faults.{AsksFor, adds}
 use Rattle.ml_editor.specs.declared.edit.Edit.{Edit}
 use Rattle.ml_editor.specs.declared.edit.Edit.TheVariants.{Remove}
 use Rattle.ml_gen.specs.Group.{order}
@@ -38,7 +38,7 @@ group_in (comes group) = group
 -- the edit that is made: the removal of the town's id, or the addition of the town's text
 abbrev pub Makes : Turn → Edit → Type 0
 Makes (goes group) edit = edit ≡ Remove (id_of group (codes "a"))
-Makes (comes group) edit = (f : Feature) × (thing_of f ≡ first_town group) × IsAdding (feature_text f) edit
+Makes (comes group) edit = (f : Feature) × (thing_of f ≡ first_town group) × AsksFor (adds (feature_text f)) edit
 
 -- the view that is asked: 1024 by 1024 pixels about the second town of the group, at scale 30
 pub record IsViewOf (group : Group) (view : View) : Type 0 where

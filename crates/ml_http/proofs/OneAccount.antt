@@ -5,26 +5,23 @@ use Rattle.std.proofs.lemmas.List.{append-nil, length-append}
 use Rattle.ml_io.specs.Causes.{Appends, IsCut}
 use Rattle.ml_watch.specs.declared.change.Change.{Change}
 use Rattle.ml_watch.specs.Hearing.{Hearing}
-use Rattle.ml_editor.specs.Faults.{IsAdding, IsAddition, IsReplacing, IsReplacement, IsRemoval, IsRestyle, IsRestyling}
+use Rattle.ml_editor.specs.Faults.{Wish, IsGranted}
 use Rattle.ml_editor.specs.State.{State, IsState, step}
 use Rattle.ml_editor.specs.declared.edit.Edit.{Edit}
-use Rattle.ml_editor.specs.declared.edit.Edit.TheVariants.{Remove as Removes}
-use Rattle.ml_editor.specs.declared.fault.EditFault.{EditFault}
 use Rattle.ml_http.specs.Connection.{IsLeft, memory_reply}
 use Rattle.ml_http.specs.Link.{LinkState, LinkStep, LinkIdles, IsLinkServed}
 use Rattle.ml_http.specs.Once.{AreLikeStates, AreOneAnswer, EndsWell}
 use Rattle.ml_http.specs.Owed.{AreReplies, BeginWith, IsBeginning}
 use Rattle.ml_request.specs.Request.{RequestParts}
-use Rattle.ml_http.specs.Routes.{path_of, query_of, route_of, query_pairs, named, revision_in, id_in}
+use Rattle.ml_http.specs.Routes.{path_of, query_of, route_of, query_pairs, named, revision_in}
 use Rattle.ml_http.specs.Run.{Run}
-use Rattle.ml_http.specs.Step.{LinkAnswer, Query, Stays, IsTileFor, IsEditAnswered, IsEditReply, IsRouted, MapStep}
+use Rattle.ml_http.specs.Step.{LinkAnswer, Query, Stays, IsTileFor, IsEditAnswered, wish_in, IsEditReply, IsRouted, MapStep}
 use Rattle.ml_request.specs.Stream.{AreEvents}
 use Rattle.ml_http.specs.declared.connection_end.ConnEnd.{ConnEnd}
 use Rattle.ml_http.specs.declared.connection_end.ConnEnd.TheVariants.{Shut, Starved, Closed, ReadFault, WriteFault}
 use Rattle.ml_request.specs.declared.request.Event.{Event}
 use Rattle.ml_request.specs.declared.request.Event.TheVariants.{Whole, Refused}
 use Rattle.ml_http.specs.declared.route.EditRoute.{EditRoute}
-use Rattle.ml_http.specs.declared.route.EditRoute.TheVariants as edits
 use Rattle.ml_http.specs.declared.route.NoRoute.{NoRoute}
 use Rattle.ml_http.specs.declared.route.Route.{Route}
 use Rattle.ml_http.specs.declared.route.Route.TheVariants as routes
@@ -32,32 +29,24 @@ use Rattle.ml_tile.specs.declared.key.TileKey.{TileKey}
 use Rattle.ml_request.proofs.lemmas.Streams.{events_of_prefix, events_of_first}
 
 -- what the rules accept leads to a state that can be reached
-pub record Reaches : Type 0 where
-  pub add : (s : State) (rev : Option ℕ) (body : List ℕ) (edit : Edit) → IsState s → IsAddition s rev body → IsAdding body edit → IsState (step s edit)
-  pub replace : (s : State) (rev : Option ℕ) (body : List ℕ) (edit : Edit) → IsState s → IsReplacement s rev body → IsReplacing body edit → IsState (step s edit)
-  pub remove : (s : State) (rev : Option ℕ) (id : List ℕ) → IsState s → IsRemoval s rev id → IsState (step s (Removes id))
-  pub restyle : (s : State) (rev : Option ℕ) (body : List ℕ) (edit : Edit) → IsState s → IsRestyle s rev body → IsRestyling body edit → IsState (step s edit)
+abbrev pub Reaches : Type 0
+Reaches = (s : State) (rev : Option ℕ) (wish : Wish) (edit : Edit) → IsState s → IsGranted s rev wish edit → IsState (step s edit)
 
 module _ (reaches : Reaches) (s : State) (is : IsState s) where
   stays_state : (reply : List ℕ) (a : LinkAnswer) (t : State) → Stays s reply a t → IsState t
   stays_state reply a t x = subst IsState (sym x.state) is
 
-  edited_state : (closes : Bool) (refuses : EditFault → Type 0) (accepts : Type 0) (makes : Edit → Type 0) (a : LinkAnswer) (t : State) → (accepts → (edit : Edit) → makes edit → IsState (step s edit)) → IsEditAnswered refuses accepts makes s closes a t → IsState t
-  edited_state closes refuses accepts makes a t leads (inl x) = stays_state _ a t x.2.2
-  edited_state closes refuses accepts makes a t leads (inr x) = subst IsState (sym x.1.2.state) (leads x.0 x.1.0 x.1.1)
+  edited_state : (closes : Bool) (rev : Option ℕ) (wish : Wish) (a : LinkAnswer) (t : State) → IsEditAnswered s rev wish closes a t → IsState t
+  edited_state closes rev wish a t (inl x) = stays_state _ a t x.2.2
+  edited_state closes rev wish a t (inr x) = subst IsState (sym x.2.state) (reaches s rev wish x.0 is x.1)
 
   given_state : {X : Type 0} (p : List ℕ) (a : LinkAnswer) (t : State) (o : Option X) (P : X → Type 0) → ((x : X) → P x → IsState t) → MatchOption o (Stays s p a t) P → IsState t
   given_state p a t None P each x = stays_state p a t x
   given_state p a t (Some y) P each x = each y x
 
   route_state : (route : EditRoute) (closes : Bool) (query : Query) (body : List ℕ) (a : LinkAnswer) (t : State) → IsEditReply route s closes query body a t → IsState t
-  route_state edits.Add closes query body a t x = given_state _ a t (revision_in (named (codes "rev") query)) _ (λ rev p. edited_state closes _ _ _ a t (λ good edit makes. reaches.add s rev body edit is good makes) p) x
-  route_state edits.Replace closes query body a t x = given_state _ a t (revision_in (named (codes "rev") query)) _ (λ rev p. edited_state closes _ _ _ a t (λ good edit makes. reaches.replace s rev body edit is good makes) p) x
-  route_state edits.Remove closes query body a t x =
-      given_state _ a t (id_in query) _
-      (λ id v. given_state _ a t (revision_in (named (codes "rev") query)) _
-      (λ rev p. edited_state closes _ _ (λ edit. edit ≡ Removes id) a t (λ good edit e. subst (λ (d : Edit). IsState (step s d)) (sym e) (reaches.remove s rev id is good)) p) v) x
-  route_state edits.Restyle closes query body a t x = given_state _ a t (revision_in (named (codes "rev") query)) _ (λ rev p. edited_state closes _ _ _ a t (λ good edit makes. reaches.restyle s rev body edit is good makes) p) x
+  route_state route closes query body a t x =
+      given_state _ a t (wish_in route query body) _ (λ wish v. given_state _ a t (revision_in (named (codes "rev") query)) _ (λ rev p. edited_state closes rev wish a t p) v) x
 
   tile_state : (closes : Bool) (asked : Result TileKey ℕ) (a : LinkAnswer) (t : State) → IsTileFor s closes asked a t → IsState t
   tile_state closes (Err place) a t x = stays_state _ a t x

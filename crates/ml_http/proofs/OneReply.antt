@@ -1,5 +1,5 @@
 -- An event that is answered in a state has one reply, one list of changes and one cost, and leaves one state.
-use Rattle.std.proofs.Common.{◌≡◌, ◌≢◌, ℕ, Bool, List, [], Option, Some, None, Result, Ok, Err, inl, inr, refl, sym, ap, subst, ◌∙◌}
+use Rattle.std.proofs.Common.{◌≡◌, ℕ, Bool, List, [], Option, Some, None, Result, Ok, Err, inl, inr, refl, sym, ap, subst, ◌∙◌}
 use Rattle.std.specs.Prelude.{MatchOption, codes}
 use Rattle.std.proofs.lemmas.Option.{same_Some}
 use Rattle.ml_cone.specs.Label.{IsLabelList}
@@ -11,24 +11,20 @@ use Rattle.ml_watch.specs.declared.change.Change.{Change}
 use Rattle.ml_repair.specs.Changes.{AreChanges}
 use Rattle.ml_repair.specs.Cost.{IsCost}
 use Rattle.ml_editor.specs.Editing.{id_of}
-use Rattle.ml_editor.specs.Faults.{ExcludeOneAnother, IsAddFault, IsAdding, IsAddition, IsReplaceFault, IsReplacing, IsReplacement, IsRemoveFault, IsRemoval, IsStyleFault, IsRestyle, IsRestyling}
+use Rattle.ml_editor.specs.Faults.{Wish, ExcludeOneAnother, IsFault, IsGranted, AsksFor}
 use Rattle.ml_editor.specs.State.{State, IsState}
 use Rattle.ml_editor.specs.declared.edit.Edit.{Edit}
-use Rattle.ml_editor.specs.declared.edit.Edit.TheVariants.{Remove as Removes}
-use Rattle.ml_editor.specs.declared.fault.EditFault.{EditFault}
-use Rattle.ml_editor.specs.declared.fault.EditFault.TheVariants as faults
 use Rattle.ml_answer.specs.Edit.{edit_text}
 use Rattle.ml_answer.specs.MapView.{AreRowsOf}
 use Rattle.ml_tile.specs.declared.key.TileKey.{TileKey}
 use Rattle.ml_http.specs.Once.{AreOneAnswer}
 use Rattle.ml_http.specs.Replies.{json_reply, fault_code, fault_reply}
 use Rattle.ml_request.specs.Request.{RequestParts}
-use Rattle.ml_http.specs.Routes.{path_of, query_of, route_of, query_pairs, named, revision_in, id_in}
-use Rattle.ml_http.specs.Step.{LinkAnswer, Query, Stays, IsTileFor, IsTileAnswer, IsCarriedOut, IsEditAnswered, IsEditReply, IsRouted, MapStep}
+use Rattle.ml_http.specs.Routes.{path_of, query_of, route_of, query_pairs, named, revision_in}
+use Rattle.ml_http.specs.Step.{LinkAnswer, Query, Stays, IsTileFor, IsTileAnswer, IsCarriedOut, IsEditAnswered, wish_in, IsEditReply, IsRouted, MapStep}
 use Rattle.ml_request.specs.declared.request.Event.{Event}
 use Rattle.ml_request.specs.declared.request.Event.TheVariants.{Whole, Refused}
 use Rattle.ml_http.specs.declared.route.EditRoute.{EditRoute}
-use Rattle.ml_http.specs.declared.route.EditRoute.TheVariants as edits
 use Rattle.ml_http.specs.declared.route.NoRoute.{NoRoute}
 use Rattle.ml_http.specs.declared.route.Route.{Route}
 use Rattle.ml_http.specs.declared.route.Route.TheVariants as routes
@@ -38,15 +34,10 @@ use Rattle.ml_http.proofs.lemmas.SameChanges.{SameEnds, changes_moved}
 use Rattle.ml_http.proofs.SameReplies.{OneLabel}
 use Rattle.ml_http.proofs.SameViews.{KnownChoice, same_untils}
 
--- what is known of edits: what refuses them, what a body makes, what they change and cost, and where they lead
+-- what is known of edits: what refuses them, what is asked makes, what they change and cost
 pub record KnownEdits : Type 0 where
-  pub add_refused : (s : State) (rev : Option ℕ) (body : List ℕ) → ExcludeOneAnother (IsAddFault s rev body) (IsAddition s rev body)
-  pub replace_refused : (s : State) (rev : Option ℕ) (body : List ℕ) → ExcludeOneAnother (IsReplaceFault s rev body) (IsReplacement s rev body)
-  pub remove_refused : (s : State) (rev : Option ℕ) (id : List ℕ) → ExcludeOneAnother (IsRemoveFault s rev id) (IsRemoval s rev id)
-  pub restyle_refused : (s : State) (rev : Option ℕ) (body : List ℕ) → ExcludeOneAnother (IsStyleFault s rev body) (IsRestyle s rev body)
-  pub one_add : (body : List ℕ) (one other : Edit) → IsAdding body one → IsAdding body other → one ≡ other
-  pub one_replace : (body : List ℕ) (one other : Edit) → IsReplacing body one → IsReplacing body other → one ≡ other
-  pub one_restyle : (body : List ℕ) (one other : Edit) → IsRestyling body one → IsRestyling body other → one ≡ other
+  pub one_refusal : (s : State) (rev : Option ℕ) (wish : Wish) → ExcludeOneAnother (IsFault s rev wish) (IsGranted s rev wish)
+  pub one_edit : (wish : Wish) (one other : Edit) → AsksFor wish one → AsksFor wish other → one ≡ other
   pub one_changes : (labels : List Label) (slots : List Slot) (new_labels : List Label) (new_slots : List Slot) (changes others : List Change) → AreChanges labels slots new_labels new_slots changes → AreChanges labels slots new_labels new_slots others → changes ≡ others
   pub one_cost : (before after : List Label) (id : List ℕ) (cost other : ℕ) → IsLabelList before → IsLabelList after → IsCost before after id cost → IsCost before after id other → cost ≡ other
 
@@ -63,9 +54,6 @@ stays_once s p q a b t u same one other = record {
 given_once : {X : Type 0} (s : State) (p : List ℕ) (a b : LinkAnswer) (t u : State) (o : Option X) (P Q : X → Type 0) → ((x : X) → P x → Q x → AreOneAnswer a b t u) → MatchOption o (Stays s p a t) P → MatchOption o (Stays s p b u) Q → AreOneAnswer a b t u
 given_once s p a b t u None P Q each one other = stays_once s p p a b t u refl one other
 given_once s p a b t u (Some x) P Q each one other = each x one other
-
-not_memory : (fault : EditFault) (code : ℕ) → fault_code fault ≡ Some code → fault ≢ faults.Memory
-not_memory fault code is e = (let none : fault_code faults.Memory ≡ Some code = rw e at is in absurd cc)
 
 module _ (one : OneLabel) (choice : KnownChoice) (known : KnownEdits) (s : State) (is_state : IsState s) where
   -- rows of one map have the same labels, which end at the same scales
@@ -94,29 +82,21 @@ module _ (one : OneLabel) (choice : KnownChoice) (known : KnownEdits) (s : State
         state = state;
       }
 
-  edited_once : (closes : Bool) (refuses : EditFault → Type 0) (accepts : Type 0) (makes : Edit → Type 0) (a b : LinkAnswer) (t u : State) → ExcludeOneAnother refuses accepts → ((x y : Edit) → makes x → makes y → x ≡ y)
-      → IsEditAnswered refuses accepts makes s closes a t → IsEditAnswered refuses accepts makes s closes b u → AreOneAnswer a b t u
-  edited_once closes refuses accepts makes a b t u exclude same (inl x) (inl y) =
-      let fault = exclude.one x.0 y.0 (not_memory x.0 x.2.0 x.2.1) (not_memory y.0 y.2.0 y.2.1) x.1 y.1 in
+  edited_once : (closes : Bool) (rev : Option ℕ) (wish : Wish) (a b : LinkAnswer) (t u : State) → IsEditAnswered s rev wish closes a t → IsEditAnswered s rev wish closes b u → AreOneAnswer a b t u
+  edited_once closes rev wish a b t u (inl x) (inl y) =
+      let fault = (known.one_refusal s rev wish).one x.0 y.0 x.1 y.1 in
       let code : x.2.0 ≡ y.2.0 = same_Some x.2.0 y.2.0 (sym x.2.1 ∙ ap fault_code fault ∙ y.2.1) in
       stays_once s _ _ a b t u (ap (λ (c : ℕ). fault_reply closes c x.0) code ∙ ap (fault_reply closes y.2.0) fault) x.2.2 y.2.2
-  edited_once closes refuses accepts makes a b t u exclude same (inl x) (inr y) = absurd (exclude.none x.0 (not_memory x.0 x.2.0 x.2.1) y.0 x.1)
-  edited_once closes refuses accepts makes a b t u exclude same (inr x) (inl y) = absurd (exclude.none y.0 (not_memory y.0 y.2.0 y.2.1) x.0 y.1)
-  edited_once closes refuses accepts makes a b t u exclude same (inr x) (inr y) =
-      let edit = same x.1.0 y.1.0 x.1.1 y.1.1 in
-      carried_once closes y.1.0 a b t u (subst (λ (e : Edit). IsCarriedOut s closes e a t) edit x.1.2) y.1.2
+  edited_once closes rev wish a b t u (inl x) (inr y) = absurd ((known.one_refusal s rev wish).none x.0 y.0 y.1 x.1)
+  edited_once closes rev wish a b t u (inr x) (inl y) = absurd ((known.one_refusal s rev wish).none y.0 x.0 x.1 y.1)
+  edited_once closes rev wish a b t u (inr x) (inr y) =
+      let edit = known.one_edit wish x.0 y.0 x.1.asked y.1.asked in
+      carried_once closes y.0 a b t u (subst (λ (e : Edit). IsCarriedOut s closes e a t) edit x.2) y.2
 
   route_once : (route : EditRoute) (closes : Bool) (query : Query) (body : List ℕ) (a b : LinkAnswer) (t u : State) → IsEditReply route s closes query body a t → IsEditReply route s closes query body b u → AreOneAnswer a b t u
-  route_once edits.Add closes query body a b t u x y =
-      given_once s _ a b t u (revision_in (named (codes "rev") query)) _ _ (λ rev p q. edited_once closes _ _ _ a b t u (known.add_refused s rev body) (known.one_add body) p q) x y
-  route_once edits.Replace closes query body a b t u x y =
-      given_once s _ a b t u (revision_in (named (codes "rev") query)) _ _ (λ rev p q. edited_once closes _ _ _ a b t u (known.replace_refused s rev body) (known.one_replace body) p q) x y
-  route_once edits.Remove closes query body a b t u x y =
-      given_once s _ a b t u (id_in query) _ _
-      (λ id v w. given_once s _ a b t u (revision_in (named (codes "rev") query)) _ _ (λ rev p q. edited_once closes _ _ (λ edit. edit ≡ Removes id) a b t u (known.remove_refused s rev id) (λ one other e f. e ∙ sym f) p q) v w)
-      x y
-  route_once edits.Restyle closes query body a b t u x y =
-      given_once s _ a b t u (revision_in (named (codes "rev") query)) _ _ (λ rev p q. edited_once closes _ _ _ a b t u (known.restyle_refused s rev body) (known.one_restyle body) p q) x y
+  route_once route closes query body a b t u x y =
+      given_once s _ a b t u (wish_in route query body) _ _
+      (λ wish v w. given_once s _ a b t u (revision_in (named (codes "rev") query)) _ _ (λ rev p q. edited_once closes rev wish a b t u p q) v w) x y
 
   -- a tile: nothing changes
   tile_stays : (closes : Bool) (asked : Result TileKey ℕ) (a : LinkAnswer) (t : State) → IsTileFor s closes asked a t → (t ≡ s) × (a.changes ≡ []) × (a.cost ≡ 0)

@@ -5,11 +5,9 @@ use Rattle.std.specs.Option.{option_map}
 use Rattle.std.specs.Prelude.{unwrap_or}
 use Rattle.ml_editor.specs.State.{State}
 use Rattle.ml_editor.specs.Editing.{id_of}
-use Rattle.ml_editor.specs.Faults.{IsAddFault, IsAddition, IsAdding, IsReplaceFault, IsReplacement, IsReplacing, IsRemoveFault, IsRemoval, IsStyleFault, IsRestyle, IsRestyling}
+use Rattle.ml_editor.specs.Faults.{Wish}
 use Rattle.ml_editor.specs.declared.edit.Edit.{Edit}
-use Rattle.ml_editor.specs.declared.edit.Edit.TheVariants.{Remove as Removes}
-use Rattle.ml_http.specs.Replies.{fault_reply, query_reply}
-use Rattle.ml_editor.specs.declared.fault.EditFault.{EditFault}
+use Rattle.ml_http.specs.Replies.{fault_reply}
 use Rattle.ml_tile.specs.Cache.{Cache, HeldTile}
 use Rattle.ml_tile.specs.declared.key.TileKey.{TileKey}
 use Rattle.ml_request.specs.declared.request.Event.{Event}
@@ -18,10 +16,9 @@ use Rattle.ml_http.specs.declared.route.Route.{Route}
 use Rattle.ml_http.specs.declared.route.Route.TheVariants as routes
 use Rattle.ml_http.specs.declared.route.NoRoute.{NoRoute}
 use Rattle.ml_http.specs.declared.route.EditRoute.{EditRoute}
-use Rattle.ml_http.specs.declared.route.EditRoute.TheVariants as edits
 use Rattle.ml_request.specs.Request.{RequestParts}
-use Rattle.ml_http.specs.Routes.{path_of, query_of, query_pairs, route_of, named, revision_in, id_in}
-use Rattle.ml_http.specs.Step.{LinkAnswer, Query, Stays, IsTileText, IsTileFor, IsCarriedOut, IsEditAnswered, ForRevision, IsEditReply, IsRouted, MapStep}
+use Rattle.ml_http.specs.Routes.{path_of, query_of, query_pairs, route_of, named, revision_in}
+use Rattle.ml_http.specs.Step.{LinkAnswer, Query, Stays, IsTileText, IsTileFor, IsCarriedOut, IsEditAnswered, wish_in, IsEditReply, IsRouted, MapStep}
 use Rattle.ml_http.specs.Link.{AreTexts}
 use Rattle.ml_http.specs.TileWork.{Changed, Remade, IsAsked, IsDoneTo}
 use Rattle.ml_label.proofs.lemmas.SameLists.{here, later, cases, none_in_none}
@@ -114,33 +111,20 @@ module _ (one : OneLabel) (longest : OneLongest) (stays_after : StaysAfter) (sta
   out_right : (s t : State) (closes : Bool) (edit : Edit) (answer : LinkAnswer) → IsCarriedOut s closes edit answer t → StayRight s t answer
   out_right s t closes edit answer out = work_right s t closes edit answer out (id_of edit) out.work
 
-  edit_right : (refuses : EditFault → Type 0) (accepts : Type 0) (makes : Edit → Type 0) (s t : State) (closes : Bool) (answer : LinkAnswer) → IsEditAnswered refuses accepts makes s closes answer t → StayRight s t answer
-  edit_right refuses accepts makes s t closes answer (inl (fault, refused, (code, is_code, stays))) = stays_right s t (fault_reply closes code fault) answer stays
-  edit_right refuses accepts makes s t closes answer (inr (may, (edit, made, out))) = out_right s t closes edit answer out
+  edit_right : (s t : State) (rev : Option ℕ) (wish : Wish) (closes : Bool) (answer : LinkAnswer) → IsEditAnswered s rev wish closes answer t → StayRight s t answer
+  edit_right s t rev wish closes answer (inl (fault, refused, (code, is_code, stays))) = stays_right s t (fault_reply closes code fault) answer stays
+  edit_right s t rev wish closes answer (inr (edit, granted, out)) = out_right s t closes edit answer out
 
-  revision_right : (closes : Bool) (query : Query) (s t : State) (answered : Option ℕ → LinkAnswer → State → Type 0) (answer : LinkAnswer) (rev : Option (Option ℕ)) (reply : List ℕ) →
-      ((r : Option ℕ) → answered r answer t → StayRight s t answer) → MatchOption rev (Stays s reply answer t) (λ r. answered r answer t) → StayRight s t answer
-  revision_right closes query s t answered answer None reply by stays = stays_right s t reply answer stays
-  revision_right closes query s t answered answer (Some rev) reply by is = by rev is
-
-  removal_right : (s t : State) (closes : Bool) (query : Query) (answer : LinkAnswer) (id : Option (List ℕ)) →
-      MatchOption id (Stays s (query_reply closes (codes "id")) answer t) (λ i. ForRevision closes query s (λ rev. IsEditAnswered (IsRemoveFault s rev i) (IsRemoval s rev i) (λ edit. edit ≡ Removes i) s closes) answer t) → StayRight s t answer
-  removal_right s t closes query answer None stays = stays_right s t (query_reply closes (codes "id")) answer stays
-  removal_right s t closes query answer (Some id) edited =
-      revision_right closes query s t (λ rev. IsEditAnswered (IsRemoveFault s rev id) (IsRemoval s rev id) (λ edit. edit ≡ Removes id) s closes) answer (revision_in (named (codes "rev") query)) (query_reply closes (codes "rev"))
-      (λ r. edit_right (IsRemoveFault s r id) (IsRemoval s r id) (λ edit. edit ≡ Removes id) s t closes answer) edited
+  -- what a query gives, or the reply where it gives nothing
+  given_right : {X : Type 0} (s t : State) (reply : List ℕ) (answer : LinkAnswer) (o : Option X) (P : X → Type 0) →
+      ((x : X) → P x → StayRight s t answer) → MatchOption o (Stays s reply answer t) P → StayRight s t answer
+  given_right s t reply answer None P each stays = stays_right s t reply answer stays
+  given_right s t reply answer (Some x) P each is = each x is
 
   edited_right : (route : EditRoute) (s t : State) (closes : Bool) (query : Query) (body : List ℕ) (answer : LinkAnswer) → IsEditReply route s closes query body answer t → StayRight s t answer
-  edited_right edits.Add s t closes query body answer is =
-      revision_right closes query s t (λ rev. IsEditAnswered (IsAddFault s rev body) (IsAddition s rev body) (IsAdding body) s closes) answer (revision_in (named (codes "rev") query)) (query_reply closes (codes "rev"))
-      (λ r. edit_right (IsAddFault s r body) (IsAddition s r body) (IsAdding body) s t closes answer) is
-  edited_right edits.Replace s t closes query body answer is =
-      revision_right closes query s t (λ rev. IsEditAnswered (IsReplaceFault s rev body) (IsReplacement s rev body) (IsReplacing body) s closes) answer (revision_in (named (codes "rev") query)) (query_reply closes (codes "rev"))
-      (λ r. edit_right (IsReplaceFault s r body) (IsReplacement s r body) (IsReplacing body) s t closes answer) is
-  edited_right edits.Restyle s t closes query body answer is =
-      revision_right closes query s t (λ rev. IsEditAnswered (IsStyleFault s rev body) (IsRestyle s rev body) (IsRestyling body) s closes) answer (revision_in (named (codes "rev") query)) (query_reply closes (codes "rev"))
-      (λ r. edit_right (IsStyleFault s r body) (IsRestyle s r body) (IsRestyling body) s t closes answer) is
-  edited_right edits.Remove s t closes query body answer is = removal_right s t closes query answer (id_in query) is
+  edited_right route s t closes query body answer is =
+      given_right s t _ answer (wish_in route query body) _
+      (λ wish v. given_right s t _ answer (revision_in (named (codes "rev") query)) _ (λ rev p. edit_right s t rev wish closes answer p) v) is
 
   routed_right : (routed : Result Route NoRoute) (s t : State) (request : RequestParts) (answer : LinkAnswer) → IsRouted routed s request answer t → StayRight s t answer
   routed_right (Err none) s t request answer stays = stays_right s t _ answer stays

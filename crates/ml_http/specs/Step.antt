@@ -14,9 +14,8 @@ use Rattle.ml_store.specs.declared.row.Row.{Row}
 use Rattle.ml_repair.specs.Changes.{AreChanges}
 use Rattle.ml_editor.specs.State.{State, HasFeature, step}
 use Rattle.ml_editor.specs.Editing.{IsEditCost, id_of}
-use Rattle.ml_editor.specs.Faults.{IsAddFault, IsAddition, IsAdding, IsReplaceFault, IsReplacement, IsReplacing, IsRemoveFault, IsRemoval, IsStyleFault, IsRestyle, IsRestyling}
+use Rattle.ml_editor.specs.Faults.{Wish, adds, replaces, removes, restyles, IsFault, IsGranted}
 use Rattle.ml_editor.specs.declared.edit.Edit.{Edit}
-use Rattle.ml_editor.specs.declared.edit.Edit.TheVariants.{Remove as Removes}
 use Rattle.ml_editor.specs.declared.fault.EditFault.{EditFault}
 use Rattle.ml_editor.specs.declared.fault.EditFault.TheVariants as faults
 use Rattle.ml_editor.specs.declared.standing.Standing.{Standing}
@@ -160,27 +159,27 @@ pub record IsCarriedOut (s : State) (closes : Bool) (edit : Edit) (answer : Link
 abbrev pub IsTurnedDown : State → Bool → EditFault → LinkAnswer → State → Type 0
 IsTurnedDown s closes fault answer t = (code : ℕ) × (fault_code fault ≡ Some code) × Stays s (fault_reply closes code fault) answer t
 
--- the rules refuse the edit, or they accept it and it is carried out
-abbrev pub IsEditAnswered : (EditFault → Type 0) → Type 0 → (Edit → Type 0) → State → Bool → LinkAnswer → State → Type 0
-IsEditAnswered refuses accepts makes s closes answer t =
-    ((fault : EditFault) × refuses fault × IsTurnedDown s closes fault answer t) ⊎ (accepts × ((edit : Edit) × makes edit × IsCarriedOut s closes edit answer t))
+-- the rules refuse what is asked, or they accept it and the edit is carried out
+abbrev pub IsEditAnswered : State → Option ℕ → Wish → Bool → LinkAnswer → State → Type 0
+IsEditAnswered s rev wish closes answer t =
+    ((fault : EditFault) × IsFault s rev wish fault × IsTurnedDown s closes fault answer t) ⊎ ((edit : Edit) × IsGranted s rev wish edit × IsCarriedOut s closes edit answer t)
 
--- an edit for the revision that the query gives, if it gives one
-abbrev pub ForRevision : Bool → Query → State → (Option ℕ → LinkAnswer → State → Type 0) → LinkAnswer → State → Type 0
-ForRevision closes query s answered answer t =
-    MatchOption (revision_in (named (codes "rev") query)) (Stays s (query_reply closes (codes "rev")) answer t) (λ rev. answered rev answer t)
+-- what is asked, for the revision that the query gives, if it gives one
+abbrev pub ForRevision : Wish → State → Bool → Query → LinkAnswer → State → Type 0
+ForRevision wish s closes query answer t =
+    MatchOption (revision_in (named (codes "rev") query)) (Stays s (query_reply closes (codes "rev")) answer t) (λ rev. IsEditAnswered s rev wish closes answer t)
+
+-- what a request for an edit asks: an edit by its body, or the removal of the id that the query gives
+abbrev pub wish_in : EditRoute → Query → List ℕ → Option Wish
+wish_in edits.Add query body = Some (adds body)
+wish_in edits.Replace query body = Some (replaces body)
+wish_in edits.Remove query body = option_map removes (id_in query)
+wish_in edits.Restyle query body = Some (restyles body)
 
 -- the answer to a request for an edit
 abbrev pub IsEditReply : EditRoute → State → Bool → Query → List ℕ → LinkAnswer → State → Type 0
-IsEditReply edits.Add s closes query body answer t =
-    ForRevision closes query s (λ rev. IsEditAnswered (IsAddFault s rev body) (IsAddition s rev body) (IsAdding body) s closes) answer t
-IsEditReply edits.Replace s closes query body answer t =
-    ForRevision closes query s (λ rev. IsEditAnswered (IsReplaceFault s rev body) (IsReplacement s rev body) (IsReplacing body) s closes) answer t
-IsEditReply edits.Remove s closes query body answer t =
-    MatchOption (id_in query) (Stays s (query_reply closes (codes "id")) answer t)
-    (λ id. ForRevision closes query s (λ rev. IsEditAnswered (IsRemoveFault s rev id) (IsRemoval s rev id) (λ edit. edit ≡ Removes id) s closes) answer t)
-IsEditReply edits.Restyle s closes query body answer t =
-    ForRevision closes query s (λ rev. IsEditAnswered (IsStyleFault s rev body) (IsRestyle s rev body) (IsRestyling body) s closes) answer t
+IsEditReply route s closes query body answer t =
+    MatchOption (wish_in route query body) (Stays s (query_reply closes (codes "id")) answer t) (λ wish. ForRevision wish s closes query answer t)
 
 -- the answer to a request that asks for this
 abbrev pub IsRouted : Result Route NoRoute → State → RequestParts → LinkAnswer → State → Type 0

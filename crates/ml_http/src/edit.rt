@@ -4,12 +4,11 @@ ghost use Rattle.ml_editor.specs.Editing.{IsReady, HasRoomFor};
 ghost use Rattle.ml_http.specs.Context.{IsSameLoan, state_of};
 ghost use Rattle.ml_http.specs.Link.{IsAccepted, IsAnswered, LinkIdles};
 ghost use Rattle.ml_http.specs.Routes.{pair_bytes};
-ghost use Rattle.ml_editor.specs.Faults.{IsRemoveFault, IsRemoval};
-ghost use Rattle.ml_editor.specs.declared.edit.Edit.TheVariants.{Remove as Removes};
+ghost use Rattle.ml_editor.specs.Faults.{wish_of};
+ghost use Rattle.std.specs.Option.{option_map};
 ghost use Rattle.ml_http.specs.Replies.{json_reply as json_reply_text};
 ghost use Rattle.ml_answer.specs.Edit.{edit_text};
-ghost use Rattle.ml_http.specs.Step.{IsEditReply, IsEditAnswered};
-ghost use Rattle.ml_http.specs.declared.route.EditRoute.TheVariants as edits;
+ghost use Rattle.ml_http.specs.Step.{IsEditReply, wish_in};
 
 use crate::context::Context;
 use crate::forget::forget_changes;
@@ -18,8 +17,7 @@ use crate::replies::{fault_reply, json_reply, query_reply};
 use crate::route::EditRoute;
 use http::StatusCode;
 use ml_answer::edit_json;
-use ml_editor::Ready;
-use ml_ratio::Text;
+use ml_editor::{Asked, Ready};
 use ml_request::Request;
 use ml_watch::Watcher;
 use ml_watch::laws::hear_nothing;
@@ -30,7 +28,7 @@ impl<W: Watcher, L: Ledger> Context<'_, '_, W, L> {
     /// Answers a request for an edit.
     ///
     /// # Errors
-    /// Want of memory: the map, the watchers and the tiles are as before.
+    /// Out of memory: the map, the watchers and the tiles are as before.
     pub(crate) fn edit(
         &mut self,
         route: EditRoute,
@@ -43,108 +41,15 @@ impl<W: Watcher, L: Ledger> Context<'_, '_, W, L> {
             (state_of self.old) (state_of self.new) bytes.items) }
         ensures memory { OnErr result (LinkIdles (state_of self.old) (state_of self.new)) }
     {
-        match route {
-            EditRoute::Add => self.add(request, pairs),
-            EditRoute::Replace => self.replace(request, pairs),
-            EditRoute::Remove => self.remove(request, pairs),
-            EditRoute::Restyle => self.restyle(request, pairs),
-        }
-    }
-
-    // Adds the feature that the body is.
-    fn add(&mut self, request: &Request, pairs: &[Pair<'_>]) -> Result<Vec<u8>, AllocError>
-        ensures loan { IsSameLoan self.old self.new }
-        ensures ok { IfOk result (λ bytes. IsAnswered W.hearing
-            (λ s answer t. IsEditReply edits.Add s request.now.closes (map pair_bytes pairs.now) request.now.body answer t)
-            (state_of self.old) (state_of self.new) bytes.items) }
-        ensures memory { OnErr result (LinkIdles (state_of self.old) (state_of self.new)) }
-    {
         hear_nothing::<W>();
-        let Some(rev) = revision_asked(pairs) else {
-            return query_reply(self.alloc, request.closes(), "rev");
-        };
-        match self
-            .editor
-            .prepare_add(self.alloc, rev, request.body(), self.steps)
-        {
-            Ok(ready) => self.accept(ready, request.closes()),
-            Err(fault) => fault_reply(self.alloc, request.closes(), &fault),
-        }
-    }
-
-    // Puts the feature that the body is in the place of that with its id.
-    fn replace(&mut self, request: &Request, pairs: &[Pair<'_>]) -> Result<Vec<u8>, AllocError>
-        ensures loan { IsSameLoan self.old self.new }
-        ensures ok { IfOk result (λ bytes. IsAnswered W.hearing
-            (λ s answer t. IsEditReply edits.Replace s request.now.closes (map pair_bytes pairs.now) request.now.body answer t)
-            (state_of self.old) (state_of self.new) bytes.items) }
-        ensures memory { OnErr result (LinkIdles (state_of self.old) (state_of self.new)) }
-    {
-        hear_nothing::<W>();
-        let Some(rev) = revision_asked(pairs) else {
-            return query_reply(self.alloc, request.closes(), "rev");
-        };
-        match self
-            .editor
-            .prepare_replace(self.alloc, rev, request.body(), self.steps)
-        {
-            Ok(ready) => self.accept(ready, request.closes()),
-            Err(fault) => fault_reply(self.alloc, request.closes(), &fault),
-        }
-    }
-
-    // Puts the style that the body is in the place of the present one.
-    fn restyle(&mut self, request: &Request, pairs: &[Pair<'_>]) -> Result<Vec<u8>, AllocError>
-        ensures loan { IsSameLoan self.old self.new }
-        ensures ok { IfOk result (λ bytes. IsAnswered W.hearing
-            (λ s answer t. IsEditReply edits.Restyle s request.now.closes (map pair_bytes pairs.now) request.now.body answer t)
-            (state_of self.old) (state_of self.new) bytes.items) }
-        ensures memory { OnErr result (LinkIdles (state_of self.old) (state_of self.new)) }
-    {
-        hear_nothing::<W>();
-        let Some(rev) = revision_asked(pairs) else {
-            return query_reply(self.alloc, request.closes(), "rev");
-        };
-        match self.editor.prepare_style(self.alloc, rev, request.body()) {
-            Ok(ready) => self.accept(ready, request.closes()),
-            Err(fault) => fault_reply(self.alloc, request.closes(), &fault),
-        }
-    }
-
-    // Removes the feature with the id that the query gives.
-    fn remove(&mut self, request: &Request, pairs: &[Pair<'_>]) -> Result<Vec<u8>, AllocError>
-        ensures loan { IsSameLoan self.old self.new }
-        ensures ok { IfOk result (λ bytes. IsAnswered W.hearing
-            (λ s answer t. IsEditReply edits.Remove s request.now.closes (map pair_bytes pairs.now) request.now.body answer t)
-            (state_of self.old) (state_of self.new) bytes.items) }
-        ensures memory { OnErr result (LinkIdles (state_of self.old) (state_of self.new)) }
-    {
-        hear_nothing::<W>();
-        let Some(id) = id_asked(pairs) else {
-            return query_reply(self.alloc, request.closes(), "id");
+        let closes = request.closes();
+        let Some(asked) = asked_in(route, request, pairs) else {
+            return query_reply(self.alloc, closes, "id");
         };
         let Some(rev) = revision_asked(pairs) else {
-            return query_reply(self.alloc, request.closes(), "rev");
+            return query_reply(self.alloc, closes, "rev");
         };
-        let id = Text::of(self.alloc, id)?;
-        self.remove_id(request.closes(), rev, &id)
-    }
-
-    // Removes the feature with this id.
-    fn remove_id(
-        &mut self,
-        closes: bool,
-        rev: Option<u64>,
-        id: &Text,
-    ) -> Result<Vec<u8>, AllocError>
-        ensures loan { IsSameLoan self.old self.new }
-        ensures ok { IfOk result (λ bytes. IsAnswered W.hearing
-            (λ s answer t. IsEditAnswered (IsRemoveFault s rev id.now) (IsRemoval s rev id.now) (λ edit. edit ≡ Removes id.now) s closes answer t)
-            (state_of self.old) (state_of self.new) bytes.items) }
-        ensures memory { OnErr result (LinkIdles (state_of self.old) (state_of self.new)) }
-    {
-        hear_nothing::<W>();
-        match self.editor.prepare_remove(self.alloc, rev, id, self.steps) {
+        match self.editor.prepare(self.alloc, rev, asked, self.steps) {
             Ok(ready) => self.accept(ready, closes),
             Err(fault) => fault_reply(self.alloc, closes, &fault),
         }
@@ -164,6 +69,21 @@ impl<W: Watcher, L: Ledger> Context<'_, '_, W, L> {
         forget_changes(self.editor, self.tiles, &ready);
         self.editor.commit(ready, self.crowd);
         Ok(reply)
+    }
+}
+
+// What a request for an edit asks; none where it needs an id that its query does not give.
+fn asked_in<'a>(route: EditRoute, request: &'a Request, pairs: &'a [Pair<'_>]) -> Option<Asked<'a>>
+    ensures { option_map wish_of result ≡ wish_in route (map pair_bytes pairs.now) request.now.body }
+{
+    match route {
+        EditRoute::Add => Some(Asked::Add(request.body())),
+        EditRoute::Replace => Some(Asked::Replace(request.body())),
+        EditRoute::Remove => match id_asked(pairs) {
+            Some(id) => Some(Asked::Remove(id)),
+            None => None,
+        },
+        EditRoute::Restyle => Some(Asked::Restyle(request.body())),
     }
 }
 

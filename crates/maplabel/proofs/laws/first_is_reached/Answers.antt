@@ -1,5 +1,5 @@
 use Rattle.std.proofs.Common.{subst, sym, arith}
-use Rattle.ml_editor.specs.State.{State, IsState}
+use Rattle.ml_editor.specs.State.{IsState}
 use Rattle.maplabel.proofs.laws.first_is_reached.Goals as goal
 
 pub returns : goal.returns

@@ -11,6 +11,6 @@ returns c =
       longest = c.l0.ensures;
       one_changes = c.one_changes.ensures;
       one_cost = c.one_cost.ensures;
-      one_add = c.one_edit.ensures.add;
+      one_edit = c.one_edit.ensures;
     } in
     one_totals known

@@ -1,14 +1,9 @@
-use Rattle.ml_http.proofs.OneAccount.{Reaches, one_written, one_ending, one_told, one_state}
+use Rattle.ml_http.proofs.OneAccount.{one_written, one_ending, one_told, one_state}
 use Rattle.ml_http.proofs.laws.one_account.Goals as goal
 
 pub returns : goal.returns
 returns g c =
-    let reaches : Reaches = record {
-      add = c.accepted_is_reached.ensures.add;
-      replace = c.accepted_is_reached.ensures.replace;
-      remove = c.accepted_is_reached.ensures.remove;
-      restyle = c.accepted_is_reached.ensures.restyle;
-    } in
+    let reaches = c.accepted_is_reached.ensures in
     record {
       written = λ hearing old older one other bytes left rest written first second end ending is like good fine x y.
           one_written reaches c.one_reply.ensures hearing old older one other bytes left rest written first second is like end ending good fine x y;

@@ -4,13 +4,8 @@ use Rattle.ml_http.proofs.laws.one_reply.Goals as goal
 pub returns : goal.returns
 returns c s event one other t u is p q =
     let known : KnownEdits = record {
-      add_refused = c.one_refusal.ensures.add;
-      replace_refused = c.one_refusal.ensures.replace;
-      remove_refused = c.one_refusal.ensures.remove;
-      restyle_refused = c.one_refusal.ensures.restyle;
-      one_add = c.one_edit.ensures.add;
-      one_replace = c.one_edit.ensures.replace;
-      one_restyle = c.one_edit.ensures.restyle;
+      one_refusal = c.one_refusal.ensures;
+      one_edit = c.one_edit.ensures;
       one_changes = c.one_changes.ensures;
       one_cost = c.one_cost.ensures;
     } in

@@ -1,14 +1,9 @@
-use Rattle.ml_http.proofs.OneAccount.{Reaches, next_state, link_state}
+use Rattle.ml_http.proofs.OneAccount.{next_state, link_state}
 use Rattle.ml_http.proofs.laws.stays_reached.Goals as goal
 
 pub returns : goal.returns
 returns g c =
-    let reaches : Reaches = record {
-      add = c.accepted_is_reached.ensures.add;
-      replace = c.accepted_is_reached.ensures.replace;
-      remove = c.accepted_is_reached.ensures.remove;
-      restyle = c.accepted_is_reached.ensures.restyle;
-    } in
+    let reaches = c.accepted_is_reached.ensures in
     record {
       event = λ s t event answer is x. next_state reaches s is event answer t x;
       connection = λ hearing old new source left written written_after end is x. link_state reaches hearing old new source left written written_after end is x;

@@ -33,13 +33,14 @@ pub returns-clause-draft : goal.returns-clause-draft
 returns-clause-draft c =
     let i = c.self.inside in
     let rows = c.in_ok-engine.engine.rows in
-    let draft : Draft = record { work = Rebuilds c.in_ok-engine.engine; label = None; changes = c.in_ok-changes.changes } in
+    let draft : Draft = record { key = c.of_string.result; work = Rebuilds c.in_ok-engine.engine c.in_ok-changes.changes; label = None } in
     let P : Editing → Type 0 = λ e. IsStyleDraft c.args.style.now e.state.features e.engine.rows draft in
     subst P c.self.view_is (record {
       engine = c.in_ok-engine.engine;
+      changes = c.in_ok-changes.changes;
       work = refl;
       label = refl;
       labels = made_anew c.args.style.now i.features.list c.as_slice.result.now c.in_ok-labels.labels.items c.of_vec.result rows (c.as_slice.ensures ∙ c.in_ok-features.ensures) c.in_ok-labels.ensures.ok c.of_vec.ensures c.in_ok-engine.ensures.labels c.in_ok-engine.ensures.settled;
       settled = c.in_ok-engine.ensures.settled;
-      changes = c.in_ok-changes.ensures;
+      are_changes = c.in_ok-changes.ensures;
     })
