@@ -1,5 +1,5 @@
 -- Where the anchors of labels lie that a label overlaps in a band.
-use Rattle.std.proofs.Common.{◌≡◌, ap, inl, inr, ℕ, ◌+◌, ◌*◌, ◌^◌, ◌<◌, ◌≤◌, arith, ℤ, pos, negsuc, ◌+ℤ◌, ◌-ℤ◌, ◌*ℤ◌, ◌<ℤ◌, ◌≤ℤ◌, lit<}
+use Rattle.std.proofs.Common.{◌≡◌, ap, subst, sym, inl, inr, ◌⊎◌, ℕ, zero, suc, ◌+◌, ◌*◌, ◌^◌, ◌<◌, ◌≤◌, arith, ℤ, pos, negsuc, ◌+ℤ◌, ◌-ℤ◌, ◌*ℤ◌, ◌<ℤ◌, ◌≤ℤ◌, lit<}
 use Rattle.std.specs.Int.{int_div_euclid}
 use Rattle.std.proofs.lemmas.Bool.{cases_lt}
 use Rattle.std.proofs.lemmas.Int.{ints}
@@ -133,10 +133,39 @@ meets_lower o a b k j from upto within over = record {
       omega arith;
 }
 
--- the label is kept in a cell of the area about one that overlaps it in a band from j to m
-pub kept_about : (o : Outline) (a b : Label) (k m j : ℕ) → o.low ≤ j → j ≤ k → k ≤ m → IsWithin o b → OverlapIn a b k → IsKeptAmong (about a (area_of (reach_of a) o.reach) m j) b
+-- a label's range has a last band, up to any behind which it does not reach
+last_below : (a : Label) (k : ℕ) → k < 28 → (k < 27 → a.max.num < 2 ^ (k + 1) * a.max.den) → (m : ℕ) × IsLastBand a m
+last_below a zero low ends = (0, record { low = low; reaches = λ some. absurd (omega arith); ends = ends })
+last_below a (suc k) low ends =
+    elim (cases_lt a.max.num (2 ^ (k + 1) * a.max.den)) [
+      | inl less ↦ last_below a k (omega arith) (λ h. less)
+      | inr more ↦
+          let e : suc k ≡ k + 1 = omega arith in
+          (suc k, record { low = low; reaches = λ some. subst (λ (n : ℕ). 2 ^ n * a.max.den ≤ a.max.num) (sym e) more; ends = ends })
+    ]
+
+-- a label that begins in a band up to j is kept in band j, where no range ends before it
+meets_early : (o : Outline) (b : Label) (j : ℕ) → o.low ≤ j → j ≤ o.first_end → IsWithin o b → MeetsBand j (value_of b.min) (value_of b.max)
+meets_early o b j from upto within = record {
+  begins = begins_more b.min.num b.min.den o.low j from within.begins;
+  reaches = λ some.
+      let last = last_below b 27 (omega arith) (λ less. absurd (omega arith)) in
+      let m : ℕ = last.0 in
+      let after : o.first_end ≤ m = within.ends m last.1 in
+      let p : 2 ^ j ≤ 2 ^ m = pow-le-pow_right (omega arith) (omega arith) in
+      let q = mul-le (2 ^ j) b.max.den (2 ^ m) b.max.den p (omega arith) in
+      let h = last.1.reaches (omega arith) in
+      omega arith;
+}
+
+-- a label that is overlapped in band k is kept in band j, up to which all have begun, if that is none behind k or none behind the first in which a range ends
+meets_finer : (o : Outline) (a b : Label) (k j : ℕ) → o.low ≤ j → (j ≤ k) ⊎ (j ≤ o.first_end) → IsWithin o b → OverlapIn a b k → MeetsBand j (value_of b.min) (value_of b.max)
+meets_finer o a b k j from upto within over = elim upto [ inl low ↦ meets_lower o a b k j from low within over | inr early ↦ meets_early o b j from early within ]
+
+-- the label is kept in a cell of the area about one that overlaps it in a band up to m, from j on or where no range ends before j
+pub kept_about : (o : Outline) (a b : Label) (k m j : ℕ) → o.low ≤ j → j < 28 → (j ≤ k) ⊎ (j ≤ o.first_end) → k ≤ m → IsWithin o b → OverlapIn a b k → IsKeptAmong (about a (area_of (reach_of a) o.reach) m j) b
 unfolding Overlap BoxesOverlap hull_of
-kept_about o a b k m j from upto under within over =
+kept_about o a b k m j from few upto under within over =
     let any = over.over in
     let p = any.1 in
     let other = any.4 in
@@ -155,12 +184,11 @@ kept_about o a b k m j from upto under within over =
     let ys = column_about a.y b.y wide_p.b wide_p.t wide_q.b wide_q.t (reach_of a).b (reach_of a).t o.reach.b o.reach.t m j s below ea.high o.extent.high hp.b hp.t hq.b hq.t boxes.1 in
     let hx = anchor_column b.x (reach_of b).l (reach_of b).r j eb.wide in
     let hy = anchor_column b.y (reach_of b).b (reach_of b).t j eb.high in
-    let few = over.low in
     record {
       x = int_div_euclid b.x (pos (cell_side j));
       y = int_div_euclid b.y (pos (cell_side j));
       among = (xs.0, xs.1, ys.0, ys.1);
-      kept = record { low = omega arith; meets = meets_lower o a b k j from upto within over; among = (hx.0, hx.1, hy.0, hy.1) };
+      kept = record { low = few; meets = meets_finer o a b k j from upto within over; among = (hx.0, hx.1, hy.0, hy.1) };
     }
 
 -- and in one of the label's hull

@@ -162,8 +162,8 @@ impl Outline {
     }
 
     /// Cells in which each label within the outline is kept that the label overlaps in any of the bands
-    /// from `band` to `upto`: at most four columns of them, of one band up to `band`. None where labels
-    /// reach too far, or begin too late, for cells of such a band.
+    /// from `band` to `upto`: at most four columns of them, of one band up to `band`, or up to that in which a
+    /// range ends first. None where labels reach too far, or begin too late, for cells of such a band.
     pub fn across(&self, label: &Label, band: u8, upto: u8) -> Option<Cells>
         requires { upto ≤ 27 }
         ensures few { IfSome result (λ cells. AreFew cells.x0 cells.x1) }
@@ -171,7 +171,7 @@ impl Outline {
     {
         let area = meeting_area(&extent(label), &self.reach);
         let finer = self.finer(width_of(&area), upto)?;
-        if finer <= band {
+        if finer <= band.max(self.first_end) {
             Some(cells_about(label, &area, upto, finer))
         } else {
             None

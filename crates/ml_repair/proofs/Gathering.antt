@@ -23,12 +23,12 @@ use Rattle.ml_store.specs.declared.row.Row.{Row}
 use Rattle.ml_repair.specs.declared.edit.Moved.{Moved}
 use Rattle.ml_repair.specs.Moves.{numbers_of}
 use Rattle.ml_repair.specs.Plan.{slot_for}
-use Rattle.ml_repair.specs.Roster.{OverlapsAt, NoneBefore}
+use Rattle.ml_repair.specs.Roster.{OverlapsAt, AreMet, NoneBefore}
 use Rattle.ml_repair.proofs.Enough.{contained_or_not}
 use Rattle.ml_repair.proofs.Moving.{slot_kept, slot_new}
 use Rattle.ml_repair.proofs.NearRosters.{row_there}
 use Rattle.ml_repair.proofs.Present.{present_read}
-use Rattle.ml_repair.specs.Repair.{Stands, IsBoundBy, IsUnmoved, ReachesBand, AreReaching, AreMeeting, IsClear, Counts, AreEnough, AreSifted, present_slots}
+use Rattle.ml_repair.specs.Repair.{Stands, IsBoundBy, IsUnmoved, ReachesBand, AreReaching, IsClear, Counts, AreEnough, AreSifted, present_slots}
 
 -- ---- bands
 
@@ -311,19 +311,26 @@ module _ (rows : List Row) (moved : List Moved) (low : Label) (at : ℕ) (comes 
     whole = λ p k s f r a b. absurd (omega arith);
   }
 
-  -- one more band: each place in it that the earlier ones do not have counts
-  bands_more : (found : ℕ → Type 0) (band : ℕ) (bound next : Ratio) (places more : List ℕ) → GatheredBands rows moved low at comes i first band bound places → AreSifted rows moved low at comes i found bound next places more →
-      ((p : ℕ) → Stands comes true at i p → OverlapsAt rows low band p → ReachesBand band (ends (present_slots rows moved) p) → Counts rows moved low next more p) → GatheredBands rows moved low at comes i first (band + 1) next more
-  bands_more found band bound next places more so_far are here = record {
+  -- some more bands: each place in them that the earlier ones do not have counts
+  bands_over : (found : ℕ → Type 0) (band until : ℕ) (bound next : Ratio) (places more : List ℕ) → GatheredBands rows moved low at comes i first band bound places → AreSifted rows moved low at comes i found bound next places more →
+      ((p k : ℕ) → band ≤ k → k < until → Stands comes true at i p → OverlapsAt rows low k p → ReachesBand k (ends (present_slots rows moved) p) → Counts rows moved low next more p) → GatheredBands rows moved low at comes i first until next more
+  bands_over found band until bound next places more so_far are here = record {
     stand = λ p h. elim (are.sound p h) [ inl old ↦ so_far.stand p old | inr new ↦ new ];
     bound_is = are.bound_is so_far.bound_is;
     whole = λ p k s f r a b. elim (cases_lt k band) [
       | inl less ↦ counts_more rows moved low bound next places more are.kept are.upto p (so_far.whole p k s f r a less)
-      | inr same ↦
-          let e : k ≡ band = omega arith in
-          here p s (subst (λ (b : ℕ). OverlapsAt rows low b p) e f) (subst (λ (b : ℕ). ReachesBand b (ends (present_slots rows moved) p)) e r)
+      | inr from ↦ here p k from b s f r
     ];
   }
+
+  -- one more band
+  bands_more : (found : ℕ → Type 0) (band : ℕ) (bound next : Ratio) (places more : List ℕ) → GatheredBands rows moved low at comes i first band bound places → AreSifted rows moved low at comes i found bound next places more →
+      ((p : ℕ) → Stands comes true at i p → OverlapsAt rows low band p → ReachesBand band (ends (present_slots rows moved) p) → Counts rows moved low next more p) → GatheredBands rows moved low at comes i first (band + 1) next more
+  bands_more found band bound next places more so_far are here =
+      bands_over found band (band + 1) bound next places more so_far are
+      (λ p k from upto s f r.
+          let e : k ≡ band = omega arith in
+          here p s (subst (λ (b : ℕ). OverlapsAt rows low b p) e f) (subst (λ (b : ℕ). ReachesBand b (ends (present_slots rows moved) p)) e r))
 
   -- the labels with new slots
   pub gathered_new : (more : List ℕ) (next : Ratio) → AreSifted rows moved low at comes i (λ p. (p < length rows) × Contains (numbers_of moved) (number_at rows p)) low.max next [] more → GatheredBelow rows moved low at comes i first first next more
@@ -367,9 +374,9 @@ module _ (rows : List Row) (moved : List Moved) (low : Label) (at : ℕ) (comes 
   pub gathered_start : GatheredBands rows moved low at comes i first first low.max []
   gathered_start = bands_none (λ p. ⊥) [] low.max (sifted_same rows moved low at comes i (λ p. ⊥) low.max [] (λ p h s. absurd h))
 
-  pub gathered_all : (band : ℕ) (bound next : Ratio) (places more found : List ℕ) → GatheredBands rows moved low at comes i first band bound places → AreMeeting rows low band found →
-      AreSifted rows moved low at comes i (Contains found) bound next places more → GatheredBands rows moved low at comes i first (band + 1) next more
-  gathered_all band bound next places more found so_far all are = bands_more (Contains found) band bound next places more so_far are (λ p s f r. are.whole p (all.whole p f) s)
+  pub gathered_all : (band until : ℕ) (bound next : Ratio) (places more found : List ℕ) → GatheredBands rows moved low at comes i first band bound places → AreMet rows low band until [] found →
+      AreSifted rows moved low at comes i (Contains found) bound next places more → GatheredBands rows moved low at comes i first until next more
+  gathered_all band until bound next places more found so_far all are = bands_over (Contains found) band until bound next places more so_far are (λ p k from upto s f r. are.whole p (all.whole p k from upto f) s)
 
   pub gathered_enough : (band b : ℕ) (bound : Ratio) (places sorted : List ℕ) → GatheredBands rows moved low at comes i first band bound places → IsInBand (value_of low.min) first → IsInBand (value_of bound) b → (b < band) ⊎ (28 ≤ band) →
       ((p : ℕ) → Contains sorted p ↔ Contains places p) → AreEnough rows moved low at comes i sorted
@@ -392,3 +399,11 @@ all_within rows at comes i places in' stand k d lt =
     let s = stand p (k, lt, get_or_default places k p d lt) in
     let h : p < i = s.0 in
     omega arith
+
+-- what came in where nothing was are places of the list
+pub met_within : (rows : List Row) (a : Label) (k m : ℕ) (found : List ℕ) → AreMet rows a k m [] found → All (λ p. p < length rows) found
+met_within rows a k m found are j d lt =
+    elim (are.sound (get_or found j d) (j, lt, get_or_default found j (get_or found j d) d lt)) [
+      | inl none ↦ absurd (let no : none.0 < 0 = none.1 in omega arith)
+      | inr is ↦ is
+    ]

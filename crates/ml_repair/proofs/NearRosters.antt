@@ -16,10 +16,10 @@ use Rattle.ml_cone.specs.Outline.{OverlapIn}
 use Rattle.ml_cone.specs.declared.label.Label.{Label}
 use Rattle.ml_cone.specs.declared.slot.Slot.{Slot}
 use Rattle.ml_store.specs.Rows.{numbers_in, labels_in, slots_in, IsFresh, HaveOwnNumbers}
-use Rattle.ml_store.specs.Search.{IsFoundIn, IsNumberWith, Gathers, AreOverlapping, NoneOverlaps}
+use Rattle.ml_store.specs.Search.{IsFoundIn, IsNumberWith, Gathers, AreOverlapping, AreAcross, NoneOverlaps}
 use Rattle.ml_store.specs.Table.{IsRowAt}
 use Rattle.ml_store.specs.declared.row.Row.{Row}
-use Rattle.ml_repair.specs.Roster.{left_rows, joined_rows, AreNumbered, AreFound, AreOverlapped, NoneBefore, PlacesCame}
+use Rattle.ml_repair.specs.Roster.{left_rows, joined_rows, AreNumbered, AreFound, AreOverlapped, AreMet, NoneBefore, PlacesCame}
 use Rattle.ml_repair.proofs.Rosters.{joined_above, left_most}
 use Rattle.ml_ratio.proofs.lemmas.Lists.{map_insert, map_remove, map_read, different_insert, remove_has}
 use Rattle.std.proofs.lemmas.List.Quantifiers.{all_pairs_remove}
@@ -126,6 +126,20 @@ overlapping_found come at gone rows a k scale numbers middle after in' le found 
             subst (λ (b : Label). OverlapIn a b k) (label_read all p r r.label h.0 read) (h.1 r.label),
             subst (λ (s : Slot). IsAtMost (value_of scale) (value_of s.until)) (slot_read all p r no_slot h.0 read) lasts,
           ));
+    }
+
+pub across_found : (come : Option (Bor Row)) (at : ℕ) (gone : Option ℕ) (rows : List Row) (a : Label) (k m : ℕ) (numbers before middle after : List ℕ) →
+    IfSome gone (λ g. g < length rows) → IfSome come (λ row. at ≤ length (left_rows gone rows)) →
+    AreAcross rows a k m numbers → PlacesCame (joined_rows come at (left_rows gone rows)) numbers before middle → Gathers (λ p. IsSome come × (p ≡ at)) middle after →
+    AreMet (joined_rows come at (left_rows gone rows)) a k m before after
+across_found come at gone rows a k m numbers before middle after in' le found came last =
+    let all : List Row = joined_rows come at (left_rows gone rows) in
+    let just : (r : Row) → Contains rows r → (n : ℕ) × (k ≤ n) × (n < m) × OverlapIn a r.label n → Contains numbers r.number = λ r there has. found r has.0 there has.1 has.2 has.3 in
+    record {
+      kept = λ p h. (last p).1 (inl ((came p).1 (inl h)));
+      sound = place_there come at gone rows (λ r. (n : ℕ) × (k ≤ n) × (n < m) × OverlapIn a r.label n) numbers before middle after in' le just came last;
+      whole = λ p n from upto h. place_found come at gone rows (λ r. (n : ℕ) × (k ≤ n) × (n < m) × OverlapIn a r.label n) numbers before middle after in' le just came last p h.0
+          (λ r read. (n, from, upto, subst (λ (b : Label). OverlapIn a b n) (label_read all p r r.label h.0 read) (h.1 r.label)));
     }
 
 -- where no label is to come before a place, those before it are among those that were there

@@ -15,10 +15,10 @@ use Rattle.ml_cone.specs.Slots.{ends}
 use Rattle.ml_cone.specs.declared.label.Label.{Label}
 use Rattle.ml_store.specs.Rows.{labels_in, slots_in}
 use Rattle.ml_store.specs.declared.row.Row.{Row}
-use Rattle.ml_repair.specs.Roster.{AreFound, IsFoundAt, AreOverlapped, OverlapsAt}
+use Rattle.ml_repair.specs.Roster.{AreFound, IsFoundAt, AreMet, OverlapsAt}
 use Rattle.ml_repair.specs.Repair.{AreSuspects, IsWokenBy, AreWoken}
 use Rattle.ml_repair.specs.Touched.{IsRivalBefore}
-use Rattle.ml_repair.proofs.Gathering.{band_from, from_nothing}
+use Rattle.ml_repair.proofs.Gathering.{band_from}
 use Rattle.ml_repair.proofs.NearRosters.{EndsFrom, last_after}
 use Rattle.ml_repair.proofs.Present.{length-labels}
 
@@ -94,18 +94,13 @@ meeting_none rows a first = record {
   whole = λ p k f from to. absurd (omega arith);
 }
 
-pub meeting_more : (rows : List Row) (a : Label) (first band : ℕ) (scale : Ratio) (places found more : List ℕ) → scale.num ≡ 0 → MeetingBelow rows a first band places → AreOverlapped rows a band scale found → more ≡ places ++ found → MeetingBelow rows a first (band + 1) more
-meeting_more rows a first band scale places found more none so_far are is = record {
-  within = λ p h. elim (Contains-append_cases places found p (subst (λ (xs : List ℕ). Contains xs p) is h)) [
-    | inl old ↦ so_far.within p old
-    | inr new ↦ All-contains (λ q. q < length rows) found p are.within new
+pub meeting_more : (rows : List Row) (a : Label) (first band next : ℕ) (places more : List ℕ) → MeetingBelow rows a first band places → AreMet rows a band next places more → MeetingBelow rows a first next more
+meeting_more rows a first band next places more so_far are = record {
+  within = λ p h. elim (are.sound p h) [ inl old ↦ so_far.within p old | inr new ↦ new ];
+  whole = λ p k f from to. elim (cases_lt k band) [
+    | inl less ↦ are.kept p (so_far.whole p k f from less)
+    | inr here ↦ are.whole p k here to f
   ];
-  whole = λ p k f from to. subst (λ (xs : List ℕ). Contains xs p) (sym is) (elim (cases_lt k band) [
-    | inl less ↦ Contains-append_left places found p (so_far.whole p k f from less)
-    | inr here ↦
-        let e : k ≡ band = omega arith in
-        Contains-append_right places found p (are.whole p (subst (λ (b : ℕ). OverlapsAt rows a b p) e f) (from_nothing scale (ends (slots_in rows) p) none))
-  ]);
 }
 
 abbrev pub OverlapLaw : Type 0

@@ -62,11 +62,6 @@ pub record AreReaching (rows : List Row) (moved : List Moved) (low : Label) (k :
   pub within : All (λ p. p < length rows) places
   pub whole : (p : ℕ) → OverlapsAt rows low k p → IsUnmoved rows moved p → ReachesBand k (ends (present_slots rows moved) p) → IsLess (value_of low.min) (ends (present_slots rows moved) p) → Contains places p
 
--- places of the list, among them each of a label that the label overlaps in band k
-pub record AreMeeting (rows : List Row) (low : Label) (k : ℕ) (places : List ℕ) : Type 0 where
-  pub within : All (λ p. p < length rows) places
-  pub whole : (p : ℕ) → OverlapsAt rows low k p → Contains places p
-
 -- of the labels without a new slot before place i that the label overlaps in any of the bands from k to m none has an active range that reaches into that band
 abbrev pub IsClear : List Row → List Moved → Label → ℕ → ℕ → ℕ → Type 0
 IsClear rows moved low i k m = (p n : ℕ) → p < i → k ≤ n → n ≤ m → OverlapsAt rows low n p → IsUnmoved rows moved p → ¬ (ReachesBand n (ends (present_slots rows moved) p))

@@ -47,6 +47,12 @@ pub record AreOverlapped (rows : List Row) (a : Label) (k : ℕ) (scale : Ratio)
   pub within : All (λ p. p < length rows) places
   pub whole : (p : ℕ) → OverlapsAt rows a k p → IsAtMost (value_of scale) (ends (slots_in rows) p) → Contains places p
 
+-- places came in: only some of the list, and among them each of a label that the label overlaps in a band from k on and before m
+pub record AreMet (rows : List Row) (a : Label) (k m : ℕ) (before after : List ℕ) : Type 0 where
+  pub kept : (p : ℕ) → Contains before p → Contains after p
+  pub sound : (p : ℕ) → Contains after p → Contains before p ⊎ (p < length rows)
+  pub whole : (p n : ℕ) → k ≤ n → n < m → OverlapsAt rows a n p → Contains after p
+
 -- of the labels before place i that the label overlaps in any of the bands from k to m none has an own slot that ends at the scale or later
 abbrev pub NoneBefore : List Row → Label → ℕ → ℕ → ℕ → Ratio → Type 0
 NoneBefore rows a i k m scale = (p n : ℕ) → p < i → k ≤ n → n ≤ m → OverlapsAt rows a n p → ¬ (IsAtMost (value_of scale) (ends (slots_in rows) p))

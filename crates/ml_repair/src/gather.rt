@@ -4,7 +4,7 @@ ghost use Rattle.std.specs.List.Sorted.{IsStrictlyIncreasing};
 ghost use Rattle.ml_store.specs.Rows.{number_at};
 ghost use Rattle.ml_repair.specs.Moves.{numbers_of};
 ghost use Rattle.ml_repair.specs.Plan.{slot_for};
-ghost use Rattle.ml_repair.specs.Repair.{Stands, ReachesBand, AreReaching, AreMeeting, IsClear, AreEnough, AreSifted};
+ghost use Rattle.ml_repair.specs.Repair.{Stands, ReachesBand, AreReaching, IsClear, AreEnough, AreSifted};
 ghost use Rattle.ml_store.specs.Table.{IsRowAt};
 ghost use Rattle.ml_ratio.specs.Fraction.{value_of, IsLess, IsAtMost};
 ghost use Rattle.ml_ratio.specs.declared.ratio.Ratio.{Ratio};
@@ -175,15 +175,6 @@ fn sift_moved(sought: &Sought<'_>, bound: Ratio, out: &mut Seq<u32>) -> Result<R
     Ok(next)
 }
 
-// Places, among them those of all labels that the label overlaps in the band.
-fn search_all(alloc: Global, sought: &Sought<'_>, band: u8) -> Result<Seq<u32>, AllocError>
-    requires { band ≤ 27 }
-    ensures { IfOk result (AreMeeting sought.now.roster.now sought.now.low.now band) }
-{
-    let scale = start_of(0);
-    sought.roster.overlapping(alloc, sought.low, band, &scale)
-}
-
 // Places before that of the label which are enough for its slot, where many labels have new slots: a search for
 // labels that may have ended long ago finds these with the others.
 fn gather_all(alloc: Global, sought: &Sought<'_>) -> Result<Vec<u32>, AllocError>
@@ -197,9 +188,10 @@ fn gather_all(alloc: Global, sought: &Sought<'_>) -> Result<Vec<u32>, AllocError
     let mut bound = low.max();
     let mut band = low.min().band();
     while band <= bound.band() && band < 28 {
-        let found = search_all(alloc, sought, band)?;
+        let mut found = Seq::new(alloc);
+        let upto = bound.band().min(band + 3).min(27);
+        band = sought.roster.across(alloc, low, band, upto, &mut found)?;
         bound = sift(sought, found.as_slice(), bound, &mut places)?;
-        band += 1;
     }
     Ok(ascending(places))
 }

@@ -6,7 +6,7 @@ ghost use Rattle.ml_cone.specs.declared.label.Label.{Label};
 ghost use Rattle.ml_store.specs.Rows.{number_at, labels_in, IsFresh};
 ghost use Rattle.ml_store.specs.Search.{Gathers};
 ghost use Rattle.ml_store.specs.Table.{IsRowAt, IsPlaceIn, slot_at};
-ghost use Rattle.ml_repair.specs.Roster.{left_rows, joined_rows, AreNumbered, AreFound, AreOverlapped, NoneBefore, PlacesCame, IsPlaceWithout};
+ghost use Rattle.ml_repair.specs.Roster.{left_rows, joined_rows, AreNumbered, AreFound, AreOverlapped, AreMet, NoneBefore, PlacesCame, IsPlaceWithout};
 
 use ml_cone::{Label, last_band};
 use ml_ratio::{Ratio, Seq};
@@ -327,6 +327,31 @@ impl<'a> Roster<'a> {
         push_places(self, numbers.as_slice(), &mut places)?;
         push_come(self.come, self.at, &mut places)?;
         Ok(places)
+    }
+
+    /// Appends places, among them those of all labels that the label overlaps in a band from `band` on, and tells
+    /// the first band of those that are still to be searched: that behind `upto`, which is at most 27, where one
+    /// search does until there, else the next one.
+    ///
+    /// # Errors
+    /// Want of memory.
+    pub fn across(
+        &self,
+        alloc: Global,
+        label: &Label,
+        band: u8,
+        upto: u8,
+        out: &mut Seq<u32>,
+    ) -> Result<u8, AllocError>
+        requires from { band ≤ upto }
+        requires upto { upto ≤ 27 }
+        ensures next { IfOk result (λ next. (band < next) × (next ≤ 28)) }
+        ensures met { IfOk result (λ next. AreMet self.now label.now band next out.old out.new) }
+    {
+        let (numbers, next) = self.store.across(alloc, label, band, upto)?;
+        push_places(self, numbers.as_slice(), out)?;
+        push_come(self.come, self.at, out)?;
+        Ok(next)
     }
 
     /// True only where of the labels before the place `before` that the label overlaps in any of the bands

@@ -1,5 +1,5 @@
 //! The later rivals of a label.
-ghost use Rattle.std.specs.Prelude.{ℕ, ◌≡◌, ◌≢◌, ◌+◌, ◌<◌, ◌≤◌, ◌⊎◌, ◌↔◌, ◌++◌, false, IsTrue, List, length, All, Contains, IfOk, slice_index_or};
+ghost use Rattle.std.specs.Prelude.{ℕ, ◌≡◌, ◌≢◌, ◌+◌, ◌<◌, ◌≤◌, ◌⊎◌, ◌↔◌, false, IsTrue, List, length, All, Contains, IfOk, slice_index_or};
 ghost use Rattle.ml_repair.specs.Repair.{AreSuspects, IsWokenBy, AreWoken};
 ghost use Rattle.ml_repair.specs.Touched.{IsRivalBefore};
 ghost use Rattle.ml_store.specs.Rows.{labels_in};
@@ -8,7 +8,7 @@ use crate::roster::Roster;
 use ml_cone::laws::{rivals_overlap, rivals_share};
 use ml_cone::{Label, last_band};
 use ml_conflict::are_rivals;
-use ml_ratio::{Ratio, Seq};
+use ml_ratio::Seq;
 use std::alloc::{AllocError, Global};
 
 // So many labels are asked whether they wait, to tell whether few do not.
@@ -30,40 +30,20 @@ fn suspects(alloc: Global, roster: &Roster<'_>, label: &Label) -> Result<Seq<u32
     Ok(places)
 }
 
-// Appends the places.
-fn append(found: &[u32], out: &mut Seq<u32>) -> Result<(), AllocError>
-    ensures { IfOk result (λ _. out.new ≡ out.old ++ found.now) }
-{
-    for place in found {
-        out.push(*place)?;
-    }
-    Ok(())
-}
-
-// The fraction 0/1.
-fn zero() -> Ratio
-    ensures { result.num ≡ 0 }
-{
-    match Ratio::of(0, 1) {
-        Some(zero) => zero,
-        None => unreachable!(),
-    }
-}
-
 // Places, among them those of all rivals of the label, by searches in all bands of its range. Where there are many
-// labels these find fewer that are no rivals, since they look at small cells about the label.
+// labels these find fewer that are no rivals, since they look at small cells about the label. One search does for
+// the bands up to that in which a range ends first.
 fn near_suspects(alloc: Global, roster: &Roster<'_>, label: &Label) -> Result<Seq<u32>, AllocError>
     ensures { IfOk result (AreSuspects roster.now label.now) }
 {
     rivals_overlap();
-    let scale = zero();
     let mut places = Seq::new(alloc);
     let last = last_band(label);
+    let first_end = roster.first_end();
     let mut band = label.min().band();
     while band <= last {
-        let found = roster.overlapping(alloc, label, band, &scale)?;
-        append(found.as_slice(), &mut places)?;
-        band += 1;
+        let upto = first_end.max(band).min(last);
+        band = roster.across(alloc, label, band, upto, &mut places)?;
     }
     Ok(places)
 }

@@ -1,5 +1,5 @@
 -- What the grid finds, said of rows.
-use Rattle.std.proofs.Common.{◌≡◌, ℕ, List, [], get_or, Contains, inl, inr, refl, sym, ◌∙◌, subst, arith, Result, Ok, Err}
+use Rattle.std.proofs.Common.{◌≡◌, ℕ, ◌<◌, ◌≤◌, List, [], get_or, Contains, inl, inr, refl, sym, ◌∙◌, subst, arith, Result, Ok, Err}
 use Rattle.std.specs.Prelude.{◌↔◌, All, OnOk, IfOk}
 use Rattle.std.proofs.lemmas.List.Kept.{AllPairs-from_increasing}
 use Rattle.std.proofs.lemmas.List.Elements.{All-contains}
@@ -20,7 +20,7 @@ use Rattle.ml_grid.specs.Found.{IsNumberOf, HasEntry, IsInHull, IsSeen, AppendsN
 use Rattle.ml_grid.specs.Column.{IsAmongFrom}
 use Rattle.ml_grid.specs.Near.{IsNear}
 use Rattle.ml_store.specs.Rows.{HaveOwnNumbers, IsLive}
-use Rattle.ml_store.specs.Search.{IsFoundIn, IsNumberWith, Gathers, AreOverlapping, NoneOverlaps, AreNearNumbers}
+use Rattle.ml_store.specs.Search.{IsFoundIn, IsNumberWith, Gathers, AreOverlapping, AreAcross, NoneOverlaps, AreNearNumbers}
 use Rattle.ml_store.specs.Store.{IsIndex, IsEntryIn, AreWithin}
 use Rattle.ml_store.specs.declared.row.Row.{Row}
 use Rattle.ml_store.proofs.Fresh.{fresh_removed}
@@ -74,6 +74,12 @@ module _ (rows : List Row) (entries : List Entry) (kept : IsIndex IsEntryIn rows
       let f = whole r.label (All-contains (λ (s : Row). IsWithin o s.label) rows r within there) over in
       let e = entry_of (cell_of cells.band f.x f.y) r.slot.until r.number in
       (found r.number).1 (e, (kept e).1 (r, there, record { in_cell = f.kept; its_end = refl; its_number = refl }), refl, ((refl, f.among), lasts))
+
+  -- and where that holds in several bands, those of all that it overlaps there
+  pub found_across : (o : Outline) → AreWithin o rows → (a : Label) (k m : ℕ) (scale : Ratio) (cells : Cells) → scale.num ≡ 0 → ((b : Label) (n : ℕ) → IsWithin o b → k ≤ n → n < m → OverlapIn a b n → IsKeptAmong cells b) →
+      (numbers : List ℕ) → ((n : ℕ) → Contains numbers n ↔ IsNumberOf (IsAmongFrom cells scale) entries n) → AreAcross rows a k m numbers
+  found_across o within a k m scale cells none whole numbers found r n there from upto over =
+      found_overlapping o within a n scale cells (λ b w v. whole b n w from upto v) numbers found r there over (rw none (omega arith))
 
   -- where no entry of such a cell lasts long enough, none of these labels does
   pub clear_of : (o : Outline) → AreWithin o rows → (a : Label) (k m : ℕ) (scale : Ratio) (cells : Cells) → HoldOverlapped o a k m cells → ¬ (HasEntry (IsAmongFrom cells scale) entries) → NoneOverlaps rows a k m scale

@@ -1,5 +1,5 @@
 -- Labels that are found by the grid.
-use Rattle.std.specs.Prelude.{ℕ, ◌≡◌, ◌≤◌, ◌⊎◌, ◌↔◌, ℤ, List, Contains}
+use Rattle.std.specs.Prelude.{ℕ, ◌≡◌, ◌<◌, ◌≤◌, ◌⊎◌, ◌↔◌, ℤ, List, Contains}
 use Rattle.ml_ratio.specs.Fraction.{value_of, IsAtMost}
 use Rattle.ml_ratio.specs.declared.ratio.Ratio.{Ratio}
 use Rattle.ml_cone.specs.Cells.{IsAmongCells}
@@ -23,6 +23,11 @@ pub record IsFoundIn (one other : Label) (k : ℕ) : Type 0 where
 abbrev pub AreOverlapping : List Row → Label → ℕ → Ratio → List ℕ → Type 0
 AreOverlapping rows a k scale numbers =
     (r : Row) → Contains rows r → OverlapIn a r.label k → IsAtMost (value_of scale) (value_of r.slot.until) → Contains numbers r.number
+
+-- among the numbers are those of all labels that the label overlaps in any of the bands from k on and before m
+abbrev pub AreAcross : List Row → Label → ℕ → ℕ → List ℕ → Type 0
+AreAcross rows a k m numbers =
+    (r : Row) (n : ℕ) → Contains rows r → k ≤ n → n < m → OverlapIn a r.label n → Contains numbers r.number
 
 -- of the labels that the label overlaps in any of the bands from k to m none is active up to the scale
 abbrev pub NoneOverlaps : List Row → Label → ℕ → ℕ → Ratio → Type 0

@@ -4,13 +4,15 @@ ghost use Rattle.ml_ratio.specs.Limits.{most_labels};
 ghost use Rattle.ml_ratio.specs.Fraction.{value_of};
 ghost use Rattle.ml_cone.specs.Cell.{IsLastBand};
 ghost use Rattle.ml_cone.specs.Choice.{IsEnd, ActiveUntil};
+ghost use Rattle.ml_cone.specs.Hull.{AreFew};
+ghost use Rattle.ml_cone.specs.Outline.{OverlapIn, IsWithin, IsKeptAmong};
 ghost use Rattle.ml_cone.specs.Shown.{IsInView};
 ghost use Rattle.ml_grid.specs.Count.{entry_count};
 ghost use Rattle.ml_store.specs.Pairs.{pair_count};
 ghost use Rattle.ml_cone.specs.declared.label.Label.{Label};
 ghost use Rattle.ml_store.specs.Boxes.{unboxed};
 ghost use Rattle.ml_store.specs.Rows.{numbers_in, number_at, labels_in, AreInTurn, IsLive, IsFresh, HasId, HaveOwnNumbers, HaveOwnIds, IsNumberOf};
-ghost use Rattle.ml_store.specs.Search.{IsFoundIn, IsNumberWith, Gathers, AreOverlapping, NoneOverlaps, AreNearNumbers};
+ghost use Rattle.ml_store.specs.Search.{IsFoundIn, IsNumberWith, Gathers, AreOverlapping, AreAcross, NoneOverlaps, AreNearNumbers};
 ghost use Rattle.ml_grid.specs.Entry.{IsFree, Adds, LosesEntries, AreEntriesOf};
 ghost use Rattle.ml_store.specs.Store.{IsStored, AreWithin, IsIndex, IsEntryIn, IsPairIn, Pair};
 ghost use Rattle.ml_store.specs.Table.{IsPlaceIn, with_slot, slot_at};
@@ -21,7 +23,7 @@ use crate::entries::move_entries;
 use crate::pairs::{Pairs, change_pair, put_pair, take_pair};
 use crate::row::Row;
 use crate::table::Table;
-use ml_cone::{Label, Outline, Slot, View};
+use ml_cone::{Cells, Label, Outline, Slot, View};
 use ml_grid::Grid;
 use ml_grid::laws::{seen_are_near, shown_seen};
 use ml_ratio::{Ratio, Seq, Steps, Text};
@@ -168,6 +170,54 @@ fn find_overlapping(
     ensures live { IfOk result (λ numbers. (n : ℕ) → Contains numbers n → IsLive rows.now.rows n) }
 {
     grid.in_cells(alloc, &outline.around(label, band), scale)
+}
+
+// The fraction 0/1.
+fn zero() -> Ratio
+    ensures { result.num ≡ 0 }
+{
+    match Ratio::of(0, 1) {
+        Some(zero) => zero,
+        None => unreachable!(),
+    }
+}
+
+// Cells in which each label is kept that the label overlaps in a band from `band` on, and the first band of those
+// that are still to be searched: that behind `upto` where one search does until there, else the next one.
+fn cells_across(outline: &Outline, label: &Label, band: u8, upto: u8) -> (Cells, u8)
+    requires from { band ≤ upto }
+    requires upto { upto ≤ 27 }
+    ensures few { AreFew result.0.x0 result.0.x1 }
+    ensures next { (band < result.1) × (result.1 ≤ 28) }
+    ensures whole { (a : Label) (n : ℕ) → IsWithin outline.now a → band ≤ n → n < result.1 → OverlapIn label.now a n → IsKeptAmong result.0 a }
+{
+    match outline.across(label, band, upto) {
+        Some(cells) => (cells, upto + 1),
+        None => (outline.around(label, band), band + 1),
+    }
+}
+
+// Numbers, among them those of all labels that the label overlaps in a band from `band` on, and the first band of
+// those that are still to be searched.
+fn find_across(
+    alloc: Global,
+    rows: &Table,
+    grid: &Grid,
+    outline: &Outline,
+    label: &Label,
+    band: u8,
+    upto: u8,
+) -> Result<(Seq<u32>, u8), AllocError>
+    requires from { band ≤ upto }
+    requires upto { upto ≤ 27 }
+    requires kept { IsIndex IsEntryIn rows.now.rows grid.now.entries }
+    requires within { AreWithin outline.now rows.now.rows }
+    ensures next { IfOk result (λ found. (band < found.1) × (found.1 ≤ 28)) }
+    ensures whole { IfOk result (λ found. AreAcross rows.now.rows label.now band found.1 found.0) }
+{
+    let (cells, next) = cells_across(outline, label, band, upto);
+    let numbers = grid.in_cells(alloc, &cells, &zero())?;
+    Ok((numbers, next))
 }
 
 // Whether no label that the label overlaps in any of the bands is active up to the scale. False also where
@@ -414,6 +464,35 @@ impl Store {
             label,
             band,
             scale,
+        )
+    }
+
+    /// Numbers, among them those of all live labels that the label overlaps in a band from `band` on, in whatever
+    /// order and however often, and the first band of those that are still to be searched: that behind `upto`,
+    /// which is at most 27, where one search does until there, else the next one.
+    ///
+    /// # Errors
+    /// Want of memory.
+    pub fn across(
+        &self,
+        alloc: Global,
+        label: &Label,
+        band: u8,
+        upto: u8,
+    ) -> Result<(Seq<u32>, u8), AllocError>
+        requires from { band ≤ upto }
+        requires upto { upto ≤ 27 }
+        ensures next { IfOk result (λ found. (band < found.1) × (found.1 ≤ 28)) }
+        ensures whole { IfOk result (λ found. AreAcross self.now.rows label.now band found.1 found.0) }
+    {
+        find_across(
+            alloc,
+            &self.table,
+            &self.grid,
+            &self.outline,
+            label,
+            band,
+            upto,
         )
     }
 

@@ -393,24 +393,29 @@ fn a_label_that_touches_the_window_is_outside(rt: HostRuntime) {
     hold::<Windows>(&rt, rt.alloc())
 }
 
-/// The cells for four bands from 0 on about a label at (0, 0), among labels like it, if there are such.
-fn cells_across(rt: &impl Abort, alloc: Global, reach: &str) -> Option<(i32, i32, i32, i32)> {
-    let text = format!(in alloc; "0 0 0 1000 0 1 {reach}").expect(rt, "memory");
+/// The band and the cells for four bands from 0 on about a label at (0, 0), among labels like it, if there are such.
+fn cells_across(
+    rt: &impl Abort,
+    alloc: Global,
+    max: &str,
+    reach: &str,
+) -> Option<(u8, i32, i32, i32, i32)> {
+    let text = format!(in alloc; "0 0 0 {max} 0 1 {reach}").expect(rt, "memory");
     let label = good_label(rt, alloc, text.as_str());
     let cells = Outline::none().with(&label).across(&label, 0, 3)?;
-    if cells.band != 0 {
-        panic!(rt; "cells of the first band");
-    }
-    Some((cells.x0, cells.y0, cells.x1, cells.y1))
+    Some((cells.band, cells.x0, cells.y0, cells.x1, cells.y1))
 }
 
-// In band 3 a pixel is 16 units at most: two such labels overlap up to 320 units from one another.
+// In band 3 a pixel is 16 units at most: two such labels overlap up to 320 units from one another. Two of 200
+// pixels do up to 3,200 units, and cells of band 2, of 4,096 units, are enough for them if no range ends before it.
 #[test]
 fn labels_that_do_not_reach_far_have_cells_for_four_bands(rt: HostRuntime) {
-    let near = cells_across(&rt, rt.alloc(), "-10,-5,10,5");
-    assert!(rt; near == Some((-1, -1, 0, 0)));
-    let far = cells_across(&rt, rt.alloc(), "-100,-5,100,5");
-    assert!(rt; far.is_none());
+    let near = cells_across(&rt, rt.alloc(), "1", "-10,-5,10,5");
+    assert!(rt; near == Some((0, -1, -1, 0, 0)));
+    let far = cells_across(&rt, rt.alloc(), "1000", "-100,-5,100,5");
+    assert!(rt; far == Some((2, -1, -1, 0, 0)));
+    let ended = cells_across(&rt, rt.alloc(), "1", "-100,-5,100,5");
+    assert!(rt; ended.is_none());
 }
 
 /// The band and the cells that are searched in band 3 about a label at (0, 0), among labels like it.

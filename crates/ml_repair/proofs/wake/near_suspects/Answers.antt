@@ -11,7 +11,7 @@ loop-band-init c = (
 pub loop-band-preserved : goal.loop-band-preserved
 loop-band-preserved c =
     let i = c.loop-band.invariant in
-    (i.0, i.1, meeting_more c.args.roster.now c.args.label.now i.0 c.loop-band.band c.zero-scale.result c.loop-band.places c.in_ok-found.found c.append.new.out c.zero-scale.ensures i.2 c.in_ok-found.ensures (rw c.as_slice.ensures at c.in_ok-append.ensures))
+    (i.0, i.1, meeting_more c.args.roster.now c.args.label.now i.0 c.loop-band.band c.in_ok-band.band c.loop-band.places c.across.new.out i.2 c.in_ok-band.ensures.met)
 
 pub returns : goal.returns
 returns c =

@@ -1,4 +1,4 @@
-use Rattle.std.proofs.Common.{sym, subst, rules, arith, w32, FitsSigned, ◌≤ℤ◌}
+use Rattle.std.proofs.Common.{inl, sym, subst, rules, arith, w32, FitsSigned, ◌≤ℤ◌}
 use Rattle.std.proofs.lemmas.Int.{to_z-of_z}
 use Rattle.ml_cone.specs.Hull.{IsExtent}
 use Rattle.ml_cone.specs.declared.label.BoxPx.{BoxPx}
@@ -21,7 +21,9 @@ returns-in-Some-clause-few c =
 
 pub returns-in-Some-clause-whole : goal.returns-in-Some-clause-whole
 returns-in-Some-clause-whole c a within over =
-    rw (c.cells_about.ensures, c.meeting_area-area.ensures.area, c.extent.ensures) (kept_about c.args.self.now c.args.label.now a c.args.band c.args.band c.in-Some.finer c.in-Some.ensures.from c.in-Some.ensures.upto (omega arith) within over)
+    let upto = c.in-Some.ensures.upto in
+    let low = c.requires in
+    rw (c.cells_about.ensures, c.meeting_area-area.ensures.area, c.extent.ensures) (kept_about c.args.self.now c.args.label.now a c.args.band c.args.band c.in-Some.finer c.in-Some.ensures.from (omega arith) (inl c.in-Some.ensures.upto) (omega arith) within over)
 
 pub returns-in-None-clause-whole : goal.returns-in-None-clause-whole
 returns-in-None-clause-whole c a within over = rw (c.hull.ensures.hull) (kept_in_hull c.args.label.now a c.args.band over)
