@@ -334,7 +334,7 @@ impl<'a> Roster<'a> {
     /// search does until there, else the next one.
     ///
     /// # Errors
-    /// Want of memory.
+    /// Out of memory.
     pub fn across(
         &self,
         alloc: Global,

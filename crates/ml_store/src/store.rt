@@ -472,7 +472,7 @@ impl Store {
     /// which is at most 27, where one search does until there, else the next one.
     ///
     /// # Errors
-    /// Want of memory.
+    /// Out of memory.
     pub fn across(
         &self,
         alloc: Global,
