@@ -1,3 +1,4 @@
+mod Layouts
 mod MapViews
 mod NoFloats
 mod Sizes

@@ -1,5 +1,6 @@
 pub mod Edit
 pub mod Fault
+pub mod Layout
 pub mod MapView
 pub mod Px
 pub mod Reason

@@ -20,6 +20,7 @@ mod escape;
 pub mod fault;
 pub mod map_view;
 mod place;
+mod push;
 pub mod px;
 pub mod reason;
 mod shown;

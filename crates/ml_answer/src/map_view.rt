@@ -65,7 +65,7 @@ fn add_json(json: &mut JsonView, editor: &Editor, number: u32) -> Result<(), All
     ensures { OnOk result ((row : Row) × Contains editor.now.engine.rows row × (row.number ≡ number)
         × (json.new ≡ with_label json.old row.label row.slot.until)) }
 {
-    json.add(editor.label_at(number), editor.slot_at(number).until)
+    json.put(editor.label_at(number), editor.slot_at(number).until)
 }
 
 /// The text of a view of the map as SVG.

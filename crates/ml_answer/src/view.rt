@@ -1,13 +1,11 @@
 //! The JSON text of a view.
 ghost use Rattle.std.specs.Prelude.{◌≡◌, ◌++◌, List, IfOk, OnOk, OnErr};
-ghost use Rattle.serde_json.specs.Data.{string};
-ghost use Rattle.serde_json.specs.Written.{comma_if, compact_text};
-ghost use Rattle.ml_ratio.specs.Ratio.{ratio_text};
+ghost use Rattle.serde_json.specs.Written.{comma_if};
 ghost use Rattle.ml_ratio.specs.declared.ratio.Ratio.{Ratio};
-ghost use Rattle.ml_answer.specs.View.{Shown, view_text, no_label, with_label, with_labels, view_end};
+ghost use Rattle.ml_answer.specs.View.{Shown, shown_text, view_text, no_label, with_label, with_labels, view_end};
 
-use crate::compact::written;
-use crate::shown::label_text;
+use crate::push::push_ratio;
+use crate::shown::push_label;
 use ml_cone::Label;
 use ml_ratio::{Ratio, Seq};
 use std::alloc::{AllocError, Global};
@@ -15,6 +13,9 @@ use std::marker::Model;
 
 // The bytes for which room is taken at first, enough for some eight labels.
 const ROOM: usize = 1000;
+
+// The bytes that most labels take.
+const LABEL_ROOM: usize = 200;
 
 /// The text of a view, fed with the labels that it shows.
 ///
@@ -61,9 +62,18 @@ impl JsonView {
         ensures ok { OnOk result (self.new ≡ with_label self.old label.now until) }
         ensures err { OnErr result (self.new ≡ self.old) }
     {
-        let alloc = *self.text.allocator();
-        let text = label_text(alloc, label, until)?;
-        push_listed(&mut self.text, self.later, &text)?;
+        let mut text = Vec::with_capacity(*self.text.allocator(), LABEL_ROOM)?;
+        push_listed(&mut text, self.later, label, until)?;
+        self.text.extend_from_slice(&text)?;
+        self.later = true;
+        Ok(())
+    }
+
+    // The same without a text of the label's own. Where it fails, some of the label may stand there.
+    pub(crate) fn put(&mut self, label: &Label, until: Ratio) -> Result<(), AllocError>
+        ensures { OnOk result (self.new ≡ with_label self.old label.now until) }
+    {
+        push_listed(&mut self.text, self.later, label, until)?;
         self.later = true;
         Ok(())
     }
@@ -84,32 +94,21 @@ impl JsonView {
     }
 }
 
-// Adds the text of a label, behind a comma where others stand before it; or, where it fails, nothing.
-fn push_listed(all: &mut Vec<u8>, later: bool, text: &[u8]) -> Result<(), AllocError>
-    ensures ok { OnOk result (all.new.items ≡ all.old.items ++ (comma_if later ++ text.now)) }
-    ensures err { OnErr result (all.new.items ≡ all.old.items) }
+// Adds a label, behind a comma where others stand before it.
+fn push_listed(all: &mut Vec<u8>, later: bool, label: &Label, until: Ratio) -> Result<(), AllocError>
+    ensures { OnOk result (all.new.items ≡ all.old.items ++ (comma_if later ++ shown_text label.now until)) }
 {
     if later {
-        all.reserve(text.len() + 1)?;
         all.push(b',')?;
     }
-    all.extend_from_slice(text)
+    push_label(all, label, until)
 }
 
 // Adds what stands behind the labels: the end of their list, and the scale.
 fn push_end(text: &mut Vec<u8>, scale: Ratio) -> Result<(), AllocError>
     ensures { OnOk result (text.new.items ≡ text.old.items ++ view_end scale) }
 {
-    let scale = scale_text(*text.allocator(), scale)?;
     text.extend_from_slice(b"],\"scale\":")?;
-    text.extend_from_slice(&scale)?;
+    push_ratio(text, scale)?;
     text.extend_from_slice(b"}")
-}
-
-// The text of a scale.
-fn scale_text(alloc: Global, scale: Ratio) -> Result<Vec<u8>, AllocError>
-    ensures { IfOk result (λ text. text.items ≡ compact_text (string (ratio_text scale))) }
-{
-    let text = scale.text(alloc)?;
-    written(alloc, &text.as_str())
 }

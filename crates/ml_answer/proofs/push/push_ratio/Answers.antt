@@ -1,0 +1,10 @@
+use Rattle.std.proofs.Common.{◌++◌, ◌∷◌, [], sym, ap, ◌∙◌}
+use Rattle.std.proofs.lemmas.Result.{on_ok_weaker}
+use Rattle.ml_answer.proofs.Layouts.{escape_ratio}
+use Rattle.ml_answer.proofs.push.push_ratio.Goals as goal
+
+pub returns : goal.returns
+returns c =
+    on_ok_weaker c.push_quoted_ratio.result
+    (λ is. is ∙ ap (λ s. c.args.text.now.items ++ 34 ∷ (s ++ 34 ∷ [])) (sym (escape_ratio c.args.ratio)))
+    c.push_quoted_ratio.ensures
