@@ -1,11 +1,9 @@
 -- The data of the replies has no floats.
-use Rattle.std.proofs.Common.{◌≡◌, ℕ, ℤ, List, [], ◌∷◌, Option, None, Some, false, map, refl, pos, negsuc}
-use Rattle.serde_json.specs.Data.{Data, number}
-use Rattle.serde_json.specs.Find.{of_integer}
+use Rattle.std.proofs.Common.{◌≡◌, ℕ, List, [], ◌∷◌, Option, None, Some, false, map, refl}
+use Rattle.serde_json.specs.Data.{Data}
 use Rattle.serde_json.specs.View.{items_of}
 use Rattle.serde_json.specs.Written.{has_float, items_have_float}
 use Rattle.ml_ratio.specs.declared.ratio.Ratio.{Ratio}
-use Rattle.ml_cone.specs.declared.label.BoxPx.{BoxPx}
 use Rattle.ml_cone.specs.declared.label.Label.{Label}
 use Rattle.ml_cone.specs.declared.slot.Span.{Span}
 use Rattle.ml_geojson.specs.declared.fault.GeoFault.{GeoFault}
@@ -18,29 +16,10 @@ use Rattle.ml_editor.specs.declared.fault.EditFault.TheVariants as edit
 use Rattle.ml_answer.specs.Edit.{span_data, change_data, edit_data}
 use Rattle.ml_answer.specs.Fault.{geo_data, style_data, fault_data}
 use Rattle.ml_answer.specs.Slot.{slot_data}
-use Rattle.ml_answer.specs.Values.{numbers, box_data, boxes_data}
-use Rattle.ml_answer.specs.View.{shown_parts}
-
-integer_no_float : (z : ℤ) → has_float (number (of_integer z)) ≡ false
-integer_no_float (pos n) = refl
-integer_no_float (negsuc n) = refl
 
 items_no_float : {A : Type 0} (f : A → Data) → ((a : A) → has_float (f a) ≡ false) → (items : List A) → items_have_float (items_of (map f items)) ≡ false
 items_no_float f each [] = refl
 items_no_float f each (a ∷ items) = rw (each a) (items_no_float f each items)
-
-numbers_no_float : (values : List ℤ) → has_float (numbers values) ≡ false
-numbers_no_float values = items_no_float (λ z. number (of_integer z)) integer_no_float values
-
-box_no_float : (p : BoxPx) → has_float (box_data p) ≡ false
-box_no_float p = numbers_no_float (p.l ∷ p.b ∷ p.r ∷ p.t ∷ [])
-
-boxes_no_float : (boxes : List BoxPx) → has_float (boxes_data boxes) ≡ false
-boxes_no_float boxes = items_no_float box_data box_no_float boxes
-
-pub parts_no_float : (label : Label) (text until : List ℕ) → has_float (shown_parts label text until) ≡ false
-parts_no_float label text until =
-    rw (numbers_no_float (label.x ∷ label.y ∷ []), boxes_no_float label.boxes) refl
 
 pub slot_no_float : (label : Label) (until : Ratio) (blocker : Option (List ℕ)) → has_float (slot_data label until blocker) ≡ false
 slot_no_float label until None = refl

@@ -9,18 +9,14 @@ use Rattle.ml_ratio.specs.declared.ratio.Ratio.{Ratio}
 use Rattle.ml_cone.specs.declared.label.Label.{Label}
 use Rattle.ml_answer.specs.Values.{numbers, boxes_data}
 
--- a label with two texts: its anchor, its boxes, its id, and these texts
-abbrev pub shown_parts : Label → List ℕ → List ℕ → Data
-shown_parts label text until =
+-- a label: its anchor, its boxes, its id, the text of its pieces, and the scale from which on it is not shown
+abbrev pub shown_data : Label → Ratio → Data
+shown_data label until =
     object (member (codes "at") (numbers (label.x ∷ label.y ∷ []))
     (member (codes "boxes") (boxes_data label.boxes)
     (member (codes "id") (string label.order.id)
-    (member (codes "text") (string text)
-    (member (codes "until") (string until) no_members)))))
-
--- a label: its anchor, its boxes, its id, the text of its pieces, and the scale from which on it is not shown
-abbrev pub shown_data : Label → Ratio → Data
-shown_data label until = shown_parts label (concat label.pieces) (ratio_text until)
+    (member (codes "text") (string (concat label.pieces))
+    (member (codes "until") (string (ratio_text until)) no_members)))))
 
 -- the text of a label, with no space
 abbrev pub shown_text : Label → Ratio → List ℕ
