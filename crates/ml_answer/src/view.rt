@@ -95,7 +95,12 @@ impl JsonView {
 }
 
 // Adds a label, behind a comma where others stand before it.
-fn push_listed(all: &mut Vec<u8>, later: bool, label: &Label, until: Ratio) -> Result<(), AllocError>
+fn push_listed(
+    all: &mut Vec<u8>,
+    later: bool,
+    label: &Label,
+    until: Ratio,
+) -> Result<(), AllocError>
     ensures { OnOk result (all.new.items ≡ all.old.items ++ (comma_if later ++ shown_text label.now until)) }
 {
     if later {

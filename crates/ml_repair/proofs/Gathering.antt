@@ -329,8 +329,8 @@ module _ (rows : List Row) (moved : List Moved) (low : Label) (at : ℕ) (comes 
   bands_more found band bound next places more so_far are here =
       bands_over found band (band + 1) bound next places more so_far are
       (λ p k from upto s f r.
-          let e : k ≡ band = omega arith in
-          here p s (subst (λ (b : ℕ). OverlapsAt rows low b p) e f) (subst (λ (b : ℕ). ReachesBand b (ends (present_slots rows moved) p)) e r))
+      let e : k ≡ band = omega arith in
+      here p s (subst (λ (b : ℕ). OverlapsAt rows low b p) e f) (subst (λ (b : ℕ). ReachesBand b (ends (present_slots rows moved) p)) e r))
 
   -- the labels with new slots
   pub gathered_new : (more : List ℕ) (next : Ratio) → AreSifted rows moved low at comes i (λ p. (p < length rows) × Contains (numbers_of moved) (number_at rows p)) low.max next [] more → GatheredBelow rows moved low at comes i first first next more

@@ -27,9 +27,12 @@ sift-requires c = rw c.as_slice.ensures (met_within c.args.sought.now.roster.now
 
 pub loop-band-preserved : goal.loop-band-preserved
 loop-band-preserved c =
-    let i = c.loop-band.invariant in
-    (i.0, i.1, gathered_all c.args.sought.now.roster.now c.args.sought.now.moves.now c.args.sought.now.low.now c.args.sought.now.edited.at c.args.sought.now.edited.comes c.args.sought.now.place i.0 c.loop-band.band c.in_ok-band.band c.loop-band.bound c.in_ok-bound.bound c.loop-band.places c.sift.new.out c.across.new.out i.2
-      (rw c.new-found.ensures at c.in_ok-band.ensures.met) (rw c.as_slice.ensures at c.in_ok-bound.ensures))
+    let i = c.loop-band.invariant in (
+      i.0,
+      i.1,
+      gathered_all c.args.sought.now.roster.now c.args.sought.now.moves.now c.args.sought.now.low.now c.args.sought.now.edited.at c.args.sought.now.edited.comes c.args.sought.now.place i.0 c.loop-band.band c.in_ok-band.band c.loop-band.bound c.in_ok-bound.bound c.loop-band.places c.sift.new.out c.across.new.out i.2
+          (rw c.new-found.ensures at c.in_ok-band.ensures.met) (rw c.as_slice.ensures at c.in_ok-bound.ensures),
+    )
 
 pub returns-clause-enough : goal.returns-clause-enough
 returns-clause-enough c =
