@@ -46,7 +46,8 @@ fn search_told(
 
 /// A label, another one that it is searched for about, and a scale up to which it has to last. In band 3 a
 /// pixel is 16 units at most: labels of 20 by 10 pixels overlap there up to 320 units from one another, and
-/// are searched for in cells of 1,024 units. Of labels that are wider, four bands are not told at once.
+/// are searched for in cells of 1,024 units. Wider ones want cells of a later band, which tell of four bands at
+/// once only if no range ends before that band.
 struct Searches;
 
 impl Table for Searches {
@@ -57,7 +58,8 @@ A 0 0 0 1000 -10,-5,10,5 | B 319 0 0 1000 -10,-5,10,5 | 1001 => found false clea
 A 0 0 0 1000 -10,-5,10,5 | B 5000 0 0 1000 -10,-5,10,5 | 0 => found false clear true
 A 0 0 0 1000 -10,-5,10,5 | B 0 -5000 0 1000 -10,-5,10,5 | 0 => found false clear true
 A 0 0 0 1000 -100,-5,100,5 | B 0 0 0 1000 -10,-5,10,5 | 0 => found true clear false
-A 0 0 0 1000 -100,-5,100,5 | B 500000 0 0 1000 -10,-5,10,5 | 0 => found false clear false";
+A 0 0 0 1000 -100,-5,100,5 | B 500000 0 0 1000 -10,-5,10,5 | 0 => found false clear true
+A 0 0 0 1 -100,-5,100,5 | B 500000 0 0 1000 -10,-5,10,5 | 0 => found false clear false";
 
     fn told(rt: &impl Abort, alloc: Global, input: &str) -> String {
         let (one, rest) = first(rt, input);
