@@ -1,9 +1,10 @@
 //! The grid.
-ghost use Rattle.std.specs.Prelude.{ℕ, ◌≡◌, ◌+◌, ◌<◌, ◌≤◌, ◌^◌, ◌↔◌, [], max, length, Contains, IsTrue, OnOk, OnErr, IfOk};
+ghost use Rattle.std.specs.Prelude.{ℕ, ◌≡◌, ◌+◌, ◌<◌, ◌≤◌, ◌^◌, ◌↔◌, [], max, length, map, Contains, IsTrue, OnOk, OnErr, IfOk};
 ghost use Rattle.std.specs.List.Sorted.{IsPermutation};
 ghost use Rattle.std.specs.Ordering.{nat_cmp};
 ghost use Rattle.ml_ratio.specs.RatioOrder.{ratio_cmp};
 ghost use Rattle.ml_spans.specs.Order.{entry_order, IsRising};
+ghost use Rattle.ml_spans.specs.Spans.{renewed, HaveOwnPlaces};
 ghost use Rattle.ml_grid.specs.Cell.{cell_cmp};
 ghost use Rattle.ml_grid.specs.Count.{AreUpToNine, entry_count};
 ghost use Rattle.ml_grid.specs.Entry.{IsEntryOf, Adds, LosesEntries, Replaces, IsFree, AreEntriesOf, AreApart};
@@ -18,10 +19,13 @@ use crate::marks::{Ends, Marks, mark_all};
 use crate::window::window_cells;
 use ml_cone::{Cells, Label, Span, View, hull};
 use ml_ratio::{Ratio, Seq, Steps, ascending};
-use ml_spans::SpanTree;
+use ml_spans::{NextEnd, SpanTree};
 use std::alloc::{AllocError, Global};
 use std::marker::Model;
 use std::sync::ledger::Ledger;
+
+// How many numbers a search has room for from the start: it mostly finds some tens.
+const ROOM: usize = 32;
 
 /// Entries of labels in cells.
 ///
@@ -160,6 +164,17 @@ impl Grid {
         move_all(&mut self.tree, number, label, from, to);
     }
 
+    /// Gives each entry the end that `ends` tells for its label's number, each in its place: for many labels that
+    /// costs less than to move one after another. No two entries may be of one cell and one number. It takes no
+    /// memory and cannot fail.
+    pub fn renew_ends<F: NextEnd<Ratio, u32>>(&mut self, ends: &F)
+        requires { HaveOwnPlaces self.old.entries }
+        ensures entries { self.new.entries ≡ map (renewed (F.next ends.now)) self.old.entries }
+        ensures spare { self.new.spare ≡ self.old.spare }
+    {
+        self.tree.renew_ends(ends);
+    }
+
     /// Appends the numbers that have an entry in the band in a cell of the label's hull there, ascending
     /// and each once. The band is at most 27. The label itself need not be in the grid.
     ///
@@ -201,7 +216,7 @@ impl Grid {
         requires few { AreUpToNine cells.now.x0 cells.now.x1 }
         ensures { IfOk result (λ numbers. (n : ℕ) → Contains numbers n ↔ IsNumberOf (IsAmongFrom cells.now scale.now) self.now.entries n) }
     {
-        let mut found = Seq::new(alloc);
+        let mut found = Seq::of_vec(Vec::with_capacity(alloc, ROOM)?);
         find_cells_from(&self.tree, cells, scale, &mut found)?;
         Ok(found)
     }

@@ -9,6 +9,7 @@ mod Digits
 mod Members
 mod Placed
 mod Raised
+mod Renewed
 mod Replaced
 mod Results
 pub mod lemmas

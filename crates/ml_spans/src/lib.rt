@@ -9,7 +9,7 @@
 //! Within: [`shape`] has the nodes of the tree, [`ends`] their greatest ends, [`node`] one node over
 //! two sides, [`balance`] the turns that keep sides almost as high as one another; [`bulk`] makes a
 //! tree of many entries, which [`sorting`] puts in order; [`insertion`] and [`removal`] change it by
-//! one entry, [`moving`] gives an entry another end, [`query`] and [`search`] look through it.
+//! one entry, [`moving`] gives an entry another end, and [`renewal`] all of them, [`query`] and [`search`] look through it.
 #![tactic(auto)]
 
 mod balance;
@@ -24,6 +24,7 @@ mod node;
 mod query;
 pub mod reading;
 mod removal;
+pub mod renewal;
 mod search;
 mod shape;
 pub mod sorting;
@@ -32,4 +33,5 @@ pub mod span_tree;
 pub use entry::Entry;
 pub use key::Key;
 pub use reading::Reads;
+pub use renewal::NextEnd;
 pub use span_tree::SpanTree;

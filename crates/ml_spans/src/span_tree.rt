@@ -2,7 +2,7 @@
 ghost use Rattle.std.specs.Prelude.{◌≡◌, ◌≢◌, ℕ, ◌+◌, ◌*◌, ◌^◌, ◌<◌, ◌≤◌, ◌++◌, ◌↔◌, ◌⊎◌, [], length, map, vec_len, vec_capacity, IfOk, OnOk, OnErr, MatchBool, IsTrue, Contains, if◌then◌else◌, max};
 ghost use Rattle.ml_spans.specs.Order.{entry_order, IsRising};
 ghost use Rattle.ml_spans.specs.Search.{is_in_range, is_stabbed, values_where, IsPart, IsValueOf, HasPassing};
-ghost use Rattle.ml_spans.specs.Spans.{entry_of};
+ghost use Rattle.ml_spans.specs.Spans.{entry_of, renewed, HaveOwnPlaces};
 ghost use Rattle.ml_spans.specs.declared.entry.Entry.{Entry as AnEntry};
 
 use crate::bulk::tree_of;
@@ -14,6 +14,7 @@ use crate::node::height_of;
 use crate::query::Query;
 use crate::reading::{AsTheyAre, Reads};
 use crate::removal::take;
+use crate::renewal::{NextEnd, renew_all};
 use crate::search::{collect, has_wanted};
 use crate::shape::{Node, Tree};
 use ml_ratio::Seq;
@@ -207,6 +208,18 @@ impl<K: Key, E: Key, V: Key> SpanTree<K, E, V> {
             value: *value,
         };
         set_in(&mut self.root, &entry, to)
+    }
+
+    /// Gives each entry the end that `ends` tells for it, in its place. No two entries may have one key
+    /// and one value. It takes no memory and cannot fail.
+    pub fn renew_ends<F: NextEnd<E, V>>(&mut self, ends: &F)
+        requires { HaveOwnPlaces self.old.entries }
+        ensures entries { self.new.entries ≡ map (renewed (F.next ends.now)) self.old.entries }
+        ensures rising { IsRising (entry_order K.order E.order V.order) self.new.entries }
+        ensures spare { self.new.spare ≡ self.old.spare }
+        ensures height { self.new.height ≡ self.old.height }
+    {
+        renew_all(&mut self.root, ends);
     }
 
     /// Appends the values of the entries with a key in the closed range and an end of at least `at`, in
