@@ -12,3 +12,5 @@ mod Gathered
 mod Index
 mod Finding
 mod Within
+pub mod lemmas
+mod Renewing

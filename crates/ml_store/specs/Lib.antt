@@ -7,3 +7,4 @@ pub mod Boxes
 pub mod Table
 pub mod Store
 pub mod Search
+pub mod Moved

@@ -1,9 +1,10 @@
 //! Which label blocks which.
-ghost use Rattle.std.specs.Prelude.{◌≡◌, ◌≢◌, ◌+◌, ◌≤◌, ◌⊎◌, ◌↔◌, Contains, MatchBool};
+ghost use Rattle.std.specs.Prelude.{◌≡◌, ◌+◌, ◌≤◌, ◌⊎◌, ◌↔◌, Contains};
 ghost use Rattle.ml_spans.specs.Spans.{entry_of};
 ghost use Rattle.ml_store.specs.Pairs.{pair_count};
 ghost use Rattle.ml_store.specs.Store.{Pair, IsPairBy};
 
+use crate::same::same_blockers;
 use ml_spans::SpanTree;
 
 /// The index of blockers: for each label that another one blocks, the blocker's number as key, and its
@@ -54,17 +55,6 @@ pub fn put_pair(pairs: &mut Pairs, number: u32, blocker: Option<u32>)
     }
 }
 
-// Whether the blockers are the same, or there is none either time.
-fn are_same(from: Option<u32>, to: Option<u32>) -> bool
-    ensures { MatchBool result (from ≡ to) (from ≢ to) }
-{
-    match (from, to) {
-        (Some(b), Some(c)) => b == c,
-        (None, None) => true,
-        _ => false,
-    }
-}
-
 /// The pair of a label and its blocker goes, and that with its new blocker comes, if that is another one.
 pub fn change_pair(pairs: &mut Pairs, number: u32, from: Option<u32>, to: Option<u32>)
     requires its { (p : Pair) → (Contains pairs.old.entries p × (p.value ≡ number)) ↔ IsPairBy number from p }
@@ -72,7 +62,7 @@ pub fn change_pair(pairs: &mut Pairs, number: u32, from: Option<u32>, to: Option
     ensures pairs { (p : Pair) → Contains pairs.new.entries p ↔ ((Contains pairs.old.entries p × (¬ (p.value ≡ number))) ⊎ IsPairBy number to p) }
     ensures spare { pairs.new.spare + pair_count to ≡ pairs.old.spare + pair_count from }
 {
-    if !are_same(from, to) {
+    if !same_blockers(from, to) {
         take_pair(pairs, number, from);
         put_pair(pairs, number, to);
     }

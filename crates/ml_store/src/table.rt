@@ -13,7 +13,8 @@ use crate::numbers::Numbers;
 use crate::row::Row;
 use crate::sorted::by_name;
 use ml_cone::Slot;
-use ml_ratio::Text;
+use ml_ratio::{Ratio, Text};
+use ml_spans::NextEnd;
 use std::alloc::{AllocError, Global};
 use std::marker::Model;
 
@@ -238,5 +239,19 @@ impl Table {
             self.room = n;
         }
         Ok(())
+    }
+}
+
+impl NextEnd<Ratio, u32> for Table {
+    ghost use Rattle.ml_store.specs.Moved.{end_in};
+
+    ghost next = { λ table. end_in table.rows };
+
+    fn next_end(&self, number: &u32, end: Ratio) -> Ratio {
+        let _many = self.len();
+        match self.place_of(*number) {
+            Some(at) => self.row(at).slot.until,
+            None => end,
+        }
     }
 }

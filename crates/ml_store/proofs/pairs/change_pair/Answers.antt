@@ -8,13 +8,13 @@ put_pair-requires-clause-new c p its there =
     moved_free (λ (q : Pair). q.value) c.args.number (IsPairBy c.args.number c.args.from) (IsPairBy c.args.number c.args.to) c.args.pairs.now.entries c.requires.its
     c.take_pair.new.pairs.entries c.take_pair.ensures.pairs p there (pair_by_number c.args.number c.args.to p its)
 
-pub returns-then-not-are_same-clause-pairs : goal.returns-then-not-are_same-clause-pairs
-returns-then-not-are_same-clause-pairs c =
+pub returns-then-not-same_blockers-clause-pairs : goal.returns-then-not-same_blockers-clause-pairs
+returns-then-not-same_blockers-clause-pairs c =
     moved_both (λ (q : Pair). q.value) c.args.number (IsPairBy c.args.number c.args.from) (IsPairBy c.args.number c.args.to) c.args.pairs.now.entries c.requires.its
     c.take_pair.new.pairs.entries c.put_pair.new.pairs.entries c.take_pair.ensures.pairs c.put_pair.ensures.pairs
 
-pub returns-else-not-are_same-clause-pairs : goal.returns-else-not-are_same-clause-pairs
-returns-else-not-are_same-clause-pairs c =
-    let same : c.args.from ≡ c.args.to = rw c.if-not-are_same.false at c.are_same.ensures in
+pub returns-else-not-same_blockers-clause-pairs : goal.returns-else-not-same_blockers-clause-pairs
+returns-else-not-same_blockers-clause-pairs c =
+    let same : c.args.from ≡ c.args.to = rw c.if-not-same_blockers.false at c.same_blockers.ensures in
     moved_none (λ (q : Pair). q.value) c.args.number (IsPairBy c.args.number c.args.from) (IsPairBy c.args.number c.args.to) c.args.pairs.now.entries c.requires.its
     (λ p. (λ h. subst (λ (b : Option ℕ). IsPairBy c.args.number b p) (sym same) h, λ h. subst (λ (b : Option ℕ). IsPairBy c.args.number b p) same h))

@@ -1,0 +1,2 @@
+-- What proofs of other crates may cite: new slots, one after another.
+pub mod Moved
