@@ -19,48 +19,11 @@ use Rattle.ml_repair.specs.Plan.{Planned, HasRoom, room_of, moved_row, moved_row
 use Rattle.ml_repair.specs.declared.edit.LabelEdit.{LabelEdit}
 use Rattle.ml_repair.specs.declared.edit.LabelEdit.TheVariants.{Add, Remove, Replace}
 use Rattle.ml_repair.specs.Settled.{IsSettled}
-use Rattle.ml_repair.specs.declared.edit.Moved.{Moved}
-use Rattle.ml_repair.proofs.Edited.{remove_insert, moved_none}
-use Rattle.ml_repair.proofs.Moving.{slot_here, slot_elsewhere}
+use Rattle.ml_store.specs.declared.moved.Moved.{Moved}
+use Rattle.ml_repair.proofs.Edited.{remove_insert}
 use Rattle.ml_repair.proofs.Placing.{list_remove}
 use Rattle.ml_repair.proofs.Present.{length-labels}
 use Rattle.ml_ratio.proofs.lemmas.Lists.{map_insert, same_place}
-
--- ---- one move after another
-
-pub moved_cons : (m : Moved) (moved : List Moved) (rows : List Row) → moved_rows (m ∷ moved) rows ≡ moved_rows moved (moved_rows (m ∷ []) rows)
-moved_cons m moved [] = refl
-moved_cons m moved (r ∷ rows) = ap (λ rs. moved_row (m ∷ moved) r ∷ rs) (moved_cons m moved rows)
-
-pub none_moved : (m : Moved) (rows : List Row) → ((k : ℕ) (d : Row) → k < length rows → (get_or rows k d).number ≢ m.number) → moved_rows (m ∷ []) rows ≡ rows
-none_moved m [] others = refl
-none_moved m (r ∷ rows) others =
-    ap (λ (s : Slot). (record r { slot = s }) ∷ moved_rows (m ∷ []) rows) (slot_elsewhere m.number r.number m.slot r.slot (λ e. others 0 r (omega arith) (sym e)))
-    ∙ ap (λ rs. r ∷ rs) (none_moved m rows (λ k d lt. others (suc k) d (omega arith)))
-
-pub one_moved : (m : Moved) (rows : List Row) (at : ℕ) → at < length rows → ((d : Row) → (get_or rows at d).number ≡ m.number) → ((k : ℕ) (d : Row) → k < length rows → k ≢ at → (get_or rows k d).number ≢ m.number) →
-    moved_rows (m ∷ []) rows ≡ with_slot rows at m.slot
-one_moved m [] at lt here others = absurd (omega arith)
-one_moved m (r ∷ rows) zero lt here others =
-    ap (λ (s : Slot). (record r { slot = s }) ∷ moved_rows (m ∷ []) rows) (slot_here m.number r.number m.slot r.slot (sym (here r)))
-    ∙ ap (λ rs. (record r { slot = m.slot }) ∷ rs) (none_moved m rows (λ k d lt. others (suc k) d (omega arith) (λ e. omega arith)))
-one_moved m (r ∷ rows) (suc at) lt here others =
-    ap (λ (s : Slot). (record r { slot = s }) ∷ moved_rows (m ∷ []) rows) (slot_elsewhere m.number r.number m.slot r.slot (λ e. others 0 r (omega arith) (λ f. omega arith) (sym e)))
-    ∙ ap (λ rs. r ∷ rs) (one_moved m rows at (omega arith) here (λ k d lt ne. others (suc k) d (omega arith) (λ e. omega arith)))
-
-number_is : (rows : List Row) (k : ℕ) (d : Row) → k < length rows → number_at rows k ≡ (get_or rows k d).number
-number_is rows k d lt = get_or-map (λ (t : Row). t.number) rows k d 0 lt
-
-pub moved_fresh : (m : Moved) (rows : List Row) → IsFresh m.number rows → moved_rows (m ∷ []) rows ≡ rows
-moved_fresh m rows fresh =
-    none_moved m rows (λ k d lt e. let many = length-map rows (λ (t : Row). t.number) in fresh (k, omega arith, get_or_default (numbers_in rows) k m.number 0 (omega arith) ∙ number_is rows k d lt ∙ e))
-
-pub moved_at_row : (m : Moved) (rows : List Row) (at : ℕ) → HaveOwnNumbers rows → IsRowAt rows m.number at → moved_rows (m ∷ []) rows ≡ with_slot rows at m.slot
-moved_at_row m rows at differ here =
-    let many = length-map rows (λ (t : Row). t.number) in
-    let lt : at < length rows = here.0 in
-    one_moved m rows at here.0 (λ d. sym (number_is rows at d here.0) ∙ here.1)
-    (λ k d k_in ne e. ne (same_place (numbers_in rows) k at 0 differ (omega arith) (omega arith) (number_is rows k d k_in ∙ e ∙ sym here.1)))
 
 -- ---- the label that comes
 
@@ -118,12 +81,6 @@ module _ (row : Row) (rows : List Row) (settled : IsSettled (with_row row rows))
         low = (let all : All (λ r. r.number < 32768) (insert rows s.0 row) = rw s.2 at settled.low_numbers in let h = all s.0 row (omega arith) in let e : (get_or (insert rows s.0 row) s.0 row).number ≡ row.number = ap (λ (t : Row). t.number) (get_or-insert_at rows s.0 row row s.1) in omega arith);
         new_id = id_once (labels_in rows) s.0 row.label (omega arith) (rw (s.2, map_insert (λ (t : Row). t.label) rows s.0 row) at settled.in_order);
       }
-
-pub rows_none : (moved : List Moved) (k : ℕ) (rows : List Row) → length moved ≤ k → moved_rows (drop k moved) rows ≡ rows
-rows_none [] zero rows le = moved_none rows
-rows_none [] (suc k) rows le = moved_none rows
-rows_none (m ∷ moved) zero rows le = absurd (omega arith)
-rows_none (m ∷ moved) (suc k) rows le = rows_none moved k rows (omega arith)
 
 -- ---- room
 

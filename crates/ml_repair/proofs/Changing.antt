@@ -17,7 +17,7 @@ use Rattle.ml_store.specs.declared.row.Row.{Row}
 use Rattle.ml_repair.specs.Changes.{Ranged, IsStanding, IsAbsent, IsStateOf, IsChange, AreChanges}
 use Rattle.ml_repair.specs.Plan.{moved_row, slot_for}
 use Rattle.ml_repair.specs.Stays.{IsStayChange, stay_change}
-use Rattle.ml_repair.specs.declared.edit.Moved.{Moved}
+use Rattle.ml_store.specs.declared.moved.Moved.{Moved}
 use Rattle.ml_repair.proofs.NearRosters.{row_there, label_read}
 use Rattle.ml_repair.proofs.OneRow.{one_id}
 use Rattle.ml_repair.proofs.Present.{length-labels}

@@ -14,7 +14,7 @@ use Rattle.ml_repair.specs.Plan.{moved_row, moved_rows, slot_for}
 use Rattle.ml_repair.specs.Repair.{AreOwn, Stands, present_slots}
 use Rattle.ml_repair.specs.Size.{IsSize}
 use Rattle.ml_repair.specs.Touched.{IsTouched, AreTouched, left_out}
-use Rattle.ml_repair.specs.declared.edit.Moved.{Moved}
+use Rattle.ml_store.specs.declared.moved.Moved.{Moved}
 use Rattle.ml_repair.proofs.Carrying.{CarriedLaw}
 use Rattle.ml_repair.proofs.Joined.{IsPlaceOf, without_insert, without_remove, all_shorter, all_longer, own_all_there, all_own_there, longest_same, left_out_ends}
 use Rattle.ml_repair.proofs.Present.{length-labels, length-present}
@@ -29,11 +29,6 @@ remove_insert [] zero y le = refl
 remove_insert [] (suc i) y le = absurd (omega arith)
 remove_insert (x ∷ xs) zero y le = refl
 remove_insert (x ∷ xs) (suc i) y le = ap (λ ys. x ∷ ys) (remove_insert xs i y (omega arith))
-
--- no slot is new
-pub moved_none : (rows : List Row) → moved_rows [] rows ≡ rows
-moved_none [] = refl
-moved_none (r ∷ rows) = ap (λ rs. r ∷ rs) (moved_none rows)
 
 pub moved-insert : (moved : List Moved) (rows : List Row) (at : ℕ) (r : Row) → moved_rows moved (insert rows at r) ≡ insert (moved_rows moved rows) at (moved_row moved r)
 moved-insert moved rows at r = map_insert (moved_row moved) rows at r

@@ -20,7 +20,7 @@ use Rattle.ml_conflict.specs.Begin.{SetsNoneUpTo}
 use Rattle.ml_conflict.specs.Carried.{AreSameRival}
 use Rattle.ml_store.specs.Rows.{number_at, labels_in}
 use Rattle.ml_store.specs.declared.row.Row.{Row}
-use Rattle.ml_repair.specs.declared.edit.Moved.{Moved}
+use Rattle.ml_store.specs.declared.moved.Moved.{Moved}
 use Rattle.ml_repair.specs.Repair.{Stands, ReachesBand, Counts, present_slots, rival_in, AreEnough}
 use Rattle.ml_repair.proofs.Carrying.{CarriedLaw, JoinedLaw, carried_by, joined_by, stand_test, is_standing, is_below, is_same, both_tests}
 use Rattle.ml_repair.proofs.Present.{chosen_is, length-labels}

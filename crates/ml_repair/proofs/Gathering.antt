@@ -20,7 +20,7 @@ use Rattle.ml_cone.specs.Slots.{no_slot}
 use Rattle.ml_store.specs.Rows.{numbers_in, number_at, labels_in, slots_in, HaveOwnNumbers, AreDifferent, IsFresh}
 use Rattle.ml_store.specs.Table.{IsRowAt}
 use Rattle.ml_store.specs.declared.row.Row.{Row}
-use Rattle.ml_repair.specs.declared.edit.Moved.{Moved}
+use Rattle.ml_store.specs.declared.moved.Moved.{Moved}
 use Rattle.ml_repair.specs.Moves.{numbers_of}
 use Rattle.ml_repair.specs.Plan.{slot_for}
 use Rattle.ml_repair.specs.Roster.{OverlapsAt, AreMet, NoneBefore}

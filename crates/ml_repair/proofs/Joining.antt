@@ -8,7 +8,7 @@ use Rattle.ml_store.specs.Rows.{labels_in, HasId}
 use Rattle.ml_store.specs.declared.row.Row.{Row}
 use Rattle.ml_repair.specs.Stays.{IsStayChange, IsJoinedBy}
 use Rattle.ml_watch.specs.ById.{HaveOwnIds}
-use Rattle.ml_repair.specs.declared.edit.Moved.{Moved}
+use Rattle.ml_store.specs.declared.moved.Moved.{Moved}
 use Rattle.ml_ratio.proofs.lemmas.Lists.{contains_map}
 
 module _ (rows : List Row) (moved : List Moved) where

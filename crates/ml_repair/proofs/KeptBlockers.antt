@@ -18,7 +18,7 @@ use Rattle.ml_store.specs.Rows.{numbers_in, number_at, labels_in, HaveOwnNumbers
 use Rattle.ml_store.specs.declared.row.Row.{Row}
 use Rattle.ml_repair.specs.Kept.{AreChanged, IsOwnBefore, IsStaying, IsLeftBy}
 use Rattle.ml_repair.specs.Repair.{Stands, AreLeaving, present_slots, present_at, rival_in}
-use Rattle.ml_repair.specs.declared.edit.Moved.{Moved}
+use Rattle.ml_store.specs.declared.moved.Moved.{Moved}
 use Rattle.ml_repair.proofs.Enough.{SmallerLaw, contained_or_not}
 use Rattle.ml_repair.proofs.Present.{chosen_is, length-labels}
 

@@ -23,10 +23,12 @@ mod Sorting
 mod Changing
 mod Joining
 mod Shapes
+mod LastSlots
 mod Plans
 mod Carries
 mod Reading
 mod Seeing
+mod Ordered
 mod Building
 mod Deciding
 mod UnchangedRows

@@ -9,46 +9,36 @@ use Rattle.std.proofs.lemmas.List.Elements.{All-push}
 use Rattle.std.proofs.lemmas.List.Quantifiers.{all_pairs_push}
 use Rattle.ml_cone.specs.declared.slot.Slot.{Slot}
 use Rattle.ml_store.specs.Rows.{AreDifferent}
-use Rattle.ml_repair.specs.declared.edit.Moved.{Moved}
+use Rattle.ml_store.specs.declared.moved.Moved.{Moved}
 use Rattle.ml_repair.specs.Plan.{slot_for}
 use Rattle.ml_repair.specs.Moves.{numbers_of, IsFoundAt, IsColumn, AreMoves}
+use Rattle.ml_store.proofs.lemmas.Moved.{if_same, if_other}
 use Rattle.ml_repair.proofs.Pigeons.{at_most}
-
-yes : (n m : ℕ) → n ≡ m → (n == m) ≡ true
-yes n m e = grind (arith, nat_tests)
-
-no : (n m : ℕ) → n ≢ m → (n == m) ≡ false
-no n m e = grind (arith, nat_tests)
-
-pub slot_here : (n m : ℕ) (s t : Slot) → n ≡ m → (if n == m then s else t) ≡ s
-slot_here n m s t e = ap (λ (b : Bool). if b then s else t) (yes n m e)
-
-pub slot_elsewhere : (n m : ℕ) (s t : Slot) → n ≢ m → (if n == m then s else t) ≡ t
-slot_elsewhere n m s t e = ap (λ (b : Bool). if b then s else t) (no n m e)
 
 -- a number without a new slot has its own
 pub slot_kept : (n : ℕ) (own : Slot) (moved : List Moved) → ((k : ℕ) → k < length moved → get_or (numbers_of moved) k 0 ≢ n) → slot_for n own moved ≡ own
 slot_kept n own [] h = refl
-slot_kept n own (m ∷ moved) h = ap (λ s. slot_for n s moved) (slot_elsewhere m.number n m.slot own (h 0 (omega arith))) ∙ slot_kept n own moved (λ k lt. h (suc k) (omega arith))
+slot_kept n own (m ∷ moved) h = ap (λ s. slot_for n s moved) (if_other m.number n m.slot own (h 0 (omega arith))) ∙ slot_kept n own moved (λ k lt. h (suc k) (omega arith))
 
 -- a number with one new slot has that
 pub slot_new : (n : ℕ) (own : Slot) (moved : List Moved) (k : ℕ) (d : Moved) → AreDifferent (numbers_of moved) → k < length moved → get_or (numbers_of moved) k 0 ≡ n → slot_for n own moved ≡ (get_or moved k d).slot
 slot_new n own [] k d differ lt e = absurd (omega arith)
 slot_new n own (m ∷ moved) zero d differ lt e =
     let many = length-map moved (λ (x : Moved). x.number) in
-    ap (λ s. slot_for n s moved) (slot_here m.number n m.slot own e)
+    ap (λ s. slot_for n s moved) (if_same m.number n m.slot own e)
     ∙ slot_kept n m.slot moved (λ k h f. differ 0 (suc k) 0 (omega arith) (omega arith) (e ∙ sym f))
 slot_new n own (m ∷ moved) (suc k) d differ lt e =
     slot_new n (if m.number == n then m.slot else own) moved k d (λ i j z less h. differ (suc i) (suc j) z (omega arith) (omega arith)) (omega arith) e
 
-slot_push : (n : ℕ) (own : Slot) (moved : List Moved) (m : Moved) → slot_for n own (moved ++ m ∷ []) ≡ (if m.number == n then m.slot else slot_for n own moved)
+-- one more new slot is that of its number
+pub slot_push : (n : ℕ) (own : Slot) (moved : List Moved) (m : Moved) → slot_for n own (moved ++ m ∷ []) ≡ (if m.number == n then m.slot else slot_for n own moved)
 slot_push n own [] m = refl
 slot_push n own (x ∷ moved) m = slot_push n (if x.number == n then x.slot else own) moved m
 
 -- a new slot of another number does not count
 set_elsewhere : (x : ℕ) (own : Slot) (moved : List Moved) (at : ℕ) (new d : Moved) → at < length moved → new.number ≢ x → (get_or moved at d).number ≢ x → slot_for x own (set moved at new) ≡ slot_for x own moved
 set_elsewhere x own [] at new d lt a b = absurd (omega arith)
-set_elsewhere x own (m ∷ moved) zero new d lt a b = ap (λ s. slot_for x s moved) (slot_elsewhere new.number x new.slot own a ∙ sym (slot_elsewhere m.number x m.slot own b))
+set_elsewhere x own (m ∷ moved) zero new d lt a b = ap (λ s. slot_for x s moved) (if_other new.number x new.slot own a ∙ sym (if_other m.number x m.slot own b))
 set_elsewhere x own (m ∷ moved) (suc at) new d lt a b = set_elsewhere x (if m.number == x then m.slot else own) moved at new d (omega arith) a b
 
 -- ---- where a number's new slot is found
@@ -143,8 +133,8 @@ module _ (moved : List Moved) (n : ℕ) (slot : Slot) (none : (k : ℕ) → k < 
   pub slots_more : (x : ℕ) (own : Slot) → slot_for x own more ≡ (if x == n then slot else slot_for x own moved)
   slots_more x own =
       slot_push x own moved (record { number = n; slot = slot }) ∙ elim (cases_eq x n) [
-        | inl here ↦ slot_here n x slot (slot_for x own moved) (sym here) ∙ sym (slot_here x n slot (slot_for x own moved) here)
-        | inr other ↦ slot_elsewhere n x slot (slot_for x own moved) (λ f. other (sym f)) ∙ sym (slot_elsewhere x n slot (slot_for x own moved) other)
+        | inl here ↦ if_same n x slot (slot_for x own moved) (sym here) ∙ sym (if_same x n slot (slot_for x own moved) here)
+        | inr other ↦ if_other n x slot (slot_for x own moved) (λ f. other (sym f)) ∙ sym (if_other x n slot (slot_for x own moved) other)
       ]
 
 -- there are no more new slots than numbers
@@ -195,8 +185,8 @@ module _ (moved : List Moved) (n : ℕ) (at : ℕ) (old : Moved) (slot : Slot) (
       elim (cases_eq x n) [
         | inl here' ↦
             slot_new x own (set moved at new) at new (rw numbers_set differ) (omega arith) (rw numbers_set (here ∙ sym here'))
-            ∙ ap (λ (m : Moved). m.slot) (get_or-set_same moved at new new in') ∙ sym (slot_here x n slot (slot_for x own moved) here')
+            ∙ ap (λ (m : Moved). m.slot) (get_or-set_same moved at new new in') ∙ sym (if_same x n slot (slot_for x own moved) here')
         | inr other ↦
             set_elsewhere x own moved at new old in' (λ f. other (sym f ∙ number_old)) (λ f. other (sym f ∙ ap (λ (m : Moved). m.number) (sym read) ∙ number_old))
-            ∙ sym (slot_elsewhere x n slot (slot_for x own moved) other)
+            ∙ sym (if_other x n slot (slot_for x own moved) other)
       ]

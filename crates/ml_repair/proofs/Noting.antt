@@ -19,7 +19,7 @@ use Rattle.ml_repair.specs.Moves.{numbers_of}
 use Rattle.ml_repair.specs.Plan.{slot_for}
 use Rattle.ml_repair.specs.Stays.{IsStayChange, IsPushedFor, stay_change}
 use Rattle.ml_watch.specs.ById.{HaveOwnIds}
-use Rattle.ml_repair.specs.declared.edit.Moved.{Moved}
+use Rattle.ml_store.specs.declared.moved.Moved.{Moved}
 use Rattle.ml_repair.proofs.Moving.{slot_new, slot_kept}
 use Rattle.std.specs.Prelude.{◌↔◌}
 use Rattle.ml_repair.proofs.Enough.{contained_or_not}

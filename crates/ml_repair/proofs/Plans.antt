@@ -17,7 +17,7 @@ use Rattle.ml_repair.specs.Changes.{Ranged, IsStateOf, AreChanges}
 use Rattle.ml_repair.specs.Cost.{IsCost}
 use Rattle.ml_repair.specs.Edit.{IsEdited}
 use Rattle.ml_repair.specs.Placed.{IsPlaceFor}
-use Rattle.ml_repair.specs.Plan.{Planned, IsPlanFor, CanBeMade, KeepNumbers, edited_id, planned_rows, kept_rows, rows_with, with_row, without_id, moved_row, moved_rows, slot_for}
+use Rattle.ml_repair.specs.Plan.{Planned, IsPlanFor, AreNewIn, CanBeMade, KeepNumbers, edited_id, planned_rows, kept_rows, rows_with, with_row, without_id, moved_row, moved_rows, slot_for}
 use Rattle.ml_repair.specs.Repair.{AreSettled}
 use Rattle.ml_repair.specs.Roster.{AreNumbered}
 use Rattle.ml_repair.specs.Settled.{IsSettled}
@@ -25,10 +25,10 @@ use Rattle.ml_repair.specs.Stays.{IsStayChange, IsChangeBetween}
 use Rattle.ml_repair.specs.Touched.{AreTouched}
 use Rattle.ml_repair.specs.declared.edit.LabelEdit.{LabelEdit}
 use Rattle.ml_repair.specs.declared.edit.LabelEdit.TheVariants.{Add, Remove, Replace}
-use Rattle.ml_repair.specs.declared.edit.Moved.{Moved}
+use Rattle.ml_store.specs.declared.moved.Moved.{Moved}
 use Rattle.ml_repair.proofs.Changing.{ranged, standing, is_absent, are_changes, edited_change, change_same}
 use Rattle.ml_repair.proofs.Placing.{list_insert, list_remove}
-use Rattle.ml_repair.proofs.Edited.{moved_none}
+use Rattle.ml_store.proofs.lemmas.Moved.{moved_none}
 use Rattle.ml_repair.proofs.NearRosters.{numbered_left, numbered_with}
 use Rattle.ml_repair.proofs.Present.{labels-moved, length-labels, low_number}
 use Rattle.std.proofs.lemmas.List.{length-map}
@@ -37,15 +37,20 @@ use Rattle.ml_repair.proofs.OneRow.{one_id}
 use Rattle.ml_repair.proofs.Shapes.{AreLeft, AreJoinedBy, label_of, edit_is, edited_is, settled_after, left_remove, left_all, left_no_id, without_remove_is, joined_none, joined_some, come_is, place_of_id, no_id, low_of_rows}
 use Rattle.ml_ratio.proofs.lemmas.Lists.{contains_map, map_contains, map_insert, map_remove, removed_gone, map_read, insert_there}
 
+-- new slots of these rows that make the same of them as others, each of them a new one
+pub record IsLastOf (last moved : List Moved) (rows : List Row) : Type 0 where
+  pub same : moved_rows last rows ≡ moved_rows moved rows
+  pub new : AreNewIn rows last
+
 planned_is : (plan : Planned) (rows : List Row) → planned_rows plan rows ≡ rows_with plan.edit (moved_rows plan.moved (kept_rows plan.edit rows))
 unfolding planned_rows
 planned_is plan rows = refl
 
 module _ (rows left all : List Row) (moved : List Moved) (id : List ℕ) (come : Option Row) (are : AreLeft rows left id) (joined : AreJoinedBy left all id come) (edit : LabelEdit) (changes : List Change) (n : ℕ)
     (settled : IsSettled rows) (numbered_all : AreNumbered all) (up_all : IsLabelList (labels_in all)) (slots : AreSettled all moved)
-    (made : rows_with edit (moved_rows moved (kept_rows edit rows)) ≡ moved_rows moved all) where
-  pub planned : planned_rows (record { edit = edit; moved = moved; changes = changes; evaluated = n }) rows ≡ moved_rows moved all
-  planned = planned_is (record { edit = edit; moved = moved; changes = changes; evaluated = n }) rows ∙ made
+    (made : rows_with edit (moved_rows moved (kept_rows edit rows)) ≡ moved_rows moved all) (last : List Moved) (lasting : IsLastOf last moved (kept_rows edit rows)) where
+  pub planned : planned_rows (record { edit = edit; moved = last; changes = changes; evaluated = n }) rows ≡ moved_rows moved all
+  planned = planned_is (record { edit = edit; moved = last; changes = changes; evaluated = n }) rows ∙ ap (rows_with edit) lasting.same ∙ made
 
   keep_numbers : ((r s : Row) → come ≡ Some s → Contains rows r → r.label.order.id ≡ id → r.number ≡ s.number) → KeepNumbers rows (moved_rows moved all)
   keep_numbers own r s there after same =
@@ -60,9 +65,9 @@ module _ (rows left all : List Row) (moved : List Moved) (id : List ℕ) (come :
   pub made_plan : (was is : Option Ranged) (own : List ℕ) (label : Option Label) (steps after : ℕ) → CanBeMade edit rows → edited_id edit ≡ id → ((r s : Row) → come ≡ Some s → Contains rows r → r.label.order.id ≡ id → r.number ≡ s.number) →
       IsStateOf (labels_in rows) (slots_in rows) id was → IsStateOf (labels_in (moved_rows moved all)) (slots_in (moved_rows moved all)) id is →
       IsStrictlySortedBy (slice_cmp nat_cmp) (map (λ change. change.id) changes) → ((c : Change) → Contains changes c ↔ (IsStayChange left moved c ⊎ ((c ≡ edited_change id was is) × (was ≢ is)))) →
-      IsCost (labels_in rows) (labels_in all) id n → id ≡ own → label_of come ≡ label → after ≡ steps + n → IsPlanFor (record { edit = edit; moved = moved; changes = changes; evaluated = n }) rows own label steps after
+      IsCost (labels_in rows) (labels_in all) id n → id ≡ own → label_of come ≡ label → after ≡ steps + n → IsPlanFor (record { edit = edit; moved = last; changes = changes; evaluated = n }) rows own label steps after
   made_plan was is own label steps after possible its numbers state_before state_after sorted same cost is_own is_label spent =
-      let plan : Planned = record { edit = edit; moved = moved; changes = changes; evaluated = n } in
+      let plan : Planned = record { edit = edit; moved = last; changes = changes; evaluated = n } in
       let new = planned_rows plan rows in
       let changes_are : AreChanges (labels_in rows) (slots_in rows) (labels_in new) (slots_in new) changes =
       subst (λ (rs : List Row). AreChanges (labels_in rows) (slots_in rows) (labels_in rs) (slots_in rs) changes) (sym planned)
@@ -75,6 +80,7 @@ module _ (rows left all : List Row) (moved : List Moved) (id : List ℕ) (come :
       record {
         of_state = record {
           possible = possible;
+          moved = lasting.new;
           settled = subst IsSettled (sym planned) (settled_after all moved numbered_all up_all slots);
           numbers = subst (KeepNumbers rows) (sym planned) (keep_numbers numbers);
           changes = changes_are;
@@ -189,11 +195,11 @@ module _ (rows : List Row) (at : ℕ) (row : Row) (boxed : Box Row Global) (move
   made_in : rows_with (Add boxed) (moved_rows moved (kept_rows (Add boxed) rows)) ≡ moved_rows moved (insert rows at row)
   made_in = ap (λ (r : Row). with_row r (moved_rows moved rows)) is_row ∙ come_is rows at row moved place kept
 
-  pub in_plan : (edited : Change) (label : Label) (steps after : ℕ) → edited ≡ edited_change row.label.order.id None (Some (ranged row)) → IsStrictlySortedBy (slice_cmp nat_cmp) (map (λ change. change.id) changes) →
+  pub in_plan : (last : List Moved) → IsLastOf last moved rows → (edited : Change) (label : Label) (steps after : ℕ) → edited ≡ edited_change row.label.order.id None (Some (ranged row)) → IsStrictlySortedBy (slice_cmp nat_cmp) (map (λ change. change.id) changes) →
       ((c : Change) → Contains changes c ↔ (IsStayChange rows moved c ⊎ (Some edited ≡ Some c))) → AreTouched (labels_in (insert rows at row)) at true n → row.label ≡ label → after ≡ steps + n →
-      IsPlanFor (record { edit = Add boxed; moved = moved; changes = changes; evaluated = n }) rows label.order.id (Some label) steps after
-  in_plan edited label steps after is sorted same touched is_label spent =
-      made_plan rows rows (insert rows at row) moved row.label.order.id (Some row) (left_all rows row.label.order.id new) (joined_some rows at row) (Add boxed) changes n settled numbered_in up_in slots made_in
+      IsPlanFor (record { edit = Add boxed; moved = last; changes = changes; evaluated = n }) rows label.order.id (Some label) steps after
+  in_plan last lasting edited label steps after is sorted same touched is_label spent =
+      made_plan rows rows (insert rows at row) moved row.label.order.id (Some row) (left_all rows row.label.order.id new) (joined_some rows at row) (Add boxed) changes n settled numbered_in up_in slots made_in last lasting
       None (Some (ranged row)) label.order.id (Some label) steps after (rw is_row new) (ap (λ (r : Row). r.label.order.id) is_row)
       (λ r s e there id. absurd (new (r.label, contains_map (λ (t : Row). t.label) rows r there, id)))
       (state_new rows row.label.order.id new) (state_come rows at row moved kept) sorted
@@ -214,14 +220,17 @@ module _ (rows : List Row) (at : ℕ) (id : List ℕ) (moved : List Moved) (chan
   made_out : rows_with (Remove id) (moved_rows moved (kept_rows (Remove id) rows)) ≡ moved_rows moved (remove rows at)
   made_out = ap (moved_rows moved) (without_remove_is rows at id settled.in_order lt here)
 
+  last_out : (last : List Moved) → IsLastOf last moved (remove rows at) → IsLastOf last moved (kept_rows (Remove id) rows)
+  last_out last lasting = subst (IsLastOf last moved) (sym (without_remove_is rows at id settled.in_order lt here)) lasting
+
   are_out : AreLeft rows (remove rows at) id
   are_out = left_remove rows at id settled.in_order lt here
 
-  pub out_plan : (r : Row) (edited : Change) (own : List ℕ) (steps after : ℕ) → Contains rows r → r.label.order.id ≡ id → edited ≡ edited_change id (Some (ranged r)) None → IsStrictlySortedBy (slice_cmp nat_cmp) (map (λ change. change.id) changes) →
+  pub out_plan : (last : List Moved) → IsLastOf last moved (remove rows at) → (r : Row) (edited : Change) (own : List ℕ) (steps after : ℕ) → Contains rows r → r.label.order.id ≡ id → edited ≡ edited_change id (Some (ranged r)) None → IsStrictlySortedBy (slice_cmp nat_cmp) (map (λ change. change.id) changes) →
       ((c : Change) → Contains changes c ↔ (IsStayChange (remove rows at) moved c ⊎ (Some edited ≡ Some c))) → AreTouched (labels_in rows) at false n → id ≡ own → after ≡ steps + n →
-      IsPlanFor (record { edit = Remove id; moved = moved; changes = changes; evaluated = n }) rows own None steps after
-  out_plan r edited own steps after there same_id is sorted same touched is_own spent =
-      made_plan rows (remove rows at) (remove rows at) moved id None are_out (joined_none (remove rows at) id) (Remove id) changes n settled numbered_out up_out slots made_out
+      IsPlanFor (record { edit = Remove id; moved = last; changes = changes; evaluated = n }) rows own None steps after
+  out_plan last lasting r edited own steps after there same_id is sorted same touched is_own spent =
+      made_plan rows (remove rows at) (remove rows at) moved id None are_out (joined_none (remove rows at) id) (Remove id) changes n settled numbered_out up_out slots made_out last (last_out last lasting)
       (Some (ranged r)) None own None steps after has refl
       (λ s t e one two. absurd (let f : ◌≡◌ {A = Option Row} None (Some t) = e in cc))
       (state_there rows r id there same_id) (state_gone rows (remove rows at) moved id are_out) sorted
@@ -258,18 +267,22 @@ module _ (rows : List Row) (at to : ℕ) (row : Row) (boxed : Box Row Global) (m
       ∙ ap (λ (rs : List Row). with_row row (moved_rows moved rs)) (without_remove_is rows at row.label.order.id settled.in_order lt here)
       ∙ come_is (remove rows at) to row moved place kept
 
+  last_instead : (last : List Moved) → IsLastOf last moved (remove rows at) → IsLastOf last moved (kept_rows (Replace boxed) rows)
+  last_instead last lasting =
+      subst (IsLastOf last moved) (sym (ap (λ (r : Row). without_id r.label.order.id rows) is_row ∙ without_remove_is rows at row.label.order.id settled.in_order lt here)) lasting
+
   own_number : ((d : Row) → (get_or rows at d).number ≡ row.number) → (r s : Row) → Some row ≡ Some s → Contains rows r → r.label.order.id ≡ row.label.order.id → r.number ≡ s.number
   own_number number r s e there id =
       let same : row ≡ s = cc in
       let one : r ≡ get_or rows at r = one_id rows r (get_or rows at r) there (Contains-get_or rows at r lt) settled.in_order (id ∙ sym (here r)) in
       ap (λ (t : Row). t.number) one ∙ number r ∙ ap (λ (t : Row). t.number) same
 
-  pub instead_plan : (r : Row) (edited : Option Change) (label : Label) (steps after : ℕ) → Contains rows r → r.label.order.id ≡ row.label.order.id → ((d : Row) → (get_or rows at d).number ≡ row.number) → IsChangeBetween r row edited →
+  pub instead_plan : (last : List Moved) → IsLastOf last moved (remove rows at) → (r : Row) (edited : Option Change) (label : Label) (steps after : ℕ) → Contains rows r → r.label.order.id ≡ row.label.order.id → ((d : Row) → (get_or rows at d).number ≡ row.number) → IsChangeBetween r row edited →
       IsStrictlySortedBy (slice_cmp nat_cmp) (map (λ change. change.id) changes) → ((c : Change) → Contains changes c ↔ (IsStayChange (remove rows at) moved c ⊎ (edited ≡ Some c))) →
       AreTouched (labels_in rows) at false n → AreTouched (labels_in (insert (remove rows at) to row)) to true m → row.label ≡ label → after ≡ steps + (n + m) →
-      IsPlanFor (record { edit = Replace boxed; moved = moved; changes = changes; evaluated = n + m }) rows label.order.id (Some label) steps after
-  instead_plan r edited label steps after there same_id number between sorted same gone come is_label spent =
-      made_plan rows (remove rows at) (insert (remove rows at) to row) moved row.label.order.id (Some row) are_instead (joined_some (remove rows at) to row) (Replace boxed) changes (n + m) settled numbered_instead up_instead slots made_instead
+      IsPlanFor (record { edit = Replace boxed; moved = last; changes = changes; evaluated = n + m }) rows label.order.id (Some label) steps after
+  instead_plan last lasting r edited label steps after there same_id number between sorted same gone come is_label spent =
+      made_plan rows (remove rows at) (insert (remove rows at) to row) moved row.label.order.id (Some row) are_instead (joined_some (remove rows at) to row) (Replace boxed) changes (n + m) settled numbered_instead up_instead slots made_instead last (last_instead last lasting)
       (Some (ranged r)) (Some (ranged row)) label.order.id (Some label) steps after (rw is_row has) (ap (λ (t : Row). t.label.order.id) is_row) (own_number number)
       (state_there rows r row.label.order.id there same_id) (state_come (remove rows at) to row moved kept) sorted
       (both_same (remove rows at) moved changes edited (λ c. (c ≡ edited_change row.label.order.id (Some (ranged r)) (Some (ranged row))) × (Some (ranged r) ≢ Some (ranged row))) same

@@ -8,10 +8,10 @@ use Rattle.ml_cone.specs.declared.label.Label.{Label}
 use Rattle.ml_cone.specs.declared.slot.Slot.{Slot}
 use Rattle.ml_store.specs.Rows.{numbers_in, labels_in, HaveOwnNumbers}
 use Rattle.ml_store.specs.declared.row.Row.{Row}
-use Rattle.ml_repair.specs.declared.edit.Moved.{Moved}
+use Rattle.ml_store.specs.declared.moved.Moved.{Moved}
 use Rattle.ml_repair.specs.Plan.{moved_row, moved_rows, slot_for}
 use Rattle.ml_repair.specs.Repair.{present_slots, rival_in, IsMovedAt}
-use Rattle.ml_repair.proofs.Moving.{slot_here, slot_elsewhere}
+use Rattle.ml_store.proofs.lemmas.Moved.{if_same, if_other}
 use Rattle.ml_repair.proofs.NearRosters.{row_there}
 use Rattle.ml_ratio.proofs.lemmas.Lists.{same_place, map_read}
 use Rattle.std.proofs.lemmas.Simd.{map-map}
@@ -57,18 +57,18 @@ get_past (x ∷ xs) (suc k) d le = get_past xs k d (omega arith)
 pub moved_at : (rows : List Row) (i : ℕ) (r : Row) (slot : Slot) (before after : List Moved) → HaveOwnNumbers rows → i < length rows → r ≡ get_or rows i r →
     ((n : ℕ) (own : Slot) → slot_for n own after ≡ (if n == r.number then slot else slot_for n own before)) → IsMovedAt rows i slot before after
 moved_at rows i r slot before after differ lt read put = record {
-  here = present_read rows after i r lt read ∙ put r.number r.slot ∙ slot_here r.number r.number slot (slot_for r.number r.slot before) refl;
+  here = present_read rows after i r lt read ∙ put r.number r.slot ∙ if_same r.number r.number slot (slot_for r.number r.slot before) refl;
   others = λ k ne. elim (cases_lt k (length rows)) [
     | inl k_in ↦
         let s = row_there rows k k_in in
         let t : Row = s.0 in
         let many = length-map rows (λ (x : Row). x.number) in
         let apart : t.number ≢ r.number = (λ e. ne (same_place (numbers_in rows) k i 0 differ (omega arith) (omega arith) (map_read (λ (t : Row). t.number) rows k t 0 k_in s.1 ∙ e ∙ sym (map_read (λ (t : Row). t.number) rows i r 0 lt read)))) in
-        present_read rows after k t k_in s.1 ∙ put t.number t.slot ∙ slot_elsewhere t.number r.number slot (slot_for t.number t.slot before) apart ∙ sym (present_read rows before k t k_in s.1)
+        present_read rows after k t k_in s.1 ∙ put t.number t.slot ∙ if_other t.number r.number slot (slot_for t.number t.slot before) apart ∙ sym (present_read rows before k t k_in s.1)
     | inr past ↦
         let a = length-present rows after in
         let b = length-present rows before in
         get_past (present_slots rows after) k no_slot (omega arith) ∙ sym (get_past (present_slots rows before) k no_slot (omega arith))
   ];
-  same = λ n own ne. put n own ∙ slot_elsewhere n r.number slot (slot_for n own before) (λ e. ne (e ∙ sym (map_read (λ (t : Row). t.number) rows i r 0 lt read)));
+  same = λ n own ne. put n own ∙ if_other n r.number slot (slot_for n own before) (λ e. ne (e ∙ sym (map_read (λ (t : Row). t.number) rows i r 0 lt read)));
 }

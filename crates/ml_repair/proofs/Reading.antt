@@ -6,14 +6,8 @@ use Rattle.std.proofs.lemmas.List.Elements.{Contains-get_or}
 use Rattle.ml_store.specs.Rows.{numbers_in, number_at, IsLive}
 use Rattle.ml_store.specs.declared.row.Row.{Row}
 use Rattle.ml_repair.specs.Plan.{moved_pairs}
-use Rattle.ml_repair.specs.declared.edit.Moved.{Moved}
+use Rattle.ml_store.specs.declared.moved.Moved.{Moved}
 use Rattle.ml_ratio.proofs.lemmas.Lists.{map_contains, map_read}
-
-pub pairs_none : (moved : List Moved) (k : ℕ) → length moved ≤ k → moved_pairs (drop k moved) ≡ 0
-pairs_none [] zero le = refl
-pairs_none [] (suc k) le = refl
-pairs_none (m ∷ moved) zero le = absurd (omega arith)
-pairs_none (m ∷ moved) (suc k) le = pairs_none moved k (omega arith)
 
 -- one number more
 pub number_more : (rows : List Row) (k : ℕ) (r : Row) (numbers next : List ℕ) → k < length rows → r ≡ get_or rows k r → numbers ≡ take k (numbers_in rows) → next ≡ numbers ++ r.number ∷ [] → next ≡ take (k + 1) (numbers_in rows)

@@ -18,7 +18,7 @@ use Rattle.ml_repair.specs.Plan.{moved_row, moved_rows, slot_for, with_row, with
 use Rattle.ml_repair.specs.Repair.{AreSettled}
 use Rattle.ml_repair.specs.Roster.{AreNumbered}
 use Rattle.ml_repair.specs.Settled.{IsSettled}
-use Rattle.ml_repair.specs.declared.edit.Moved.{Moved}
+use Rattle.ml_store.specs.declared.moved.Moved.{Moved}
 use Rattle.ml_repair.proofs.Changing.{IsEdit}
 use Rattle.ml_repair.proofs.Edited.{moved-insert}
 use Rattle.ml_repair.proofs.NearRosters.{row_there, label_read}

@@ -9,7 +9,7 @@ use Rattle.ml_cone.specs.declared.slot.Slot.{Slot}
 use Rattle.ml_store.specs.Rows.{number_at, labels_in}
 use Rattle.ml_store.specs.declared.row.Row.{Row}
 use Rattle.ml_repair.specs.Repair.{Stands, present_slots, present_at, rival_in}
-use Rattle.ml_repair.specs.declared.edit.Moved.{Moved}
+use Rattle.ml_store.specs.declared.moved.Moved.{Moved}
 
 -- the places before i whose labels have other ends than before, the edited label among them where it comes
 pub record AreChanged (was is : Choice) (at : ℕ) (comes : Bool) (i : ℕ) (changed : List ℕ) : Type 0 where

@@ -4,9 +4,9 @@ pub mod Cost
 pub mod Changes
 pub mod Settled
 pub mod Edit
+pub mod Moves
 pub mod Plan
 pub mod Shown
-pub mod Moves
 pub mod Roster
 pub mod Waiting
 pub mod Repair

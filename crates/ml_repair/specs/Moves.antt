@@ -2,7 +2,7 @@
 use Rattle.std.specs.Prelude.{ℕ, ◌≡◌, ◌+◌, ◌<◌, ◌≤◌, ◌⊎◌, [], List, length, map, slice_index, All}
 use Rattle.ml_ratio.specs.Limits.{most_labels}
 use Rattle.ml_store.specs.Rows.{AreDifferent}
-use Rattle.ml_repair.specs.declared.edit.Moved.{Moved}
+use Rattle.ml_store.specs.declared.moved.Moved.{Moved}
 
 -- the numbers that have a new slot
 abbrev pub numbers_of : List Moved → List ℕ

@@ -1,22 +1,23 @@
 -- Plans of an edit, and what they make of the live labels.
-use Rattle.std.specs.Prelude.{ℕ, ◌≡◌, ◌+◌, ◌≤◌, ◌==◌, not, List, [], ◌∷◌, map, filter, Contains, Option, if◌then◌else◌}
+use Rattle.std.specs.Prelude.{ℕ, ◌≡◌, ◌≢◌, ◌+◌, ◌≤◌, not, List, [], ◌∷◌, filter, Contains, Option, if◌then◌else◌}
 use Rattle.std.specs.Str.{bytes_eq}
 use Rattle.std.specs.Ordering.{is_lt}
 use Rattle.ml_cone.specs.Order.{order_cmp}
 use Rattle.ml_cone.specs.declared.label.Label.{Label}
-use Rattle.ml_cone.specs.declared.slot.Slot.{Slot}
 use Rattle.ml_grid.specs.Count.{entry_count}
 use Rattle.ml_watch.specs.declared.change.Change.{Change}
+pub use Rattle.ml_store.specs.Moved.{slot_for, moved_row, moved_rows, moved_pairs}
 use Rattle.ml_store.specs.Pairs.{pair_count}
-use Rattle.ml_store.specs.Rows.{labels_in, slots_in, HasId, Stored}
+use Rattle.ml_store.specs.Rows.{labels_in, slots_in, AreDifferent, HasId, Stored}
+use Rattle.ml_store.specs.declared.moved.Moved.{Moved}
 use Rattle.ml_store.specs.declared.row.Row.{Row}
 use Rattle.ml_repair.specs.Changes.{AreChanges}
 use Rattle.ml_repair.specs.Cost.{IsCost}
 use Rattle.ml_repair.specs.Edit.{IsEdited}
+use Rattle.ml_repair.specs.Moves.{numbers_of}
 use Rattle.ml_repair.specs.Settled.{IsSettled}
 use Rattle.ml_repair.specs.declared.edit.LabelEdit.{LabelEdit}
 use Rattle.ml_repair.specs.declared.edit.LabelEdit.TheVariants.{Add, Remove, Replace}
-use Rattle.ml_repair.specs.declared.edit.Moved.{Moved}
 use Rattle.ml_repair.specs.declared.room.Room.{Room}
 
 -- what contracts see of a plan: its edit, the new slots of labels that stay, by number, what it changes, and how many labels were evaluated for it
@@ -41,19 +42,6 @@ abbrev pub kept_rows : LabelEdit → List Row → List Row
 kept_rows (Add row) rows = rows
 kept_rows (Remove id) rows = without_id id rows
 kept_rows (Replace row) rows = without_id row.value.label.order.id rows
-
--- the slot for a number: the last new one that there is for it, or its own
-abbrev pub slot_for : ℕ → Slot → List Moved → Slot
-slot_for number own [] = own
-slot_for number own (m ∷ moved) = slot_for number (if m.number == number then m.slot else own) moved
-
--- the row with its new slot
-abbrev pub moved_row : List Moved → Row → Row
-moved_row moved r = record r { slot = slot_for r.number r.slot moved }
-
--- the rows with their new slots
-abbrev pub moved_rows : List Moved → List Row → List Row
-moved_rows moved rows = map (moved_row moved) rows
 
 -- the rows, and one more in its place in priority order
 abbrev pub with_row : Row → List Row → List Row
@@ -80,9 +68,19 @@ edited_id (Replace row) = row.value.label.order.id
 abbrev pub KeepNumbers : List Row → List Row → Type 0
 KeepNumbers rows after = (r s : Row) → Contains rows r → Contains after s → r.label.order.id ≡ s.label.order.id → r.number ≡ s.number
 
--- the plan is of these rows: its edit can be made; its slots are those of the labels after it, which keep their numbers; and it tells just what that changes and costs
+-- the slot is another one than that of the row with its number, which is one of these
+abbrev pub IsNewIn : List Row → Moved → Type 0
+IsNewIn rows m = (r : Row) × Contains rows r × (r.number ≡ m.number) × (r.slot ≢ m.slot)
+
+-- each of these rows with a new slot has one, and nothing else does: so a plan's room is what its edit needs
+pub record AreNewIn (rows : List Row) (moved : List Moved) : Type 0 where
+  pub once : AreDifferent (numbers_of moved)
+  pub new : (m : Moved) → Contains moved m → IsNewIn rows m
+
+-- the plan is of these rows: its edit can be made; its new slots are those of labels that stay and get another one; its slots are those of the labels after it, which keep their numbers; and it tells just what that changes and costs
 pub record IsPlanOf (plan : Planned) (rows : List Row) : Type 0 where
   pub possible : CanBeMade plan.edit rows
+  pub moved : AreNewIn (kept_rows plan.edit rows) plan.moved
   pub settled : IsSettled (planned_rows plan rows)
   pub numbers : KeepNumbers rows (planned_rows plan rows)
   pub changes : AreChanges (labels_in rows) (slots_in rows) (labels_in (planned_rows plan rows)) (slots_in (planned_rows plan rows)) plan.changes
@@ -95,11 +93,6 @@ pub record IsPlanFor (plan : Planned) (rows : List Row) (id : List ℕ) (come : 
   pub changes : AreChanges (labels_in rows) (slots_in rows) (labels_in (planned_rows plan rows)) (slots_in (planned_rows plan rows)) plan.changes
   pub cost : IsCost (labels_in rows) (labels_in (planned_rows plan rows)) id plan.evaluated
   pub spent : steps_after ≡ steps + plan.evaluated
-
--- how many pairs come with new slots
-abbrev pub moved_pairs : List Moved → ℕ
-moved_pairs [] = 0
-moved_pairs (m ∷ moved) = pair_count m.slot.blocker + moved_pairs moved
 
 -- how many more labels there are after an edit
 abbrev pub labels_needed : LabelEdit → ℕ

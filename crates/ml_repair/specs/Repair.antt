@@ -11,7 +11,7 @@ use Rattle.ml_cone.specs.declared.slot.Slot.{Slot}
 use Rattle.ml_conflict.specs.Begin.{SetsNoneUpTo}
 use Rattle.ml_store.specs.Rows.{number_at, labels_in, slots_in}
 use Rattle.ml_store.specs.declared.row.Row.{Row}
-use Rattle.ml_repair.specs.declared.edit.Moved.{Moved}
+use Rattle.ml_store.specs.declared.moved.Moved.{Moved}
 use Rattle.ml_repair.specs.Moves.{numbers_of}
 use Rattle.ml_repair.specs.Plan.{moved_rows, slot_for}
 use Rattle.ml_repair.specs.Roster.{OverlapsAt}

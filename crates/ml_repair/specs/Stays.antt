@@ -4,7 +4,7 @@ use Rattle.ml_cone.specs.declared.slot.Slot.{Slot}
 use Rattle.ml_watch.specs.declared.change.Change.{Change}
 use Rattle.ml_store.specs.declared.row.Row.{Row}
 use Rattle.ml_repair.specs.Plan.{slot_for}
-use Rattle.ml_repair.specs.declared.edit.Moved.{Moved}
+use Rattle.ml_store.specs.declared.moved.Moved.{Moved}
 
 -- the change of a label that gets a slot
 abbrev pub stay_change : Row → Slot → Change

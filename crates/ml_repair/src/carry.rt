@@ -1,14 +1,14 @@
 //! How plans are carried out.
-ghost use Rattle.std.specs.Prelude.{◌≡◌, ◌+◌, ◌<◌, ◌≤◌, [], ◌∷◌};
+ghost use Rattle.std.specs.Prelude.{◌≡◌, ◌+◌, ◌<◌, ◌≤◌};
 ghost use Rattle.ml_cone.specs.Label.{IsLabelList};
 ghost use Rattle.ml_grid.specs.Count.{entry_count};
 ghost use Rattle.ml_store.specs.Pairs.{pair_count};
 ghost use Rattle.ml_store.specs.Rows.{labels_in, HasId};
 ghost use Rattle.ml_repair.specs.Carry.{CanComeIn, HasRoomIn, gone_count};
-ghost use Rattle.ml_repair.specs.Plan.{IsPlanOf, HasRoom, CanBeMade, room_of, planned_rows, kept_rows, without_id, moved_rows, moved_pairs, with_row, rows_with};
+ghost use Rattle.ml_repair.specs.Plan.{IsPlanOf, HasRoom, CanBeMade, room_of, planned_rows, kept_rows, without_id, with_row, rows_with};
 ghost use Rattle.ml_repair.specs.Settled.{IsSettled};
 
-use crate::edit::{LabelEdit, Moved};
+use crate::edit::LabelEdit;
 use crate::place::place_for;
 use crate::plan::Plan;
 use crate::planning::place_of_id;
@@ -42,34 +42,6 @@ fn let_go(store: &mut Store, edit: &LabelEdit)
         LabelEdit::Add(_) => {}
         LabelEdit::Remove(id) => take_id(store, id),
         LabelEdit::Replace(row) => take_id(store, row.label.id()),
-    }
-}
-
-// Labels get other slots.
-fn write_moved(store: &mut Store, moved: &[Moved])
-    requires { moved_pairs moved.now ≤ store.old.blocks }
-    ensures rows { store.new.rows ≡ moved_rows moved.now store.old.rows }
-    ensures labels { store.new.labels ≡ store.old.labels }
-    ensures cells { store.new.cells ≡ store.old.cells }
-    ensures blocks { store.old.blocks ≤ store.new.blocks + moved_pairs moved.now }
-{
-    for m in moved {
-        write_one(store, m);
-    }
-}
-
-// One label gets another slot, if it is live.
-fn write_one(store: &mut Store, m: &Moved)
-    requires { pair_count m.now.slot.blocker ≤ store.old.blocks }
-    ensures rows { store.new.rows ≡ moved_rows (m.now ∷ []) store.old.rows }
-    ensures labels { store.new.labels ≡ store.old.labels }
-    ensures cells { store.new.cells ≡ store.old.cells }
-    ensures blocks { store.old.blocks ≤ store.new.blocks + pair_count m.now.slot.blocker }
-{
-    let _many = store.len();
-    match store.place_of(m.number) {
-        Some(at) => store.set_slot(at, m.slot),
-        None => {}
     }
 }
 
@@ -114,6 +86,6 @@ pub fn carry_out(store: &mut Store, plan: Plan)
         evaluated: _,
     } = plan;
     let_go(store, &edit);
-    write_moved(store, &moved);
+    store.set_slots(&moved);
     let_in(store, edit);
 }

@@ -9,7 +9,6 @@ ghost use Rattle.ml_watch.specs.declared.change.Change.{Change};
 ghost use Rattle.ml_watch.specs.ById.{HaveOwnIds};
 ghost use Rattle.ml_repair.specs.Stays.{IsStayChange, IsPushedFor, IsJoinedBy};
 
-use crate::edit::Moved;
 use crate::moves::Moves;
 use crate::repair::differs;
 use crate::roster::Roster;

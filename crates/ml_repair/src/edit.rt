@@ -1,5 +1,4 @@
 //! Edits of labels.
-use ml_cone::Slot;
 use ml_ratio::Text;
 use ml_store::Row;
 
@@ -12,11 +11,4 @@ pub enum LabelEdit {
     Remove(Text),
     /// This label comes in place of that with its id.
     Replace(Box<Row>),
-}
-
-/// A new slot of a label that stays, by its number.
-#[derive(Clone, Copy, Debug, PartialEq, Eq)]
-pub struct Moved {
-    pub number: u32,
-    pub slot: Slot,
 }

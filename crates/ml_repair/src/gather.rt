@@ -11,12 +11,13 @@ ghost use Rattle.ml_ratio.specs.declared.ratio.Ratio.{Ratio};
 ghost use Rattle.ml_cone.specs.declared.slot.Slot.{Slot};
 
 use crate::chosen::present_slot;
-use crate::edit::Moved;
 use crate::moves::Moves;
+use crate::roster::no_places;
 use crate::sought::{Edited, Sought};
 use ml_cone::Label;
 use ml_conflict::limit_up_to;
 use ml_ratio::{Ratio, Seq, ascending};
+use ml_store::Moved;
 use std::alloc::{AllocError, Global};
 
 // Whether the place is before `i`, and that of the edited label only where that comes.
@@ -188,8 +189,9 @@ fn gather_all(alloc: Global, sought: &Sought<'_>) -> Result<Vec<u32>, AllocError
     let mut bound = low.max();
     let mut band = low.min().band();
     while band <= bound.band() && band < 28 {
-        let mut found = Seq::new(alloc);
-        let upto = bound.band().min(band + 3).min(27);
+        let mut found = no_places(alloc)?;
+        let first = sought.likely.max(band + 3);
+        let upto = bound.band().min(first).min(27);
         band = sought.roster.across(alloc, low, band, upto, &mut found)?;
         bound = sift(sought, found.as_slice(), bound, &mut places)?;
     }

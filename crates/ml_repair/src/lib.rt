@@ -8,7 +8,7 @@
 //!
 //! Within: `gather`, `sought`, `chosen` and `settle` find the rivals of one label and evaluate it, `kept`
 //! where its blocker stays; `wake`, `waiting`, `repair` and `pass` go through the labels that an edit touches;
-//! `roster`, `moves`, `place` and `planning` are what a plan is made of; `carry`, `build`, `shown` and
+//! `roster`, `moves`, `lasting`, `place` and `planning` are what a plan is made of; `carry`, `build`, `shown` and
 //! `read` carry it out, build an engine and tell of its labels.
 #![tactic(auto)]
 
@@ -20,6 +20,7 @@ pub mod edit;
 pub mod engine;
 mod gather;
 mod kept;
+mod lasting;
 pub mod laws;
 mod moves;
 mod pass;
@@ -36,7 +37,8 @@ mod sought;
 mod waiting;
 mod wake;
 
-pub use edit::{LabelEdit, Moved};
+pub use edit::LabelEdit;
 pub use engine::Engine;
+pub use ml_store::Moved;
 pub use plan::Plan;
 pub use room::Room;

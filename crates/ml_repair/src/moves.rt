@@ -6,9 +6,9 @@ ghost use Rattle.ml_store.specs.Rows.{AreDifferent};
 ghost use Rattle.ml_repair.specs.Plan.{slot_for};
 ghost use Rattle.ml_repair.specs.Moves.{numbers_of, IsFoundAt, IsColumn};
 
-use crate::edit::Moved;
 use ml_cone::Slot;
 use ml_ratio::MOST_LABELS;
+use ml_store::Moved;
 use std::alloc::{AllocError, Global};
 use std::marker::Model;
 
@@ -55,7 +55,7 @@ fn column_of(alloc: Global, moved: &[Moved]) -> Result<Vec<u16>, AllocError>
 
 impl Model for Moves {
     ghost use Rattle.std.specs.Prelude.{List};
-    ghost use Rattle.ml_repair.specs.declared.edit.Moved.{Moved};
+    ghost use Rattle.ml_store.specs.declared.moved.Moved.{Moved};
     ghost use Rattle.ml_repair.specs.Moves.{AreMoves};
 
     ghost Value = { List Moved };
@@ -133,15 +133,8 @@ impl Moves {
     pub fn as_slice(&self) -> &[Moved]
         ensures moved { result.now ≡ self.now }
         ensures differ { AreDifferent (numbers_of self.now) }
+        ensures few { length self.now ≤ most_labels }
     {
         &self.moved
-    }
-
-    /// The new slots as a vector.
-    pub fn into_vec(self) -> Vec<Moved>
-        ensures moved { result.items ≡ self }
-        ensures few { length self ≤ most_labels }
-    {
-        self.moved
     }
 }

@@ -5,12 +5,12 @@ ghost use Rattle.ml_grid.specs.Count.{entry_count};
 ghost use Rattle.ml_store.specs.Pairs.{pair_count};
 ghost use Rattle.ml_repair.specs.Plan.{room_of, labels_needed, cells_needed, pairs_needed, moved_pairs};
 
-use crate::edit::{LabelEdit, Moved};
+use crate::edit::LabelEdit;
 use crate::room::Room;
 use ml_cone::{Slot, Span};
 use ml_grid::Grid;
 use ml_ratio::Seq;
-use ml_store::Row;
+use ml_store::{Moved, Row};
 use ml_watch::Change;
 use std::marker::Model;
 

@@ -10,6 +10,7 @@ ghost use Rattle.ml_repair.specs.Stays.{IsChangeBetween};
 
 use crate::changes::edit_changes;
 use crate::edit::LabelEdit;
+use crate::lasting::lasting_slots;
 use crate::moves::Moves;
 use crate::pass::{pass_in, pass_out};
 use crate::place::place_for;
@@ -109,10 +110,11 @@ pub fn plan_in<L: Ledger>(
         after: Some(span_of(&row)),
     };
     let changes = edit_changes(alloc, &roster, &moves, Some(edited))?;
+    let moved = lasting_slots(alloc, &roster, &moves)?;
     let row = Box::new(alloc, row)?;
     Ok(Plan {
         edit: LabelEdit::Add(row),
-        moved: moves.into_vec(),
+        moved,
         changes,
         evaluated,
     })
@@ -142,10 +144,11 @@ pub fn plan_out<L: Ledger>(
     };
     let roster = Roster::left(store, Some(at));
     let changes = edit_changes(alloc, &roster, &moves, Some(edited))?;
+    let moved = lasting_slots(alloc, &roster, &moves)?;
     let id = id.copy()?;
     Ok(Plan {
         edit: LabelEdit::Remove(id),
-        moved: moves.into_vec(),
+        moved,
         changes,
         evaluated,
     })
@@ -175,10 +178,11 @@ pub fn plan_instead<L: Ledger>(
     let come = pass_in(alloc, store, Some(at), &mut row, to, &mut moves, steps)?;
     let edited = change_between(old, &row)?;
     let changes = edit_changes(alloc, &roster, &moves, edited)?;
+    let moved = lasting_slots(alloc, &roster, &moves)?;
     let row = Box::new(alloc, row)?;
     Ok(Plan {
         edit: LabelEdit::Replace(row),
-        moved: moves.into_vec(),
+        moved,
         changes,
         evaluated: gone + come,
     })

@@ -23,8 +23,8 @@ use crate::wake::{wake, wake_more};
 use ml_cone::Slot;
 use ml_conflict::laws::{carried, rivals_or_free, smaller_ends};
 use ml_ratio::{Ratio, Steps};
+use ml_store::same_slots;
 use std::alloc::{AllocError, Global};
-use std::cmp::Ordering;
 use std::sync::ledger::Ledger;
 
 /// Whether two ends differ.
@@ -42,34 +42,6 @@ fn put_slot(roster: &Roster<'_>, moves: &mut Moves, i: usize, slot: Slot) -> Res
     let _many = roster.len();
     let row = roster.row(i);
     moves.put(row.number, slot)
-}
-
-// Whether the ends are the same.
-fn same_until(one: &Ratio, other: &Ratio) -> bool
-    ensures { IsTrue result → one.now ≡ other.now }
-{
-    match one.cmp(other) {
-        Ordering::Equal => true,
-        _ => false,
-    }
-}
-
-// Whether the blockers are the same, or there is none either time.
-fn same_blocker(one: Option<u32>, other: Option<u32>) -> bool
-    ensures { IsTrue result → one ≡ other }
-{
-    match (one, other) {
-        (Some(a), Some(b)) => a == b,
-        (None, None) => true,
-        _ => false,
-    }
-}
-
-// Whether the slots are the same.
-fn are_same(one: &Slot, other: &Slot) -> bool
-    ensures { IsTrue result → one.now ≡ other.now }
-{
-    same_until(&one.until, &other.until) && same_blocker(one.blocker, other.blocker)
 }
 
 // The label at `i` gets the slot that those before it leave, if that is another one; whether its end is another
@@ -96,7 +68,7 @@ fn renew<L: Ledger>(
 {
     let old = present_slot(roster, moves, i);
     let slot = settle_again(alloc, roster, moves, changed, edited, i, steps)?;
-    if are_same(&old, &slot) {
+    if same_slots(&old, &slot) {
         Ok(false)
     } else {
         put_slot(roster, moves, i, slot)?;

@@ -1,5 +1,5 @@
 //! The labels that an edit is planned over.
-ghost use Rattle.std.specs.Prelude.{ℕ, ◌≡◌, ◌+◌, ◌<◌, ◌≤◌, ◌⊎◌, ◌↔◌, List, length, insert, take, Contains, Option, Some, None, IsTrue, IsSome, IfSome, IfOk, MatchOption, HoldsAt, OnOk, slice_index_or};
+ghost use Rattle.std.specs.Prelude.{ℕ, ◌≡◌, ◌+◌, ◌<◌, ◌≤◌, ◌⊎◌, ◌↔◌, [], List, length, insert, take, Contains, Option, Some, None, IsTrue, IsSome, IfSome, IfOk, MatchOption, HoldsAt, OnOk, slice_index_or};
 ghost use Rattle.ml_ratio.specs.Limits.{most_labels};
 ghost use Rattle.ml_cone.specs.Cell.{IsLastBand};
 ghost use Rattle.ml_cone.specs.declared.label.Label.{Label};
@@ -13,6 +13,19 @@ use ml_ratio::{Ratio, Seq};
 use ml_store::{Row, Store};
 use std::alloc::{AllocError, Global};
 use std::marker::Model;
+
+// How many places a search has room for from the start: it mostly finds some tens.
+const ROOM: usize = 64;
+
+/// No places yet, with room for some.
+///
+/// # Errors
+/// Out of memory.
+pub fn no_places(alloc: Global) -> Result<Seq<u32>, AllocError>
+    ensures { IfOk result (λ places. places ≡ []) }
+{
+    Ok(Seq::of_vec(Vec::with_capacity(alloc, ROOM)?))
+}
 
 /// The live labels but one that is passed over, and one that is to come, in priority order.
 #[derive(Drop)]
@@ -323,7 +336,7 @@ impl<'a> Roster<'a> {
         ensures { IfOk result (AreOverlapped self.now label.now band scale.now) }
     {
         let numbers = self.store.overlapping(alloc, label, band, scale)?;
-        let mut places = Seq::new(alloc);
+        let mut places = no_places(alloc)?;
         push_places(self, numbers.as_slice(), &mut places)?;
         push_come(self.come, self.at, &mut places)?;
         Ok(places)
@@ -346,6 +359,7 @@ impl<'a> Roster<'a> {
         requires from { band ≤ upto }
         requires upto { upto ≤ 27 }
         ensures next { IfOk result (λ next. (band < next) × (next ≤ 28)) }
+        ensures step { IfOk result (λ next. (next ≡ upto + 1) ⊎ (next ≡ band + 1)) }
         ensures met { IfOk result (λ next. AreMet self.now label.now band next out.old out.new) }
     {
         let (numbers, next) = self.store.across(alloc, label, band, upto)?;

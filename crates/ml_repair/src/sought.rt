@@ -11,7 +11,8 @@ pub struct Edited {
 }
 
 /// A label whose slot is sought: the label and its place, among which labels, with which new slots, for
-/// which edit, and whether many labels have other ends by these.
+/// which edit, whether many labels have other ends by these, and the band in which its present end lies: the new
+/// one mostly lies near it. The last two are told for the sake of time alone.
 #[derive(Clone, Copy)]
 pub struct Sought<'a> {
     pub roster: &'a Roster<'a>,
@@ -19,5 +20,6 @@ pub struct Sought<'a> {
     pub low: &'a Label,
     pub edited: Edited,
     pub many: bool,
+    pub likely: u8,
     pub place: usize,
 }

@@ -4,7 +4,7 @@ ghost use Rattle.ml_repair.specs.Repair.{AreSuspects, IsWokenBy, AreWoken};
 ghost use Rattle.ml_repair.specs.Touched.{IsRivalBefore};
 ghost use Rattle.ml_store.specs.Rows.{labels_in};
 
-use crate::roster::Roster;
+use crate::roster::{Roster, no_places};
 use ml_cone::laws::{rivals_overlap, rivals_share};
 use ml_cone::{Label, last_band};
 use ml_conflict::are_rivals;
@@ -37,7 +37,7 @@ fn near_suspects(alloc: Global, roster: &Roster<'_>, label: &Label) -> Result<Se
     ensures { IfOk result (AreSuspects roster.now label.now) }
 {
     rivals_overlap();
-    let mut places = Seq::new(alloc);
+    let mut places = no_places(alloc)?;
     let last = last_band(label);
     let first_end = roster.first_end();
     let mut band = label.min().band();
@@ -54,9 +54,7 @@ fn is_later_rival(roster: &Roster<'_>, i: usize, k: usize) -> bool
     requires k_is_place { k < length roster.now }
     ensures { IsTrue result ↔ IsRivalBefore (labels_in roster.now) i k }
 {
-    let high = roster.row(i);
-    let low = roster.row(k);
-    i < k && are_rivals(&low.label, &high.label)
+    i < k && are_rivals(&roster.row(k).label, &roster.row(i).label)
 }
 
 // The label at `k` waits from now on, if it is a later rival of that at `i`. One that waits is not asked.

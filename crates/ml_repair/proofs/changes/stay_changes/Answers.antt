@@ -1,7 +1,7 @@
 use Rattle.std.proofs.Common.{◌≡◌, ◌∙◌, ◌<◌, arith, get_or, length, sym, ℕ, ap}
 use Rattle.ml_store.specs.declared.row.Row.{Row}
 use Rattle.ml_repair.specs.Moves.{numbers_of}
-use Rattle.ml_repair.specs.declared.edit.Moved.{Moved}
+use Rattle.ml_store.specs.declared.moved.Moved.{Moved}
 use Rattle.std.proofs.lemmas.List.{get_or-map}
 use Rattle.ml_repair.proofs.Noting.{noted_fresh, noted_more, noted_all}
 use Rattle.ml_repair.proofs.changes.stay_changes.Goals as goal

@@ -19,11 +19,12 @@ across-requires-clause-from c =
     let test = c.loop-band-test.true in
     let low = c.if-band-lt28.true in
     let least = c.min-in-loop-band.ensures in
+    let first = c.max-first.ensures in
     let upto = c.min-upto.ensures in
     omega arith
 
 pub sift-requires : goal.sift-requires
-sift-requires c = rw c.as_slice.ensures (met_within c.args.sought.now.roster.now c.args.sought.now.low.now c.loop-band.band c.in_ok-band.band c.across.new.out (rw c.new-found.ensures at c.in_ok-band.ensures.met))
+sift-requires c = rw c.as_slice.ensures (met_within c.args.sought.now.roster.now c.args.sought.now.low.now c.loop-band.band c.in_ok-band.band c.across.new.out (rw c.in_ok-found.ensures at c.in_ok-band.ensures.met))
 
 pub loop-band-preserved : goal.loop-band-preserved
 loop-band-preserved c =
@@ -31,7 +32,7 @@ loop-band-preserved c =
       i.0,
       i.1,
       gathered_all c.args.sought.now.roster.now c.args.sought.now.moves.now c.args.sought.now.low.now c.args.sought.now.edited.at c.args.sought.now.edited.comes c.args.sought.now.place i.0 c.loop-band.band c.in_ok-band.band c.loop-band.bound c.in_ok-bound.bound c.loop-band.places c.sift.new.out c.across.new.out i.2
-          (rw c.new-found.ensures at c.in_ok-band.ensures.met) (rw c.as_slice.ensures at c.in_ok-bound.ensures),
+          (rw c.in_ok-found.ensures at c.in_ok-band.ensures.met) (rw c.as_slice.ensures at c.in_ok-bound.ensures),
     )
 
 pub returns-clause-enough : goal.returns-clause-enough

@@ -1,7 +1,7 @@
 use Rattle.std.proofs.Common.{◌<◌, ◌≤◌, ◌≡◌, List, arith, length, get_or, subst}
 use Rattle.ml_repair.specs.Moves.{numbers_of}
 use Rattle.ml_repair.specs.Plan.{slot_for}
-use Rattle.ml_repair.specs.declared.edit.Moved.{Moved}
+use Rattle.ml_store.specs.declared.moved.Moved.{Moved}
 use Rattle.ml_repair.proofs.Gathering.{moved_none, moved_more, moved_all, new_slot, number_read}
 use Rattle.ml_repair.proofs.gather.sift_moved.Goals as goal
 

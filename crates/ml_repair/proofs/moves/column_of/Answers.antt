@@ -2,7 +2,7 @@ use Rattle.std.proofs.Common.{◌≡◌, ◌≢◌, ◌∙◌, ◌+◌, ◌<◌,
 use Rattle.std.specs.Prelude.{All}
 use Rattle.std.proofs.lemmas.List.{get_or-map, get_or-replicate, get_or-take, length-map, length-replicate, length-take-le, take_more}
 use Rattle.ml_store.specs.Rows.{AreDifferent}
-use Rattle.ml_repair.specs.declared.edit.Moved.{Moved}
+use Rattle.ml_store.specs.declared.moved.Moved.{Moved}
 use Rattle.ml_repair.specs.Moves.{numbers_of, IsColumn}
 use Rattle.ml_repair.proofs.Moving.{column_none, column_more, few_moves}
 use Rattle.ml_repair.proofs.moves.column_of.Goals as goal

@@ -1,7 +1,7 @@
 use Rattle.std.proofs.Common.{◌≡◌, ◌∙◌, sym, ap, arith, get_or, inl, inr}
 use Rattle.std.proofs.lemmas.Bool.{cases_lt}
 use Rattle.std.proofs.lemmas.List.{get_or-map}
-use Rattle.ml_repair.specs.declared.edit.Moved.{Moved}
+use Rattle.ml_store.specs.declared.moved.Moved.{Moved}
 use Rattle.ml_repair.specs.Moves.{numbers_of}
 use Rattle.ml_repair.proofs.Moving.{found_here, found_nowhere}
 use Rattle.ml_repair.proofs.moves.find_in.Goals as goal

@@ -2,8 +2,8 @@ use Rattle.std.proofs.Common.{◌≡◌, ◌∙◌, ap, sym, ◌+◌, ◌<◌, a
 use Rattle.std.proofs.lemmas.List.{drop_more}
 use Rattle.ml_store.specs.Pairs.{pair_count}
 use Rattle.ml_repair.specs.Plan.{moved_pairs}
-use Rattle.ml_repair.specs.declared.edit.Moved.{Moved}
-use Rattle.ml_repair.proofs.Reading.{pairs_none}
+use Rattle.ml_store.specs.declared.moved.Moved.{Moved}
+use Rattle.ml_store.proofs.lemmas.Moved.{pairs_none}
 use Rattle.ml_repair.proofs.plan.pairs_for_moved.Goals as goal
 
 pub loop-m-preserved : goal.loop-m-preserved

@@ -39,6 +39,7 @@ returns g c =
     let id : c.in_ok-copy.field-0 ≡ row.label.order.id = c.in_ok-copy.ensures ∙ c.id.ensures in
     let is : edited ≡ edited_change row.label.order.id None (Some (ranged row)) =
     change_same edited (edited_change row.label.order.id None (Some (ranged row))) id refl (ap (λ (x : Span). Some x) (span_same row c.span_of.result c.span_of.ensures.min c.span_of.ensures.until)) in
-    in_plan rows c.place_for-at.result row c.in_ok-row.row c.into_vec.result.items c.in_ok-changes.changes c.in_ok-evaluated.evaluated c.requires.settled (rw label c.requires.new_id) c.requires.few
-    (rw number c.free-number.ensures.free) (rw number c.free-number.ensures.low) place (rw c.into_vec.ensures.moved c.in_ok-evaluated.ensures.after) (rw c.into_vec.ensures.moved c.in_ok-evaluated.ensures.kept) is_row
-    edited c.args.label _ _ is c.in_ok-changes.ensures.ascending (rw c.into_vec.ensures.moved (rw c.left-roster.ensures at c.in_ok-changes.ensures.same)) c.in_ok-evaluated.ensures.touched label c.in_ok-evaluated.ensures.spent
+    in_plan rows c.place_for-at.result row c.in_ok-row.row c.pass_in.new.moves c.in_ok-changes.changes c.in_ok-evaluated.evaluated c.requires.settled (rw label c.requires.new_id) c.requires.few
+    (rw number c.free-number.ensures.free) (rw number c.free-number.ensures.low) place c.in_ok-evaluated.ensures.after c.in_ok-evaluated.ensures.kept is_row
+    c.in_ok-moved.moved.items (record { same = rw c.left-roster.ensures at c.in_ok-moved.ensures.rows; new = rw c.left-roster.ensures at c.in_ok-moved.ensures.new })
+    edited c.args.label _ _ is c.in_ok-changes.ensures.ascending (rw c.left-roster.ensures at c.in_ok-changes.ensures.same) c.in_ok-evaluated.ensures.touched label c.in_ok-evaluated.ensures.spent

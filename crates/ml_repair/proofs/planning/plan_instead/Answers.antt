@@ -73,7 +73,8 @@ returns g c =
     let here : (d : Row) → (get_or rows at d).label.order.id ≡ row.label.order.id = λ d. c.place_of_id-at.ensures.here d ∙ c.id.ensures ∙ ap (λ (l : Label). l.order.id) (sym label) in
     let few : length (remove rows at) < 32768 = (let n = length-remove rows at lt in let few = c.requires.settled.few in omega arith) in
     let place : IsPlaceFor (labels_in (remove rows at)) row.label.order to = rw (label, ← c.order.ensures) (rw c.left-roster.ensures at c.place_for-to.ensures) in
-    instead_plan rows at to row c.in_ok-row.row c.into_vec.result.items c.in_ok-changes.changes c.in_ok-gone.gone c.in_ok-come.come c.requires.settled lt here (rw label c.requires.live) few
-    (rw number (number_gone rows at old c.requires.settled lt read)) (rw number (number_low rows at old c.requires.settled lt read)) place (rw c.into_vec.ensures.moved c.in_ok-come.ensures.after) (rw c.into_vec.ensures.moved c.in_ok-come.ensures.kept) is_row
+    instead_plan rows at to row c.in_ok-row.row c.pass_in.new.moves c.in_ok-changes.changes c.in_ok-gone.gone c.in_ok-come.come c.requires.settled lt here (rw label c.requires.live) few
+    (rw number (number_gone rows at old c.requires.settled lt read)) (rw number (number_low rows at old c.requires.settled lt read)) place c.in_ok-come.ensures.after c.in_ok-come.ensures.kept is_row
+    c.in_ok-moved.moved.items (record { same = rw c.left-roster.ensures at c.in_ok-moved.ensures.rows; new = rw c.left-roster.ensures at c.in_ok-moved.ensures.new })
     old c.in_ok-edited.edited c.args.label _ _ (at, lt, sym read) (ap (λ (t : Row). t.label.order.id) read ∙ here old) (λ d. ap (λ (t : Row). t.number) (c.row-old.ensures.row d) ∙ sym number) c.in_ok-edited.ensures c.in_ok-changes.ensures.ascending
-    (rw c.into_vec.ensures.moved (rw c.left-roster.ensures at c.in_ok-changes.ensures.same)) c.in_ok-gone.ensures.touched c.in_ok-come.ensures.touched label (spent_both _ _ _ _ _ c.in_ok-gone.ensures.spent c.in_ok-come.ensures.spent)
+    (rw c.left-roster.ensures at c.in_ok-changes.ensures.same) c.in_ok-gone.ensures.touched c.in_ok-come.ensures.touched label (spent_both _ _ _ _ _ c.in_ok-gone.ensures.spent c.in_ok-come.ensures.spent)

@@ -28,6 +28,7 @@ returns g c =
     let its : c.in_ok-copy.field-0 ≡ id = c.in_ok-copy.ensures ∙ sym same in
     let is : edited ≡ edited_change id (Some (ranged r)) None =
     change_same edited (edited_change id (Some (ranged r)) None) its (ap (λ (x : Span). Some x) (span_same r c.span_of.result c.span_of.ensures.min c.span_of.ensures.until)) refl in
-    out_plan rows at id c.into_vec.result.items c.in_ok-changes.changes c.in_ok-evaluated.evaluated c.requires.settled lt (rw same c.place_of_id-at.ensures.here) (rw same c.requires.live) (rw c.into_vec.ensures.moved c.in_ok-evaluated.ensures.after)
+    out_plan rows at id c.pass_out.new.moves c.in_ok-changes.changes c.in_ok-evaluated.evaluated c.requires.settled lt (rw same c.place_of_id-at.ensures.here) (rw same c.requires.live) c.in_ok-evaluated.ensures.after
+    c.in_ok-moved.moved.items (record { same = rw c.left-roster.ensures at c.in_ok-moved.ensures.rows; new = rw c.left-roster.ensures at c.in_ok-moved.ensures.new })
     r edited c.args.id.now _ _ (at, lt, c.row.ensures.row r) (ap (λ (t : Row). t.label.order.id) (sym (c.row.ensures.row r)) ∙ c.place_of_id-at.ensures.here r ∙ sym same) is c.in_ok-changes.ensures.ascending
-    (rw c.into_vec.ensures.moved (rw c.left-roster.ensures at c.in_ok-changes.ensures.same)) c.in_ok-evaluated.ensures.touched same c.in_ok-evaluated.ensures.spent
+    (rw c.left-roster.ensures at c.in_ok-changes.ensures.same) c.in_ok-evaluated.ensures.touched same c.in_ok-evaluated.ensures.spent

@@ -2,7 +2,7 @@ use Rattle.std.proofs.Common.{ℕ, ◌≡◌, ◌+◌, ◌-◌, ◌≤◌, List,
 use Rattle.std.specs.Prelude.{IsTrue, if◌then◌else◌}
 use Rattle.ml_store.specs.Rows.{number_at, labels_in}
 use Rattle.ml_store.specs.declared.row.Row.{Row}
-use Rattle.ml_repair.specs.declared.edit.Moved.{Moved}
+use Rattle.ml_store.specs.declared.moved.Moved.{Moved}
 use Rattle.ml_cone.specs.Slots.{ends}
 use Rattle.ml_cone.specs.declared.slot.Slot.{Slot}
 use Rattle.ml_repair.specs.Kept.{AreChanged}

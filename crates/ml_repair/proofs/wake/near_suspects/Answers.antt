@@ -5,7 +5,7 @@ pub loop-band-init : goal.loop-band-init
 loop-band-init c = (
   c.band-band.result,
   rw c.min.ensures at c.band-band.ensures.band,
-  rw c.new-places.ensures (meeting_none c.args.roster.now c.args.label.now c.band-band.result),
+  rw c.in_ok-places.ensures (meeting_none c.args.roster.now c.args.label.now c.band-band.result),
 )
 
 pub loop-band-preserved : goal.loop-band-preserved

@@ -3,7 +3,7 @@ use Rattle.std.specs.Prelude.{All, ◌==◌}
 use Rattle.std.proofs.lemmas.Bool.Decides.{nat_tests}
 use Rattle.ml_cone.specs.declared.slot.Slot.{Slot}
 use Rattle.ml_store.specs.Rows.{AreDifferent}
-use Rattle.ml_repair.specs.declared.edit.Moved.{Moved}
+use Rattle.ml_store.specs.declared.moved.Moved.{Moved}
 use Rattle.ml_repair.specs.Moves.{IsFoundAt, IsColumn, AreMoves, numbers_of}
 use Rattle.ml_repair.proofs.Moving.{none_there, one_there, moves_set, slots_set, few_moves, low_more, differ_more, column_more, slots_more}
 use Rattle.ml_repair.proofs.moves.Moves.put.Goals as goal

@@ -1,5 +1,5 @@
 use Rattle.std.proofs.Common.{◌∙◌, ◌-◌, sym, ap, arith}
-use Rattle.ml_repair.specs.declared.edit.Moved.{Moved}
+use Rattle.ml_store.specs.declared.moved.Moved.{Moved}
 use Rattle.ml_repair.specs.Moves.{IsFoundAt}
 use Rattle.ml_repair.proofs.Moving.{none_there, one_there, slot_kept, slot_new}
 use Rattle.ml_repair.proofs.moves.Moves.slot.Goals as goal

@@ -1,9 +1,0 @@
-use Rattle.std.proofs.Common.{◌∙◌, sym}
-use Rattle.ml_repair.proofs.Carries.{moved_fresh, moved_at_row}
-use Rattle.ml_repair.proofs.carry.write_one.Goals as goal
-
-pub returns-in-Some-clause-rows : goal.returns-in-Some-clause-rows
-returns-in-Some-clause-rows c = c.set_slot.ensures.rows ∙ sym (moved_at_row c.args.m.now c.args.store.now.rows c.in-Some.at c.len-many.ensures.differ c.in-Some.ensures)
-
-pub returns-in-None-clause-rows : goal.returns-in-None-clause-rows
-returns-in-None-clause-rows c = sym (moved_fresh c.args.m.now c.args.store.now.rows c.in-None.ensures)
