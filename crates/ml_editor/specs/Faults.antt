@@ -18,7 +18,7 @@ use Rattle.ml_editor.specs.declared.edit.Edit.TheVariants.{Add, Replace, Remove,
 use Rattle.ml_editor.specs.declared.fault.EditFault.{EditFault}
 use Rattle.ml_editor.specs.declared.fault.EditFault.TheVariants.{RevMoved, Geo, Style as BadStyle, Duplicate, Unknown, Full, RevEnd, Memory}
 
--- what is asked: that the feature that a body is comes in, or takes the place of that with its id; that the feature with an id goes; or that the style that a body is takes the place of the style
+-- what is asked: a body gives a feature to add, or one to put in place of that with its id; an id names the feature to remove; or a body gives the new style
 pub data Wish : Type 0 where
   adds : List ℕ → Wish
   replaces : List ℕ → Wish
