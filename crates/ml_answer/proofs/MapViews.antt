@@ -1,5 +1,6 @@
 -- The labels that a view shows, one after another.
-use Rattle.std.proofs.Common.{◌≡◌, ℕ, ◌+◌, ◌<◌, List, [], ◌∷◌, ◌++◌, length, map, take, get_or, All, Contains, refl, sym, ap, ◌∙◌, subst, append_assoc, append-nil, flat_map}
+use Rattle.std.proofs.Common.{◌≡◌, ℕ, ◌+◌, ◌<◌, List, [], ◌∷◌, ◌++◌, length, map, take, get_or}
+use Rattle.std.proofs.Common.{All, Contains, refl, sym, ap, ◌∙◌, subst, append_assoc, append-nil, flat_map}
 use Rattle.std.proofs.lemmas.List.{take_more, map-append}
 use Rattle.std.proofs.lemmas.List.Elements.{All-append, All-cons, All-nil}
 use Rattle.std.proofs.lemmas.List.Concat.{flat_map-cons}
@@ -17,11 +18,14 @@ pub record HaveNumbers (rows : List Row) (numbers : List ℕ) (shown : List Row)
   pub among : All (Contains rows) shown
   pub numbers_are : numbers_in shown ≡ numbers
 
+-- no rows have no numbers, where a loop over numbers begins
 pub no_numbers : (rows : List Row) → HaveNumbers rows [] []
 no_numbers rows = record { among = All-nil (Contains rows); numbers_are = refl }
 
--- one more of them
-pub one_more_number : (rows : List Row) (numbers : List ℕ) (i : ℕ) (shown : List Row) (row : Row) → i < length numbers → HaveNumbers rows (take i numbers) shown → Contains rows row → row.number ≡ get_or numbers i 0 → HaveNumbers rows (take (i + 1) numbers) (shown ++ row ∷ [])
+-- one more row with its number, as the loop goes on
+pub one_more_number : (rows : List Row) (numbers : List ℕ) (i : ℕ) (shown : List Row) (row : Row)
+    → i < length numbers → HaveNumbers rows (take i numbers) shown → Contains rows row → row.number ≡ get_or numbers i 0
+    → HaveNumbers rows (take (i + 1) numbers) (shown ++ row ∷ [])
 one_more_number rows numbers i shown row within so_far here number = record {
   among = All-append (Contains rows) shown (row ∷ []) so_far.among (All-cons (Contains rows) row [] here (All-nil (Contains rows)));
   numbers_are =
@@ -36,14 +40,17 @@ with_more : (state : JsonViewState) (labels : List Shown) (one : Shown) → with
 with_more state [] one = refl
 with_more state (x ∷ labels) one = with_more (with_label state x.label x.until) labels one
 
-pub json_more : (old first : JsonViewState) (shown : List Row) (row : Row) → old ≡ with_labels first (map shown_of shown) → with_label old row.label row.slot.until ≡ with_labels first (map shown_of (shown ++ row ∷ []))
+-- a view of the rows so far, to which the next row's label is added, is the view of one row more
+pub json_more : (old first : JsonViewState) (shown : List Row) (row : Row) → old ≡ with_labels first (map shown_of shown)
+    → with_label old row.label row.slot.until ≡ with_labels first (map shown_of (shown ++ row ∷ []))
 json_more old first shown row is =
     ap (λ s. with_label s row.label row.slot.until) is
     ∙ sym (with_more first (map shown_of shown) (shown_of row))
     ∙ ap (with_labels first) (sym (map-append shown_of shown (row ∷ [])))
 
 -- a drawing with the lines of one more label at its end
-pub svg_more : (view : View) (old head : List ℕ) (shown : List Row) (row : Row) → old ≡ head ++ flat_map (label_lines view) (labels_in shown) → old ++ label_lines view row.label ≡ head ++ flat_map (label_lines view) (labels_in (shown ++ row ∷ []))
+pub svg_more : (view : View) (old head : List ℕ) (shown : List Row) (row : Row) → old ≡ head ++ flat_map (label_lines view) (labels_in shown)
+    → old ++ label_lines view row.label ≡ head ++ flat_map (label_lines view) (labels_in (shown ++ row ∷ []))
 svg_more view old head shown row is =
     ap (λ xs. xs ++ label_lines view row.label) is
     ∙ append_assoc head (flat_map (label_lines view) (labels_in shown)) (label_lines view row.label)
@@ -59,7 +66,10 @@ drawn svg label = record { view = svg.view; text = svg.text ++ label_lines svg.v
 abbrev drawing : View → List ℕ → SvgViewState
 drawing view text = record { view = view; text = text }
 
-pub svg_step : (old new : SvgViewState) (view : View) (head : List ℕ) (shown : List Row) (row : Row) → new ≡ drawn old row.label → old ≡ drawing view (head ++ flat_map (label_lines view) (labels_in shown)) → new ≡ drawing view (head ++ flat_map (label_lines view) (labels_in (shown ++ row ∷ [])))
+-- a drawing of the rows so far, to which the next row's label is added, is the drawing of one row more
+pub svg_step : (old new : SvgViewState) (view : View) (head : List ℕ) (shown : List Row) (row : Row) → new ≡ drawn old row.label
+    → old ≡ drawing view (head ++ flat_map (label_lines view) (labels_in shown))
+    → new ≡ drawing view (head ++ flat_map (label_lines view) (labels_in (shown ++ row ∷ [])))
 svg_step old new view head shown row is so_far =
     is
     ∙ ap (λ svg. drawn svg row.label) so_far

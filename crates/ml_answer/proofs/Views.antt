@@ -10,7 +10,8 @@ use Rattle.ml_ratio.specs.declared.ratio.Ratio.{Ratio}
 use Rattle.ml_answer.specs.View.{Shown, JsonViewState, shown_data, view_text, no_label, with_label, with_labels, view_end}
 
 -- the labels and the end of their list are the items of a list
-labels_are_items : (labels : List Shown) (state : JsonViewState) (rest : List ℕ) → (with_labels state labels).text ++ (93 ∷ rest) ≡ state.text ++ (items_text state.later (items_of (map (λ shown. shown_data shown.label shown.until) labels)) ++ rest)
+labels_are_items : (labels : List Shown) (state : JsonViewState) (rest : List ℕ)
+    → (with_labels state labels).text ++ (93 ∷ rest) ≡ state.text ++ (items_text state.later (items_of (map (λ shown. shown_data shown.label shown.until) labels)) ++ rest)
 labels_are_items [] state rest = refl
 labels_are_items (shown ∷ labels) state rest =
     labels_are_items labels (with_label state shown.label shown.until) rest ∙ simp append_assoc

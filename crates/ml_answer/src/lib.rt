@@ -8,6 +8,7 @@
 //! - [`edit`]: the JSON texts of an edit ([`edit_json`]) and of a revision ([`rev_json`]);
 //! - [`fault`]: the JSON text of why an edit is refused ([`fault_json`]);
 //! - `values`: the small values that others are made of; `compact`: a value as compact text;
+//! - `push`: commas, numbers, fractions and strings, put behind a text that is there already;
 //! - [`svg`]: the SVG text of a view, fed label by label ([`SvgView`]); `drawn`: the lines of a label,
 //!   `place`: where its boxes lie, `escape`: text as XML has it;
 //! - [`px`]: hundredths of a pixel as text ([`write_px`]).

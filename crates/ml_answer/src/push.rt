@@ -1,24 +1,53 @@
 //! Values as compact text, put behind a text that is there already.
-ghost use Rattle.std.specs.Prelude.{◌≡◌, ◌∷◌, ◌++◌, [], length, IfOk, OnOk};
+ghost use Rattle.std.specs.Prelude.{◌≡◌, ◌<◌, ◌≤◌, ◌∷◌, ◌++◌, [], length, unsigned_abs, IfOk, OnOk};
 ghost use Rattle.std.specs.Bool.{OnTrue};
 ghost use Rattle.std.specs.Fmt.{decimal};
 ghost use Rattle.json.specs.Print.{escape};
 ghost use Rattle.json.specs.Written.{PlainBetween};
 ghost use Rattle.serde_json.specs.Data.{number, string};
 ghost use Rattle.serde_json.specs.Find.{of_integer};
-ghost use Rattle.serde_json.specs.Written.{compact_text};
+ghost use Rattle.serde_json.specs.Written.{comma_if, compact_text};
 ghost use Rattle.ml_ratio.specs.Ratio.{ratio_text};
+ghost use Rattle.ml_answer.specs.Px.{sign_text};
 
 use crate::compact::written;
 use itoa::Buffer;
 use ml_ratio::Ratio;
 use std::alloc::{AllocError, Global};
 
+// Adds a comma where something stands before what comes next.
+pub(crate) fn push_comma(text: &mut Vec<u8>, later: bool) -> Result<(), AllocError>
+    ensures { OnOk result (text.new.items ≡ text.old.items ++ comma_if later) }
+{
+    if later {
+        text.push(b',')?;
+    }
+    Ok(())
+}
+
 // Adds a whole number.
 pub(crate) fn push_number(text: &mut Vec<u8>, value: i64) -> Result<(), AllocError>
     ensures { OnOk result (text.new.items ≡ text.old.items ++ compact_text (number (of_integer value))) }
 {
-    text.extend_from_slice(Buffer::new().format(value).as_bytes())
+    push_signed(text, value)
+}
+
+// The same, in two parts.
+fn push_signed(text: &mut Vec<u8>, value: i64) -> Result<(), AllocError>
+    ensures { OnOk result (text.new.items ≡ text.old.items ++ (sign_text value ++ decimal (unsigned_abs value))) }
+{
+    push_sign(text, value)?;
+    push_digits(text, value.unsigned_abs())
+}
+
+// Adds a minus before what is below 0.
+fn push_sign(text: &mut Vec<u8>, value: i64) -> Result<(), AllocError>
+    ensures { OnOk result (text.new.items ≡ text.old.items ++ sign_text value) }
+{
+    if value < 0 {
+        text.push(b'-')?;
+    }
+    Ok(())
 }
 
 // Whether none of the bytes has to be escaped.
@@ -65,7 +94,7 @@ fn push_quoted(text: &mut Vec<u8>, value: &str) -> Result<(), AllocError>
 {
     text.push(b'"')?;
     text.extend_from_slice(value.as_bytes())?;
-    text.extend_from_slice(b"\"")
+    push_byte(text, b'"')
 }
 
 // Adds a string as the library writes it.
@@ -96,7 +125,7 @@ fn push_quoted_ratio(text: &mut Vec<u8>, ratio: Ratio) -> Result<(), AllocError>
 {
     text.push(b'"')?;
     push_parts(text, ratio)?;
-    text.extend_from_slice(b"\"")
+    push_byte(text, b'"')
 }
 
 // Adds a fraction's parts.
@@ -108,9 +137,48 @@ fn push_parts(text: &mut Vec<u8>, ratio: Ratio) -> Result<(), AllocError>
     push_digits(text, ratio.den())
 }
 
-// Adds a number's digits.
-fn push_digits(text: &mut Vec<u8>, value: u64) -> Result<(), AllocError>
+// Adds a number's digits. Most sides of boxes and most denominators have one or two, and need no buffer.
+pub(crate) fn push_digits(text: &mut Vec<u8>, value: u64) -> Result<(), AllocError>
+    ensures { OnOk result (text.new.items ≡ text.old.items ++ decimal value) }
+{
+    if value < 10 {
+        push_digit(text, value)
+    } else if value < 100 {
+        push_two(text, value)
+    } else {
+        push_many(text, value)
+    }
+}
+
+// Adds the digit of a number that has one.
+fn push_digit(text: &mut Vec<u8>, value: u64) -> Result<(), AllocError>
+    requires { value < 10 }
+    ensures { OnOk result (text.new.items ≡ text.old.items ++ decimal value) }
+{
+    push_byte(text, b'0' + value as u8)
+}
+
+// Adds the digits of a number that has two.
+fn push_two(text: &mut Vec<u8>, value: u64) -> Result<(), AllocError>
+    requires least { 10 ≤ value }
+    requires most { value < 100 }
+    ensures { OnOk result (text.new.items ≡ text.old.items ++ decimal value) }
+{
+    push_digit(text, value / 10)?;
+    push_digit(text, value % 10)
+}
+
+// Adds the digits of a number that may have more.
+fn push_many(text: &mut Vec<u8>, value: u64) -> Result<(), AllocError>
     ensures { OnOk result (text.new.items ≡ text.old.items ++ decimal value) }
 {
     text.extend_from_slice(Buffer::new().format(value).as_bytes())
+}
+
+// Adds a byte.
+pub(crate) fn push_byte(text: &mut Vec<u8>, byte: u8) -> Result<(), AllocError>
+    ensures { OnOk result (text.new.items ≡ text.old.items ++ byte ∷ []) }
+{
+    text.push(byte)?;
+    Ok(())
 }

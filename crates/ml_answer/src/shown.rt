@@ -4,10 +4,11 @@
 //! neither a tree of values nor a text of the label's own is made.
 ghost use Rattle.std.specs.Prelude.{◌≡◌, ◌++◌, false, OnOk};
 ghost use Rattle.serde_json.specs.Written.{comma_if};
-ghost use Rattle.ml_answer.specs.Layout.{pair_text, sides_text, box_text, boxes_text, anchor_text, names_text, pieces_text, until_text, label_text};
+ghost use Rattle.ml_answer.specs.Layout.{pair_text, sides_text, box_text, boxes_text, anchor_text};
+ghost use Rattle.ml_answer.specs.Layout.{names_text, pieces_text, until_text, label_text};
 ghost use Rattle.ml_answer.specs.View.{shown_text};
 
-use crate::push::{push_number, push_ratio, push_string};
+use crate::push::{push_byte, push_comma, push_number, push_ratio, push_string};
 use crate::values::text_of;
 use ml_cone::{BoxPx, Label};
 use ml_ratio::Ratio;
@@ -64,16 +65,14 @@ fn push_boxes(text: &mut Vec<u8>, boxes: &[BoxPx]) -> Result<(), AllocError>
         push_next(text, later, p)?;
         later = true;
     }
-    text.extend_from_slice(b"]")
+    push_byte(text, b']')
 }
 
 // Adds a box, behind a comma where others stand before it.
 fn push_next(text: &mut Vec<u8>, later: bool, p: &BoxPx) -> Result<(), AllocError>
     ensures { OnOk result (text.new.items ≡ text.old.items ++ (comma_if later ++ box_text p.now)) }
 {
-    if later {
-        text.push(b',')?;
-    }
+    push_comma(text, later)?;
     push_box(text, p)
 }
 
@@ -83,7 +82,7 @@ fn push_box(text: &mut Vec<u8>, p: &BoxPx) -> Result<(), AllocError>
 {
     text.push(b'[')?;
     push_sides(text, p)?;
-    text.extend_from_slice(b"]")
+    push_byte(text, b']')
 }
 
 // Adds the four sides of a box.
@@ -133,5 +132,5 @@ fn push_until(text: &mut Vec<u8>, until: Ratio) -> Result<(), AllocError>
 {
     text.extend_from_slice(b",\"until\":")?;
     push_ratio(text, until)?;
-    text.extend_from_slice(b"}")
+    push_byte(text, b'}')
 }

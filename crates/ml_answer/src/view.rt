@@ -4,7 +4,7 @@ ghost use Rattle.serde_json.specs.Written.{comma_if};
 ghost use Rattle.ml_ratio.specs.declared.ratio.Ratio.{Ratio};
 ghost use Rattle.ml_answer.specs.View.{Shown, shown_text, view_text, no_label, with_label, with_labels, view_end};
 
-use crate::push::push_ratio;
+use crate::push::{push_comma, push_ratio};
 use crate::shown::push_label;
 use ml_cone::Label;
 use ml_ratio::{Ratio, Seq};
@@ -103,9 +103,7 @@ fn push_listed(
 ) -> Result<(), AllocError>
     ensures { OnOk result (all.new.items ≡ all.old.items ++ (comma_if later ++ shown_text label.now until)) }
 {
-    if later {
-        all.push(b',')?;
-    }
+    push_comma(all, later)?;
     push_label(all, label, until)
 }
 

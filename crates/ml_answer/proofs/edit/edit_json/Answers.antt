@@ -1,7 +1,9 @@
-use Rattle.std.proofs.Common.{◌∙◌, ap}
-use Rattle.serde_json.specs.Written.{has_float}
-use Rattle.ml_answer.proofs.NoFloats.{edit_no_float}
+use Rattle.std.proofs.Common.{rules, ◌≡◌, ◌∙◌}
+use Rattle.ml_answer.specs.Layout.{edit_layout}
+use Rattle.ml_answer.proofs.Layouts.{edit_is}
 use Rattle.ml_answer.proofs.edit.edit_json.Goals as goal
 
-pub compact-requires : goal.compact-requires
-compact-requires c = ap has_float c.in_ok-value.ensures ∙ edit_no_float c.args.rev c.as_slice.result.now
+pub returns : goal.returns
+returns c =
+    let laid : c.of_vec.result ≡ edit_layout c.args.rev c.args.changes.now = c.of_vec.ensures ∙ search rules in
+    laid ∙ edit_is c.args.rev c.args.changes.now

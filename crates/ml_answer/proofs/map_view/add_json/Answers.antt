@@ -11,6 +11,8 @@ returns c =
       live.0,
       live.1,
       live.2,
-      is ∙ ap (λ l. with_label c.args.json.now l c.slot_at.result.until) (c.label_at.ensures live.0 live.1 live.2) ∙ ap (λ s. with_label c.args.json.now live.0.label s.until) (c.slot_at.ensures.slot live.0 live.1 live.2),
+      is
+          ∙ ap (λ l. with_label c.args.json.now l c.slot_at.result.until) (c.label_at.ensures live.0 live.1 live.2)
+          ∙ ap (λ s. with_label c.args.json.now live.0.label s.until) (c.slot_at.ensures.slot live.0 live.1 live.2),
     ))
     c.put.ensures

@@ -12,7 +12,8 @@ returns c =
     let narrow : FitsSigned w32 c.args.p.now.b = search rules in
     let wide : FitsSigned w64 c.args.p.now.b = omega (arith, ints) in
     let half : to_z w64 (c.args.view.now.h / 2) ≡ pos (c.args.view.now.h / 2) = to_z_pos w64 (c.args.view.now.h / 2) (omega (arith, view.low_h)) in
-    let few : unsigned_abs (pos (c.args.view.now.h / 2) -ℤ c.args.p.now.b) ≤ 2 ^ 32 = size_le (pos (c.args.view.now.h / 2) -ℤ c.args.p.now.b) (2 ^ 32) (omega (arith, ints, view.low_h)) (omega (arith, ints, view.low_h)) in
+    let few : unsigned_abs (pos (c.args.view.now.h / 2) -ℤ c.args.p.now.b) ≤ 2 ^ 32 =
+    size_le (pos (c.args.view.now.h / 2) -ℤ c.args.p.now.b) (2 ^ 32) (omega (arith, ints, view.low_h)) (omega (arith, ints, view.low_h)) in
     let pixels : FitsSigned w64 (pos (c.args.view.now.h / 2) -ℤ c.args.p.now.b) = omega (arith, ints, view.low_h) in
     let scaled = pixels_fit (pos (c.args.view.now.h / 2) -ℤ c.args.p.now.b) few in
     let near = apart c.args.view.now.cy c.args.label.now.y c.args.view.now.world_y c.args.label.now.world_y in

@@ -12,7 +12,8 @@ returns c =
     let narrow : FitsSigned w32 c.args.p.now.l = search rules in
     let wide : FitsSigned w64 c.args.p.now.l = omega (arith, ints) in
     let half : to_z w64 (c.args.view.now.w / 2) ≡ pos (c.args.view.now.w / 2) = to_z_pos w64 (c.args.view.now.w / 2) (omega (arith, view.low_w)) in
-    let few : unsigned_abs (pos (c.args.view.now.w / 2) +ℤ c.args.p.now.l) ≤ 2 ^ 32 = size_le (pos (c.args.view.now.w / 2) +ℤ c.args.p.now.l) (2 ^ 32) (omega (arith, ints, view.low_w)) (omega (arith, ints, view.low_w)) in
+    let few : unsigned_abs (pos (c.args.view.now.w / 2) +ℤ c.args.p.now.l) ≤ 2 ^ 32 =
+    size_le (pos (c.args.view.now.w / 2) +ℤ c.args.p.now.l) (2 ^ 32) (omega (arith, ints, view.low_w)) (omega (arith, ints, view.low_w)) in
     let pixels : FitsSigned w64 (pos (c.args.view.now.w / 2) +ℤ c.args.p.now.l) = omega (arith, ints, view.low_w) in
     let scaled = pixels_fit (pos (c.args.view.now.w / 2) +ℤ c.args.p.now.l) few in
     let near = apart c.args.label.now.x c.args.view.now.cx c.args.label.now.world_x c.args.view.now.world_x in
