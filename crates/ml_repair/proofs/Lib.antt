@@ -28,7 +28,6 @@ mod Plans
 mod Carries
 mod Reading
 mod Seeing
-mod Ordered
 mod Building
 mod Deciding
 mod UnchangedRows

@@ -1,11 +1,9 @@
 //! How an engine is built: the choice is made first, and then the store at once of the labels with their slots.
-ghost use Rattle.std.specs.Prelude.{ℕ, ◌≡◌, ◌≢◌, ◌+◌, ◌<◌, ◌≤◌, ◌↔◌, ◌++◌, ◌∷◌, [], List, length, slice_index_or, Contains, IsTrue, IfOk, OnOk};
-ghost use Rattle.std.specs.declared.cmp.Ordering.TheVariants.{Less};
+ghost use Rattle.std.specs.Prelude.{ℕ, ◌≡◌, ◌≢◌, ◌<◌, ◌≤◌, ◌↔◌, ◌++◌, ◌∷◌, [], List, length, Contains, IfOk, OnOk};
 ghost use Rattle.std.specs.List.{AllPairs};
 ghost use Rattle.std.specs.List.Sorted.{IsPermutation};
 ghost use Rattle.ml_ratio.specs.Limits.{most_labels};
 ghost use Rattle.ml_cone.specs.Label.{IsLabelList};
-ghost use Rattle.ml_cone.specs.Order.{order_cmp};
 ghost use Rattle.ml_cone.specs.declared.label.Label.{Label};
 ghost use Rattle.ml_cone.specs.declared.slot.Slot.{Slot};
 ghost use Rattle.ml_store.specs.Boxes.{unboxed};
@@ -19,32 +17,15 @@ use ml_pass::assign;
 use ml_ratio::Seq;
 use ml_store::{Row, Store};
 use std::alloc::{AllocError, Global};
-use std::cmp::Ordering;
 
-// Whether each of the labels stands before the next in priority order.
-fn are_in_order(labels: &[Label]) -> bool
-    ensures { IsTrue result → (i : ℕ) (d : Label) → i + 1 < length labels.now →
-        order_cmp (slice_index_or labels.now i d).order (slice_index_or labels.now (i + 1) d).order ≡ Less }
-{
-    for i in 1..labels.len() {
-        match labels[i - 1].order().cmp(labels[i].order()) {
-            Ordering::Less => {}
-            _ => return false,
-        }
-    }
-    true
-}
-
-// The same labels in priority order. Those of a map come so.
+// The same labels in priority order.
 fn in_priority_order(labels: Seq<Label>) -> Vec<Label>
     requires differ { AllPairs (λ one other. one.order.id ≢ other.order.id) labels }
     ensures same { IsPermutation labels result.items }
     ensures ordered { IsLabelList result.items }
 {
     let mut ordered = labels.into_vec();
-    if !are_in_order(&ordered) {
-        ordered.sort_unstable_by(|one, other| one.order().cmp(other.order()));
-    }
+    ordered.sort_unstable_by(|one, other| one.order().cmp(other.order()));
     ordered
 }
 

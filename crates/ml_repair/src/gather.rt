@@ -190,8 +190,7 @@ fn gather_all(alloc: Global, sought: &Sought<'_>) -> Result<Vec<u32>, AllocError
     let mut band = low.min().band();
     while band <= bound.band() && band < 28 {
         let mut found = no_places(alloc)?;
-        let first = sought.likely.max(band + 3);
-        let upto = bound.band().min(first).min(27);
+        let upto = bound.band().min(band + 3).min(27);
         band = sought.roster.across(alloc, low, band, upto, &mut found)?;
         bound = sift(sought, found.as_slice(), bound, &mut places)?;
     }

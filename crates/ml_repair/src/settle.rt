@@ -6,7 +6,7 @@ ghost use Rattle.ml_cone.specs.declared.label.Label.{Label};
 ghost use Rattle.ml_store.specs.Rows.{number_at, labels_in};
 ghost use Rattle.ml_repair.specs.Repair.{Stands, AreLeaving, present_slots};
 
-use crate::chosen::{Chosen, present_slot};
+use crate::chosen::Chosen;
 use crate::gather::gather;
 use crate::moves::Moves;
 use crate::roster::Roster;
@@ -54,7 +54,6 @@ pub fn settle<L: Ledger>(
         low,
         edited,
         many,
-        likely: present_slot(roster, moves, i).until.band(),
         place: i,
     };
     let places = gather(alloc, &sought)?;

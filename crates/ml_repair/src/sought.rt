@@ -11,8 +11,7 @@ pub struct Edited {
 }
 
 /// A label whose slot is sought: the label and its place, among which labels, with which new slots, for
-/// which edit, whether many labels have other ends by these, and the band in which its present end lies: the new
-/// one mostly lies near it. The last two are told for the sake of time alone.
+/// which edit, and whether many labels have other ends by these.
 #[derive(Clone, Copy)]
 pub struct Sought<'a> {
     pub roster: &'a Roster<'a>,
@@ -20,6 +19,5 @@ pub struct Sought<'a> {
     pub low: &'a Label,
     pub edited: Edited,
     pub many: bool,
-    pub likely: u8,
     pub place: usize,
 }

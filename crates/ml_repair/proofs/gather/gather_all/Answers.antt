@@ -19,7 +19,6 @@ across-requires-clause-from c =
     let test = c.loop-band-test.true in
     let low = c.if-band-lt28.true in
     let least = c.min-in-loop-band.ensures in
-    let first = c.max-first.ensures in
     let upto = c.min-upto.ensures in
     omega arith
 
