@@ -1,15 +1,16 @@
 -- What was told and spent over a whole connection.
-use Rattle.std.proofs.Common.{◌≡◌, ℕ, ◌+◌, List, [], ◌∷◌, ◌++◌, flat_map, sum_by, refl, sym, ap, subst, ◌∙◌, arith, inl, inr, Option}
+use Rattle.std.proofs.Common.{◌≡◌, ℕ, ◌+◌, List, [], ◌∷◌, ◌++◌, flat_map, sum_by, refl, sym, ap, subst, ◌∙◌, arith, inl, inr}
 use Rattle.std.proofs.lemmas.List.Sums.{sum_by-cons}
+use Rattle.ml_io.specs.Calls.{Put, Taken}
 use Rattle.ml_watch.specs.Hearing.{Hearing, AllHear}
 use Rattle.ml_watch.specs.declared.change.Change.{Change}
 use Rattle.ml_request.specs.declared.request.Event.{Event}
 use Rattle.ml_http.specs.declared.connection_end.ConnEnd.{ConnEnd}
 use Rattle.ml_http.specs.declared.connection_end.ConnEnd.TheVariants.{Shut, Starved, Closed, ReadFault, WriteFault}
 use Rattle.ml_http.specs.Run.{Run}
-use Rattle.ml_http.specs.Connection.{IsServed, IsLeft}
+use Rattle.ml_http.specs.Connection.{IsServed, IsLeft, position}
 use Rattle.ml_http.specs.Step.{LinkAnswer, MapStep}
-use Rattle.ml_http.specs.Link.{LinkState, LinkStep, LinkIdles, IsSpent, IsLinkServed, AreTexts, HoldsTexts}
+use Rattle.ml_http.specs.Link.{LinkState, LinkStep, LinkIdles, link_machine, most_requests, IsSpent, IsLinkServed, AreTexts, HoldsTexts}
 use Rattle.ml_http.specs.TileWork.{IsDoneTo}
 use Rattle.ml_editor.specs.State.{State}
 use Rattle.ml_tile.specs.Cache.{Cache, HeldTile}
@@ -53,8 +54,8 @@ spent_left WriteFault old last new answers left is = tt
 -- over a whole connection the changes of all answers were told, and their steps spent
 pub link_served : {W : Type 0} (hearing : W → Hearing) → ((ws : List W) → AllHear hearing [] ws ws) →
     ((xs ys : List Change) (a b c : List W) → AllHear hearing xs a b → AllHear hearing ys b c → AllHear hearing (xs ++ ys) a c) →
-    (old new : LinkState W) (a b u w : Option (List ℕ)) (end : ConnEnd) → IsServed (LinkStep hearing) LinkIdles (λ x. x.reply) 1000 [] old new a b u w end → IsLinkServed hearing old new a b u w end
-link_served hearing nothing twice old new a b u w end served = record {
+    (old new : LinkState W) (input : Taken) (out : Put) (end : ConnEnd) → IsServed (link_machine hearing) (position most_requests [] old) new input out end → IsLinkServed hearing old new input out end
+link_served hearing nothing twice old new input out end served = record {
   served = served;
   hears = rw (crowd_left end served.last new served.leaves) (hears_run hearing nothing twice old served.last served.exchange.events served.exchange.answers served.run);
   spent = spent_left end old.spent served.last new served.exchange.answers served.leaves (spent_run hearing old served.last served.exchange.events served.exchange.answers served.run);
@@ -90,5 +91,6 @@ module _ (right : (s t : State) (event : Event) (answer : LinkAnswer) (old new :
   texts_left WriteFault last new (inl left) texts = subst HoldsTexts (sym left) texts
   texts_left WriteFault last new (inr left) texts = idle_texts last new left texts
 
-  pub texts_served : {W : Type 0} (hearing : W → Hearing) (old new : LinkState W) (a b u w : Option (List ℕ)) (end : ConnEnd) → IsServed (LinkStep hearing) LinkIdles (λ x. x.reply) 1000 [] old new a b u w end → HoldsTexts old → HoldsTexts new
-  texts_served hearing old new a b u w end served texts = texts_left end served.last new served.leaves (texts_run hearing old served.last served.exchange.events served.exchange.answers served.run texts)
+  pub texts_served : {W : Type 0} (hearing : W → Hearing) (old new : LinkState W) (input : Taken) (out : Put) (end : ConnEnd) →
+      IsServed (link_machine hearing) (position most_requests [] old) new input out end → HoldsTexts old → HoldsTexts new
+  texts_served hearing old new input out end served texts = texts_left end served.last new served.leaves (texts_run hearing old served.last served.exchange.events served.exchange.answers served.run texts)

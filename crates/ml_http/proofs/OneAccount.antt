@@ -2,21 +2,23 @@
 use Rattle.std.proofs.Common.{◌≡◌, ℕ, ◌≤◌, ◌<◌, Bool, List, [], ◌∷◌, ◌++◌, ◌+◌, length, map, flat_map, Option, Some, None, Result, Ok, Err, inl, inr, refl, sym, ap, subst, ◌∙◌, arith}
 use Rattle.std.specs.Prelude.{MatchOption, codes, fold, sum_by, ◌⊎◌}
 use Rattle.std.proofs.lemmas.List.{append-nil, length-append}
+use Rattle.ml_io.specs.Calls.{Put, Taken}
 use Rattle.ml_io.specs.Causes.{Appends, IsCut}
+use Rattle.ml_io.specs.Takes.{Draws}
 use Rattle.ml_watch.specs.declared.change.Change.{Change}
 use Rattle.ml_watch.specs.Hearing.{Hearing}
 use Rattle.ml_editor.specs.Faults.{Wish, IsGranted}
 use Rattle.ml_editor.specs.State.{State, IsState, step}
 use Rattle.ml_editor.specs.declared.edit.Edit.{Edit}
-use Rattle.ml_http.specs.Connection.{IsLeft, memory_reply}
-use Rattle.ml_http.specs.Link.{LinkState, LinkStep, LinkIdles, IsLinkServed}
-use Rattle.ml_http.specs.Once.{AreLikeStates, AreOneAnswer, EndsWell}
+use Rattle.ml_http.specs.Connection.{IsLeft, brought, memory_reply}
+use Rattle.ml_http.specs.Link.{LinkState, LinkStep, LinkIdles, IsLinkServed, most_requests}
+use Rattle.ml_http.specs.Once.{Account, AreAccounts, AreLikeStates, AreOneAnswer, EndsWell}
 use Rattle.ml_http.specs.Owed.{AreReplies, BeginWith, IsBeginning}
 use Rattle.ml_request.specs.Request.{RequestParts}
 use Rattle.ml_http.specs.Routes.{path_of, query_of, route_of, query_pairs, named, revision_in}
 use Rattle.ml_http.specs.Run.{Run}
 use Rattle.ml_http.specs.Step.{LinkAnswer, Query, Stays, IsTileFor, IsEditAnswered, wish_in, IsEditReply, IsRouted, MapStep}
-use Rattle.ml_request.specs.Stream.{AreEvents}
+use Rattle.ml_request.specs.Stream.{AreEvents, AreFirstEvents}
 use Rattle.ml_http.specs.declared.connection_end.ConnEnd.{ConnEnd}
 use Rattle.ml_http.specs.declared.connection_end.ConnEnd.TheVariants.{Shut, Starved, Closed, ReadFault, WriteFault}
 use Rattle.ml_request.specs.declared.request.Event.{Event}
@@ -173,143 +175,162 @@ left_state {W} last new WriteFault (inl e) = ap (λ (s : LinkState W). s.map_sta
 left_state last new WriteFault (inr idle) = idle.map_state
 
 -- the run of a connection, as one of the map
-link_run : {W : Type 0} (hearing : W → Hearing) (u p : LinkState W) (source left written after : Option (List ℕ)) (end : ConnEnd) → (x : IsLinkServed hearing u p source left written after end)
-    → Run MapStep u.map_state x.served.exchange.events x.served.exchange.answers p.map_state
-link_run hearing u p source left written after end x =
+link_run : {W : Type 0} (hearing : W → Hearing) (u p : LinkState W) (input : Taken) (out : Put) (end : ConnEnd) → (x : IsLinkServed hearing u p input out end) → Run MapStep u.map_state x.served.exchange.events x.served.exchange.answers p.map_state
+link_run hearing u p input out end x =
     subst (λ (t : State). Run MapStep u.map_state x.served.exchange.events x.served.exchange.answers t) (sym (left_state x.served.last p end x.served.leaves))
     (map_run hearing x.served.exchange.events u x.served.last x.served.exchange.answers x.served.run)
 
-pub link_state : {W : Type 0} (reaches : Reaches) (hearing : W → Hearing) (u p : LinkState W) (source left written after : Option (List ℕ)) (end : ConnEnd) → IsState u.map_state → IsLinkServed hearing u p source left written after end → IsState p.map_state
-link_state reaches hearing u p source left written after end is x =
-    run_state reaches x.served.exchange.events u.map_state p.map_state x.served.exchange.answers is (link_run hearing u p source left written after end x)
+-- a connection leaves a state that can be reached
+pub link_state : {W : Type 0} (reaches : Reaches) (hearing : W → Hearing) (u p : LinkState W) (input : Taken) (out : Put) (end : ConnEnd) → IsState u.map_state → IsLinkServed hearing u p input out end → IsState p.map_state
+link_state reaches hearing u p input out end is x =
+    run_state reaches x.served.exchange.events u.map_state p.map_state x.served.exchange.answers is (link_run hearing u p input out end x)
 
--- what a connection that ended well has answered, written and spent
-module _ {W : Type 0} (hearing : W → Hearing) (u p : LinkState W) (all : List ℕ) (left written after : Option (List ℕ)) where
-  all_events : (end : ConnEnd) → EndsWell end → (x : IsLinkServed hearing u p (Some all) left written after end) → AreEvents 1000 all x.served.exchange.events
-  all_events Closed good x = x.served.is.0
-  all_events Shut good x = x.served.is.0
+-- what a connection that brings these bytes, and ended well, has answered, written and spent
+module _ {W : Type 0} (hearing : W → Hearing) (u p : LinkState W) (all : List ℕ) (input : Taken) (out : Put) (brings : input.left ≡ Some all) where
+  of_all : (P : List ℕ → Type 0) (taken : List ℕ) → P (brought input.left taken) → P all
+  of_all P taken is = subst (λ (told : Option (List ℕ)). P (brought told taken)) brings is
+
+  all_events : (end : ConnEnd) → EndsWell end → (x : IsLinkServed hearing u p input out end) → AreEvents most_requests all x.served.exchange.events
+  all_events Closed good x = of_all (λ (bytes : List ℕ). AreEvents most_requests bytes x.served.exchange.events) x.served.exchange.taken x.served.is.0
+  all_events Shut good x = of_all (λ (bytes : List ℕ). AreEvents most_requests bytes x.served.exchange.events) x.served.exchange.taken x.served.is.0
   all_events Starved good x = absurd good
   all_events ReadFault good x = absurd good
   all_events WriteFault good x = absurd good
 
-  all_written : (end : ConnEnd) → EndsWell end → (x : IsLinkServed hearing u p (Some all) left written after end) → Appends written after (written_of x.served.exchange.answers)
+  all_written : (end : ConnEnd) → EndsWell end → (x : IsLinkServed hearing u p input out end) → Appends out.written out.written_after (written_of x.served.exchange.answers)
   all_written Closed good x = x.served.is.3
   all_written Shut good x = x.served.is.2
   all_written Starved good x = absurd good
   all_written ReadFault good x = absurd good
   all_written WriteFault good x = absurd good
 
-  all_spent : (end : ConnEnd) → EndsWell end → (x : IsLinkServed hearing u p (Some all) left written after end) → p.spent ≡ u.spent + costs x.served.exchange.answers
+  all_spent : (end : ConnEnd) → EndsWell end → (x : IsLinkServed hearing u p input out end) → p.spent ≡ u.spent + costs x.served.exchange.answers
   all_spent Closed good x = x.spent
   all_spent Shut good x = x.spent
   all_spent Starved good x = absurd good
   all_spent ReadFault good x = absurd good
   all_spent WriteFault good x = absurd good
 
-  -- how many requests there were tells the end
-  few_closed : (x : IsLinkServed hearing u p (Some all) left written after Closed) → length x.served.exchange.events < 1000
-  few_closed x = x.served.is.1
-
-  all_shut : (x : IsLinkServed hearing u p (Some all) left written after Shut) → length x.served.exchange.events ≡ 1000
-  all_shut x = x.served.is.1
+-- how many requests there were tells the end
+ends_are : {W : Type 0} (hearing : W → Hearing) (u v p q : LinkState W) (input again : Taken) (out next : Put) (end ending : ConnEnd) → EndsWell end → EndsWell ending →
+    (x : IsLinkServed hearing u p input out end) (y : IsLinkServed hearing v q again next ending) → x.served.exchange.events ≡ y.served.exchange.events → end ≡ ending
+ends_are hearing u v p q input again out next Closed Closed good fine x y same = refl
+ends_are hearing u v p q input again out next Closed Shut good fine x y same = absurd (omega (arith, x.served.is.1, y.served.is.1, ap length same))
+ends_are hearing u v p q input again out next Shut Closed good fine x y same = absurd (omega (arith, x.served.is.1, y.served.is.1, ap length same))
+ends_are hearing u v p q input again out next Shut Shut good fine x y same = refl
+ends_are hearing u v p q input again out next Closed Starved good fine x y same = absurd fine
+ends_are hearing u v p q input again out next Closed ReadFault good fine x y same = absurd fine
+ends_are hearing u v p q input again out next Closed WriteFault good fine x y same = absurd fine
+ends_are hearing u v p q input again out next Shut Starved good fine x y same = absurd fine
+ends_are hearing u v p q input again out next Shut ReadFault good fine x y same = absurd fine
+ends_are hearing u v p q input again out next Shut WriteFault good fine x y same = absurd fine
+ends_are hearing u v p q input again out next Starved ending good fine x y same = absurd good
+ends_are hearing u v p q input again out next ReadFault ending good fine x y same = absurd good
+ends_are hearing u v p q input again out next WriteFault ending good fine x y same = absurd good
 
 -- two accounts of one connection that both end well
-module _ {W : Type 0} (reaches : Reaches) (one : OneReply) (hearing : W → Hearing) (u v p q : LinkState W) (all : List ℕ) (left rest written writing first second : Option (List ℕ)) (is : IsState u.map_state) (like : AreLikeStates u v) where
-  one_events : (end ending : ConnEnd) → EndsWell end → EndsWell ending → (x : IsLinkServed hearing u p (Some all) left written first end) (y : IsLinkServed hearing v q (Some all) rest writing second ending) → x.served.exchange.events ≡ y.served.exchange.events
-  one_events end ending good fine x y =
-      one_list_of_events 1000 all x.served.exchange.events y.served.exchange.events (all_events hearing u p all left written first end good x) (all_events hearing v q all rest writing second ending fine y)
+module _ {W : Type 0} (reaches : Reaches) (once : OneReply) (hearing : W → Hearing) (bytes : List ℕ) (one other : Account W) (both : AreAccounts hearing bytes one other) where
+  abbrev events : List Event
+  events = both.served.served.exchange.events
 
-  one_run : (end ending : ConnEnd) → EndsWell end → EndsWell ending → (x : IsLinkServed hearing u p (Some all) left written first end) (y : IsLinkServed hearing v q (Some all) rest writing second ending)
-      → IsOneRun x.served.exchange.answers y.served.exchange.answers p.map_state q.map_state
-  one_run end ending good fine x y =
-      let xs = x.served.exchange.answers in
-      let ys = y.served.exchange.answers in
-      let events = one_events end ending good fine x y in
-      let run : Run MapStep u.map_state y.served.exchange.events xs p.map_state =
-      subst (λ (es : List Event). Run MapStep u.map_state es xs p.map_state) events (link_run hearing u p (Some all) left written first end x) in
-      let also : Run MapStep u.map_state y.served.exchange.events ys q.map_state =
-      subst (λ (s : State). Run MapStep s y.served.exchange.events ys q.map_state) (sym like.map_state) (link_run hearing v q (Some all) rest writing second ending y) in
-      same_run reaches one y.served.exchange.events u.map_state p.map_state q.map_state xs ys is run also
+  abbrev events_too : List Event
+  events_too = both.served_too.served.exchange.events
 
-  pub one_told : (end ending : ConnEnd) → EndsWell end → EndsWell ending → (x : IsLinkServed hearing u p (Some all) left written first end) (y : IsLinkServed hearing v q (Some all) rest writing second ending)
-      → changes x.served.exchange.answers ≡ changes y.served.exchange.answers
-  one_told end ending good fine x y = (one_run end ending good fine x y).same_changes
+  abbrev answers : List LinkAnswer
+  answers = both.served.served.exchange.answers
 
-  pub one_state : (end ending : ConnEnd) → EndsWell end → EndsWell ending → (x : IsLinkServed hearing u p (Some all) left written first end) (y : IsLinkServed hearing v q (Some all) rest writing second ending) → AreLikeStates p q
-  one_state end ending good fine x y =
-      let same = one_run end ending good fine x y in
-      record {
-        map_state = same.same_state;
-        spent = all_spent hearing u p all left written first end good x ∙ ap (λ (n : ℕ). n + costs x.served.exchange.answers) like.spent
-            ∙ ap (λ (n : ℕ). v.spent + n) (same.same_costs 0) ∙ sym (all_spent hearing v q all rest writing second ending fine y);
-      }
+  abbrev answers_too : List LinkAnswer
+  answers_too = both.served_too.served.exchange.answers
 
-  pub one_ending : (end ending : ConnEnd) → EndsWell end → EndsWell ending → IsLinkServed hearing u p (Some all) left written first end → IsLinkServed hearing v q (Some all) rest writing second ending → end ≡ ending
-  one_ending Closed Closed good fine x y = refl
-  one_ending Closed Shut good fine x y = absurd (omega (arith, few_closed hearing u p all left written first x, all_shut hearing v q all rest writing second y, ap length (one_events Closed Shut good fine x y)))
-  one_ending Shut Closed good fine x y = absurd (omega (arith, few_closed hearing v q all rest writing second y, all_shut hearing u p all left written first x, ap length (one_events Shut Closed good fine x y)))
-  one_ending Shut Shut good fine x y = refl
-  one_ending Closed Starved good fine x y = absurd fine
-  one_ending Closed ReadFault good fine x y = absurd fine
-  one_ending Closed WriteFault good fine x y = absurd fine
-  one_ending Shut Starved good fine x y = absurd fine
-  one_ending Shut ReadFault good fine x y = absurd fine
-  one_ending Shut WriteFault good fine x y = absurd fine
-  one_ending Starved ending good fine x y = absurd good
-  one_ending ReadFault ending good fine x y = absurd good
-  one_ending WriteFault ending good fine x y = absurd good
+  one_events : events ≡ events_too
+  one_events =
+      one_list_of_events most_requests bytes events events_too
+      (all_events hearing one.old one.new bytes one.input one.out both.brings one.end both.well both.served)
+      (all_events hearing other.old other.new bytes other.input other.out both.brings_too other.end both.well_too both.served_too)
 
-pub one_written : {W : Type 0} (reaches : Reaches) (one : OneReply) (hearing : W → Hearing) (u v p q : LinkState W) (all : List ℕ) (left rest written first second : Option (List ℕ)) → IsState u.map_state → AreLikeStates u v
-    → (end ending : ConnEnd) → EndsWell end → EndsWell ending → IsLinkServed hearing u p (Some all) left written first end → IsLinkServed hearing v q (Some all) rest written second ending → first ≡ second
-one_written reaches one hearing u v p q all left rest written first second is like end ending good fine x y =
-    let same = one_run reaches one hearing u v p q all left rest written written first second is like end ending good fine x y in
-    let texts = sym (joined_replies x.served.exchange.answers) ∙ ap joined same.same_replies ∙ joined_replies y.served.exchange.answers in
-    appends_once written first second _ _ texts (all_written hearing u p all left written first end good x) (all_written hearing v q all rest written second ending fine y)
+  one_run : IsOneRun answers answers_too one.new.map_state other.new.map_state
+  one_run =
+      let run : Run MapStep one.old.map_state events_too answers one.new.map_state =
+      subst (λ (es : List Event). Run MapStep one.old.map_state es answers one.new.map_state) one_events (link_run hearing one.old one.new one.input one.out one.end both.served) in
+      let also : Run MapStep one.old.map_state events_too answers_too other.new.map_state =
+      subst (λ (s : State). Run MapStep s events_too answers_too other.new.map_state) (sym both.alike.map_state) (link_run hearing other.old other.new other.input other.out other.end both.served_too) in
+      same_run reaches once events_too one.old.map_state one.new.map_state other.new.map_state answers answers_too both.reached run also
+
+  -- they tell the watchers the same changes
+  pub one_told : changes answers ≡ changes answers_too
+  one_told = one_run.same_changes
+
+  -- they leave states that are alike
+  pub one_state : AreLikeStates one.new other.new
+  one_state = record {
+    map_state = one_run.same_state;
+    spent = all_spent hearing one.old one.new bytes one.input one.out both.brings one.end both.well both.served ∙ ap (λ (n : ℕ). n + costs answers) both.alike.spent ∙ ap (λ (n : ℕ). other.old.spent + n) (one_run.same_costs 0)
+        ∙ sym (all_spent hearing other.old other.new bytes other.input other.out both.brings_too other.end both.well_too both.served_too);
+  }
+
+  -- they end alike
+  pub one_ending : one.end ≡ other.end
+  one_ending = ends_are hearing one.old other.old one.new other.new one.input other.input one.out other.out one.end other.end both.well both.well_too both.served both.served_too one_events
+
+  -- they write the same bytes
+  pub one_written : one.out.written ≡ other.out.written → one.out.written_after ≡ other.out.written_after
+  one_written same =
+      let texts = sym (joined_replies answers) ∙ ap joined one_run.same_replies ∙ joined_replies answers_too in
+      let wrote : Appends other.out.written one.out.written_after (written_of answers) =
+      subst (λ (o : Option (List ℕ)). Appends o one.out.written_after (written_of answers)) same (all_written hearing one.old one.new bytes one.input one.out both.brings one.end both.well both.served) in
+      appends_once other.out.written one.out.written_after other.out.written_after _ _ texts wrote
+      (all_written hearing other.old other.new bytes other.input other.out both.brings_too other.end both.well_too both.served_too)
 
 -- the replies that bytes are owed are one list
 pub one_owed : (reaches : Reaches) (one : OneReply) (s : State) (bytes : List ℕ) (xs ys : List (List ℕ)) → IsState s → AreReplies s bytes xs → AreReplies s bytes ys → xs ≡ ys
 one_owed reaches one s bytes xs ys is x y =
-    let events = one_list_of_events 1000 bytes x.events y.events x.all y.all in
+    let events = one_list_of_events most_requests bytes x.events y.events x.all y.all in
     let run : Run MapStep s y.events x.answers x.last = subst (λ (es : List Event). Run MapStep s es x.answers x.last) events x.run in
     x.are ∙ (same_run reaches one y.events s x.last y.last x.answers y.answers is run y.run).same_replies ∙ sym y.are
 
 -- what a connection got is a beginning of what its bytes are owed
-module _ {W : Type 0} (reaches : Reaches) (one : OneReply) (hearing : W → Hearing) (u p : LinkState W) (all : List ℕ) (left written after : Option (List ℕ)) (texts : List (List ℕ)) (is : IsState u.map_state) (owed : AreReplies u.map_state all texts) where
+module _ {W : Type 0} (reaches : Reaches) (once : OneReply) (hearing : W → Hearing) (u p : LinkState W) (all : List ℕ) (input : Taken) (out : Put) (texts : List (List ℕ))
+    (brings : input.left ≡ Some all) (is : IsState u.map_state) (owed : AreReplies u.map_state all texts) where
   -- where the events that were answered are the first of all, so are the replies
-  begins : (end : ConnEnd) → (x : IsLinkServed hearing u p (Some all) left written after end) → ((others : List Event) × (owed.events ≡ x.served.exchange.events ++ others)) → BeginWith texts (replies x.served.exchange.answers)
+  begins : (end : ConnEnd) → (x : IsLinkServed hearing u p input out end) → ((others : List Event) × (owed.events ≡ x.served.exchange.events ++ others)) → BeginWith texts (replies x.served.exchange.answers)
   begins end x more =
       let events = x.served.exchange.events in
       let run : Run MapStep u.map_state (events ++ more.0) owed.answers owed.last = subst (λ (es : List Event). Run MapStep u.map_state es owed.answers owed.last) more.1 owed.run in
-      let first = run_begins reaches one events more.0 u.map_state p.map_state owed.last x.served.exchange.answers owed.answers is (link_run hearing u p (Some all) left written after end x) run in
+      let first = run_begins reaches once events more.0 u.map_state p.map_state owed.last x.served.exchange.answers owed.answers is (link_run hearing u p input out end x) run in
       record { rest = first.rest; are = owed.are ∙ first.are }
 
-  whole : (end : ConnEnd) → EndsWell end → IsLinkServed hearing u p (Some all) left written after end → Appends written after (joined texts)
+  whole : (end : ConnEnd) → EndsWell end → IsLinkServed hearing u p input out end → Appends out.written out.written_after (joined texts)
   whole end good x =
-      let events = one_list_of_events 1000 all x.served.exchange.events owed.events (all_events hearing u p all left written after end good x) owed.all in
-      let run : Run MapStep u.map_state owed.events x.served.exchange.answers p.map_state =
-      subst (λ (es : List Event). Run MapStep u.map_state es x.served.exchange.answers p.map_state) events (link_run hearing u p (Some all) left written after end x) in
-      let same = same_run reaches one owed.events u.map_state p.map_state owed.last x.served.exchange.answers owed.answers is run owed.run in
-      let texts_are : written_of x.served.exchange.answers ≡ joined texts = sym (joined_replies x.served.exchange.answers) ∙ ap joined (same.same_replies ∙ sym owed.are) in
-      subst (λ (r : List ℕ). Appends written after r) texts_are (all_written hearing u p all left written after end good x)
+      let answers = x.served.exchange.answers in
+      let events = one_list_of_events most_requests all x.served.exchange.events owed.events (all_events hearing u p all input out brings end good x) owed.all in
+      let run : Run MapStep u.map_state owed.events answers p.map_state = subst (λ (es : List Event). Run MapStep u.map_state es answers p.map_state) events (link_run hearing u p input out end x) in
+      let same = same_run reaches once owed.events u.map_state p.map_state owed.last answers owed.answers is run owed.run in
+      let texts_are : written_of answers ≡ joined texts = sym (joined_replies answers) ∙ ap joined (same.same_replies ∙ sym owed.are) in
+      subst (λ (r : List ℕ). Appends out.written out.written_after r) texts_are (all_written hearing u p all input out brings end good x)
 
-  pub beginning : (end : ConnEnd) → IsLinkServed hearing u p (Some all) left written after end → IsBeginning end written after texts
+  -- the events that were answered, of bytes that were brought whole
+  first_of : (taken : List ℕ) (events : List Event) → AreFirstEvents most_requests (brought input.left taken) events → (others : List Event) × (owed.events ≡ events ++ others)
+  first_of taken events first =
+      events_of_first most_requests all events owed.events (of_all hearing u p all input out brings (λ (bytes : List ℕ). AreFirstEvents most_requests bytes events) taken first) owed.all
+
+  -- what was put is a beginning of the texts that are owed
+  pub beginning : (end : ConnEnd) → IsLinkServed hearing u p input out end → IsBeginning end out.written out.written_after texts
   beginning Closed x = whole Closed tt x
   beginning Shut x = whole Shut tt x
   beginning ReadFault x =
       let answers = x.served.exchange.answers in
       let taken = x.served.exchange.taken in
-      let events : AreEvents 1000 (taken ++ x.served.takes.0) owed.events = subst (λ (bytes : List ℕ). AreEvents 1000 bytes owed.events) x.served.takes.2 owed.all in
-      let first = events_of_prefix 1000 taken x.served.takes.0 x.served.exchange.events owed.events x.served.is.0 events in
-      (replies answers, begins ReadFault x first, subst (λ (r : List ℕ). Appends written after r) (sym (joined_replies answers)) x.served.is.2)
+      let takes : Draws (Some all) input.left_after taken = subst (λ (told : Option (List ℕ)). Draws told input.left_after taken) brings x.served.takes in
+      let events : AreEvents most_requests (taken ++ takes.0) owed.events = subst (λ (bytes : List ℕ). AreEvents most_requests bytes owed.events) takes.2 owed.all in
+      let first = events_of_prefix most_requests taken takes.0 x.served.exchange.events owed.events x.served.is.0 events in
+      (replies answers, begins ReadFault x first, subst (λ (r : List ℕ). Appends out.written out.written_after r) (sym (joined_replies answers)) x.served.is.2)
   beginning Starved x =
       let answers = x.served.exchange.answers in
-      let first = events_of_first 1000 all x.served.exchange.events owed.events x.served.is.0 owed.all in
-      (replies answers, begins Starved x first, subst (λ (r : List ℕ). Appends written after (r ++ memory_reply)) (sym (joined_replies answers)) x.served.is.2)
-  beginning WriteFault x =
-      let answers = x.served.exchange.answers in
-      let first = events_of_first 1000 all x.served.exchange.events owed.events x.served.is.0 owed.all in
-      (replies answers, begins WriteFault x first, cut x.served.is.1)
+      let first = first_of x.served.exchange.taken x.served.exchange.events x.served.is.0 in
+      (replies answers, begins Starved x first, subst (λ (r : List ℕ). Appends out.written out.written_after (r ++ memory_reply)) (sym (joined_replies answers)) x.served.is.2)
+  beginning WriteFault x = (replies x.served.exchange.answers, begins WriteFault x (first_of x.served.exchange.taken x.served.exchange.events x.served.is.0), cut x.served.is.1)
     where
-      cut : {A : Type 0} {front : List (List ℕ)} → (IsCut written after front ⊎ (A × IsCut written after (front ++ memory_reply ∷ []))) → IsCut written after front ⊎ IsCut written after (front ++ memory_reply ∷ [])
+      cut : {A : Type 0} {front : List (List ℕ)} → (IsCut out.written out.written_after front ⊎ (A × IsCut out.written out.written_after (front ++ memory_reply ∷ []))) →
+          IsCut out.written out.written_after front ⊎ IsCut out.written out.written_after (front ++ memory_reply ∷ [])
       cut (inl at) = inl at
       cut (inr at) = inr at.1

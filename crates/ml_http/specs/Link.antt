@@ -1,5 +1,6 @@
 -- A connection to which an editor, a crowd, tiles and a counter of steps are lent.
-use Rattle.std.specs.Prelude.{◌≡◌, ℕ, ◌+◌, Bool, List, [], flat_map, sum_by, Option, Contains}
+use Rattle.std.specs.Prelude.{◌≡◌, ℕ, ◌+◌, Bool, List, [], flat_map, sum_by, Contains}
+use Rattle.ml_io.specs.Calls.{Put, Taken}
 use Rattle.ml_watch.specs.Hearing.{Hearing, AllHear}
 use Rattle.ml_editor.specs.State.{State}
 use Rattle.ml_editor.specs.Editing.{Editing}
@@ -8,7 +9,7 @@ use Rattle.ml_request.specs.declared.request.Event.{Event}
 use Rattle.ml_http.specs.declared.connection_end.ConnEnd.{ConnEnd}
 use Rattle.ml_http.specs.declared.connection_end.ConnEnd.TheVariants.{Shut, Starved, Closed, ReadFault, WriteFault}
 use Rattle.ml_http.specs.Step.{LinkAnswer, IsCarriedOut, IsTileText, MapStep}
-use Rattle.ml_http.specs.Connection.{IsServed}
+use Rattle.ml_http.specs.Connection.{IsServed, Machine, position}
 use Rattle.ml_http.specs.TileWork.{IsDoneTo}
 use Rattle.ml_tile.specs.Cache.{Cache, HeldTile}
 
@@ -74,8 +75,12 @@ IsSpent ReadFault old new answers = new ≡ old + sum_by (λ a. a.cost) answers
 IsSpent Starved old new answers = Unit {0}
 IsSpent WriteFault old new answers = Unit {0}
 
+-- what answers the events of a connection: the machine, over all that is lent
+abbrev pub link_machine : {W : Type 0} → (W → Hearing) → Machine (LinkState W) LinkAnswer
+link_machine hearing = record { step = LinkStep hearing; idle = LinkIdles; text = λ answer. answer.reply }
+
 -- the connection was served so; the watchers were told the changes of all its answers in order, and their steps were spent
-pub record IsLinkServed {W : Type 0} (hearing : W → Hearing) (old new : LinkState W) (source source_after written written_after : Option (List ℕ)) (end : ConnEnd) : Type 0 where
-  pub served : IsServed (LinkStep hearing) LinkIdles (λ a. a.reply) most_requests [] old new source source_after written written_after end
+pub record IsLinkServed {W : Type 0} (hearing : W → Hearing) (old new : LinkState W) (input : Taken) (out : Put) (end : ConnEnd) : Type 0 where
+  pub served : IsServed (link_machine hearing) (position most_requests [] old) new input out end
   pub hears : AllHear hearing (flat_map (λ a. a.changes) served.exchange.answers) old.crowd new.crowd
   pub spent : IsSpent end old.spent new.spent served.exchange.answers

@@ -1,6 +1,7 @@
 //! Laws over the definitions alone. Each function takes nothing and does nothing: its contract is the
 //! law, for all values.
 ghost use Rattle.std.specs.Prelude.{◌≡◌, ◌≢◌, ℕ, ℤ, Bool, List, [], ◌∷◌, ◌++◌, flat_map, Option, Some, All, IsUtf8};
+ghost use Rattle.ml_io.specs.Calls.{Put, Taken};
 ghost use Rattle.ml_cone.specs.Slots.{AreSlots};
 ghost use Rattle.ml_cone.specs.declared.label.Label.{Label};
 ghost use Rattle.ml_cone.specs.declared.slot.Slot.{Slot};
@@ -22,7 +23,7 @@ ghost use Rattle.ml_editor.specs.State.{State, IsState};
 ghost use Rattle.ml_http.specs.StateReply.{IsStateText};
 ghost use Rattle.ml_tile.specs.Cache.{Cache};
 ghost use Rattle.ml_http.specs.Link.{AreTexts, IsLinkServed, LinkState};
-ghost use Rattle.ml_http.specs.Once.{AreLikeStates, AreOneAnswer, EndsWell};
+ghost use Rattle.ml_http.specs.Once.{Account, AreAccounts, AreLikeStates, AreOneAnswer};
 ghost use Rattle.ml_http.specs.Owed.{AreReplies, IsBeginning};
 ghost use Rattle.ml_http.specs.declared.connection_end.ConnEnd.{ConnEnd};
 ghost use Rattle.ml_watch.specs.Hearing.{Hearing};
@@ -155,8 +156,8 @@ pub fn one_reply()
 /// however it ends.
 pub fn stays_reached<W>()
     ensures event { (s t : State) (event : Event) (answer : LinkAnswer) → IsState s → MapStep s event answer t → IsState t }
-    ensures connection { (hearing : W → Hearing) (old new : LinkState W) (source left written written_after : Option (List ℕ)) (end : ConnEnd) →
-        IsState old.map_state → IsLinkServed hearing old new source left written written_after end → IsState new.map_state }
+    ensures connection { (hearing : W → Hearing) (old new : LinkState W) (input : Taken) (out : Put) (end : ConnEnd) →
+        IsState old.map_state → IsLinkServed hearing old new input out end → IsState new.map_state }
 {
     accepted_is_reached();
 }
@@ -165,23 +166,13 @@ pub fn stays_reached<W>()
 /// states that are alike, write the same bytes, in whatever pieces these came. They end alike, tell the
 /// watchers the same changes, and leave states that are alike; so the next connection finds one map.
 pub fn one_account<W>()
-    ensures written { (hearing : W → Hearing) (old older one other : LinkState W) (bytes : List ℕ) (left rest written first second : Option (List ℕ)) (end ending : ConnEnd) →
-        IsState old.map_state → AreLikeStates old older → EndsWell end → EndsWell ending →
-        IsLinkServed hearing old one (Some bytes) left written first end →
-        IsLinkServed hearing older other (Some bytes) rest written second ending → first ≡ second }
-    ensures ended { (hearing : W → Hearing) (old older one other : LinkState W) (bytes : List ℕ) (left rest written first writing second : Option (List ℕ)) (end ending : ConnEnd) →
-        IsState old.map_state → AreLikeStates old older → EndsWell end → EndsWell ending →
-        IsLinkServed hearing old one (Some bytes) left written first end →
-        IsLinkServed hearing older other (Some bytes) rest writing second ending → end ≡ ending }
-    ensures told { (hearing : W → Hearing) (old older one other : LinkState W) (bytes : List ℕ) (left rest written first writing second : Option (List ℕ)) (end ending : ConnEnd) →
-        IsState old.map_state → AreLikeStates old older → EndsWell end → EndsWell ending →
-        (x : IsLinkServed hearing old one (Some bytes) left written first end) →
-        (y : IsLinkServed hearing older other (Some bytes) rest writing second ending) →
-        flat_map (λ (a : LinkAnswer). a.changes) x.served.exchange.answers ≡ flat_map (λ (a : LinkAnswer). a.changes) y.served.exchange.answers }
-    ensures states { (hearing : W → Hearing) (old older one other : LinkState W) (bytes : List ℕ) (left rest written first writing second : Option (List ℕ)) (end ending : ConnEnd) →
-        IsState old.map_state → AreLikeStates old older → EndsWell end → EndsWell ending →
-        IsLinkServed hearing old one (Some bytes) left written first end →
-        IsLinkServed hearing older other (Some bytes) rest writing second ending → AreLikeStates one other }
+    ensures written { (hearing : W → Hearing) (bytes : List ℕ) (one other : Account W) → AreAccounts hearing bytes one other →
+        one.out.written ≡ other.out.written → one.out.written_after ≡ other.out.written_after }
+    ensures ended { (hearing : W → Hearing) (bytes : List ℕ) (one other : Account W) → AreAccounts hearing bytes one other → one.end ≡ other.end }
+    ensures told { (hearing : W → Hearing) (bytes : List ℕ) (one other : Account W) (both : AreAccounts hearing bytes one other) →
+        flat_map (λ (a : LinkAnswer). a.changes) both.served.served.exchange.answers
+        ≡ flat_map (λ (a : LinkAnswer). a.changes) both.served_too.served.exchange.answers }
+    ensures states { (hearing : W → Hearing) (bytes : List ℕ) (one other : Account W) → AreAccounts hearing bytes one other → AreLikeStates one.new other.new }
 {
     one_reply();
     accepted_is_reached();
@@ -199,9 +190,9 @@ pub fn one_list_of_replies()
 /// where it ended well; the first of them where the source failed; these and the reply that memory is wanting
 /// where it is; and a part of such replies where the sink failed.
 pub fn one_prefix<W>()
-    ensures { (hearing : W → Hearing) (old new : LinkState W) (bytes : List ℕ) (left written written_after : Option (List ℕ)) (end : ConnEnd) (texts : List (List ℕ)) →
-        IsState old.map_state → IsLinkServed hearing old new (Some bytes) left written written_after end →
-        AreReplies old.map_state bytes texts → IsBeginning end written written_after texts }
+    ensures { (hearing : W → Hearing) (old new : LinkState W) (bytes : List ℕ) (input : Taken) (out : Put) (end : ConnEnd) (texts : List (List ℕ)) →
+        IsState old.map_state → input.left ≡ Some bytes → IsLinkServed hearing old new input out end →
+        AreReplies old.map_state bytes texts → IsBeginning end out.written out.written_after texts }
 {
     one_reply();
     accepted_is_reached();

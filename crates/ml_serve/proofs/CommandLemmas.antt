@@ -41,7 +41,9 @@ module _ (twice : PutTwice ℕ) where
     wrote = appends_so w w'' (a ++ take part.0 b) (flat_map (λ text. text) (a ∷ []) ++ take part.0 b) (ap (λ t. t ++ take part.0 b) (sym (one_line a))) (twice w w' w'' a (take part.0 b) first part.2);
   }
 
-  pub end_done : {X : Type 0} (count n : ℕ) (door : DoorSaid X) (w w' w'' : Option (List ℕ)) → IsCalm door → n ≤ count → (n ≡ count) ⊎ HasRunOut door.coming_after → Appends w w' (codes "ready\n") → Appends w' w'' (served_line n) → IsEndOfServing count n door w w'' Done
+  -- all lines were written
+  pub end_done : {X : Type 0} (count n : ℕ) (door : DoorSaid X) (w w' w'' : Option (List ℕ)) → IsCalm door → n ≤ count → (n ≡ count) ⊎ HasRunOut door.coming_after →
+      Appends w w' (codes "ready\n") → Appends w' w'' (served_line n) → IsEndOfServing count n door w w'' Done
   end_done count n door w w' w'' calm few enough ready line = (
     codes "ready\n" ∷ served_line n ∷ [],
     record { few = few; enough = enough; due = refl },
@@ -49,32 +51,47 @@ module _ (twice : PutTwice ℕ) where
     appends_so w w'' (codes "ready\n" ++ served_line n) (flat_map (λ line. line) (codes "ready\n" ∷ served_line n ∷ [])) (sym (two_lines (codes "ready\n") (served_line n))) (twice w w' w'' (codes "ready\n") (served_line n) ready line),
   )
 
-  pub end_cut : {X : Type 0} (count n : ℕ) (door : DoorSaid X) (w w' w'' : Option (List ℕ)) → IsCalm door → n ≤ count → (n ≡ count) ⊎ HasRunOut door.coming_after → Appends w w' (codes "ready\n") → AppendsPart w' w'' (served_line n) → IsEndOfServing count n door w w'' WriteFault
+  -- the output failed in the last line
+  pub end_cut : {X : Type 0} (count n : ℕ) (door : DoorSaid X) (w w' w'' : Option (List ℕ)) → IsCalm door → n ≤ count → (n ≡ count) ⊎ HasRunOut door.coming_after →
+      Appends w w' (codes "ready\n") → AppendsPart w' w'' (served_line n) → IsEndOfServing count n door w w'' WriteFault
   end_cut count n door w w' w'' calm few enough ready part =
       (codes "ready\n" ∷ served_line n ∷ [], inl (inl (record { few = few; enough = enough; due = refl }), calm), cut_second w w' w'' (codes "ready\n") (served_line n) ready part)
 
-  pub end_fault_later : {X : Type 0} (count n : ℕ) (door : DoorSaid X) (w w' w'' : Option (List ℕ)) (status : ServeEnd) → door.listens ≡ true → door.faults_after ≡ one_more door.faults → n < count → Appends w w' (codes "ready\n") → IsFaultSaid w' w'' status → IsEndOfServing count n door w w'' status
+  -- the door failed while it listened
+  pub end_fault_later : {X : Type 0} (count n : ℕ) (door : DoorSaid X) (w w' w'' : Option (List ℕ)) (status : ServeEnd) →
+      door.listens ≡ true → door.faults_after ≡ one_more door.faults → n < count → Appends w w' (codes "ready\n") → IsFaultSaid w' w'' status → IsEndOfServing count n door w w'' status
   end_fault_later count n door w w' w'' Done listens failed few ready said = absurd said
   end_fault_later count n door w w' w'' DoorFault listens failed few ready said =
       (codes "ready\n" ∷ codes "door fault\n" ∷ [], (rw listens (few, refl), failed), twice w w' w'' (codes "ready\n") (codes "door fault\n") ready said)
   end_fault_later count n door w w' w'' WriteFault listens failed few ready said =
       (codes "ready\n" ∷ codes "door fault\n" ∷ [], inr (rw listens (few, refl), failed), cut_second w w' w'' (codes "ready\n") (codes "door fault\n") ready said)
 
+-- the output failed in the first line
 pub end_first : {X : Type 0} (count : ℕ) (door : DoorSaid X) (w w' : Option (List ℕ)) → IsCalm door → AppendsPart w w' (codes "ready\n") → IsEndOfServing count 0 door w w' WriteFault
 end_first count door w w' calm part = (codes "ready\n" ∷ [], inl (inr (refl, refl), calm), cut_first w w' (codes "ready\n") part)
 
-pub end_fault : {X : Type 0} (count : ℕ) (door : DoorSaid X) (w w' : Option (List ℕ)) (status : ServeEnd) → door.listens ≡ false → door.faults_after ≡ one_more door.faults → IsFaultSaid w w' status → IsEndOfServing count 0 door w w' status
+-- the door failed to listen
+pub end_fault : {X : Type 0} (count : ℕ) (door : DoorSaid X) (w w' : Option (List ℕ)) (status : ServeEnd) →
+    door.listens ≡ false → door.faults_after ≡ one_more door.faults → IsFaultSaid w w' status → IsEndOfServing count 0 door w w' status
 end_fault count door w w' Done deaf failed said = absurd said
 end_fault count door w w' DoorFault deaf failed said = (codes "door fault\n" ∷ [], (rw deaf (refl, refl), failed), said)
 end_fault count door w w' WriteFault deaf failed said = (codes "door fault\n" ∷ [], inr (rw deaf (refl, refl), failed), cut_first w w' (codes "door fault\n") said)
 
--- the same from equal lists
-pub served_from : {S I O A : Type 0} (one : S → Visit I O A → S → Type 0) (n : ℕ) (b c c' a d d' : Option (List (Link I O))) (old new : S) → c ≡ b → d ≡ a → HasServed one n c c' d d' old new → HasServed one n b c' a d' old new
-served_from one n b c c' a d d' old new same same_done served = rw (sym same, sym same_done) served
+-- connections were served behind a call that left those to come and those done as they were
+pub served_from : {S I O : Type 0} (one : S → Visit I O LinkAnswer → S → Type 0) (n : ℕ) (door more : Passed I O) (old new : S) →
+    more.coming ≡ door.coming → more.coming_after ≡ door.coming_after → more.done ≡ door.done → more.done_after ≡ door.done_after → HasServed one n more old new → HasServed one n door old new
+served_from one n door more old new coming coming_after done done_after served = record {
+  visits = served.visits;
+  number = served.number;
+  came = rw (sym coming, sym coming_after) served.came;
+  gone = rw (sym done, sym done_after) served.gone;
+  states = served.states;
+}
 
 -- the connections served, and the end of the command
-pub headline_of : {W I O : Type 0} (hearing : W → Hearing) → NothingHeard hearing → HeardTwice hearing → (ends : LinkEnds I O) (old new : LinkState W) (door : Passed I O) (count n : ℕ) (said : DoorSaid (Link I O)) (w w' : Option (List ℕ)) (status : ServeEnd) →
-    HasServed (IsVisit hearing ends) n door.coming door.coming_after door.done door.done_after old new → IsEndOfServing count n said w w' status →
+pub headline_of : {W I O : Type 0} (hearing : W → Hearing) → NothingHeard hearing → HeardTwice hearing →
+    (ends : LinkEnds I O) (old new : LinkState W) (door : Passed I O) (count n : ℕ) (said : DoorSaid (Link I O)) (w w' : Option (List ℕ)) (status : ServeEnd) →
+    HasServed (IsVisit hearing ends) n door old new → IsEndOfServing count n said w w' status →
     (visits : List (Visit I O LinkAnswer)) × Headline hearing ends old new door visits × IsEndOfServing count (length visits) said w w' status
 headline_of hearing none twice ends old new door count n said w w' status served end = (
   served.visits,

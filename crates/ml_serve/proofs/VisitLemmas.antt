@@ -1,6 +1,6 @@
 -- A connection that was served is a visit; what the watchers heard over many.
-use Rattle.std.proofs.Common.{◌≡◌, ℕ, List, [], ◌∷◌, ◌++◌, flat_map, Option, refl, ap}
-use Rattle.ml_io.specs.Calls.{LinkEnds}
+use Rattle.std.proofs.Common.{◌≡◌, List, [], ◌∷◌, ◌++◌, flat_map, refl, ap}
+use Rattle.ml_io.specs.Calls.{LinkEnds, Passed, put, taken}
 use Rattle.ml_io.specs.declared.link.Link.{Link}
 use Rattle.ml_io.specs.Causes.{Appends}
 use Rattle.ml_io.specs.Takes.{Takes}
@@ -15,15 +15,17 @@ use Rattle.ml_serve.specs.Headline.{changes_in}
 use Rattle.ml_serve.proofs.Called.{NothingHeard, HeardTwice}
 use Rattle.ml_serve.proofs.SessionLemmas.{served_one}
 
-pub served_link : {W I O : Type 0} (hearing : W → Hearing) (ends : LinkEnds I O) (old new : LinkState W) (came gone : Link I O) (end : ConnEnd) (c c' d d' : Option (List (Link I O))) →
-    Takes c c' (came ∷ []) → Appends d d' (gone ∷ []) →
-    IsLinkServed hearing old new (ends.left came.source) (ends.left gone.source) (ends.written came.sink) (ends.written gone.sink) end →
-    HasEndCause (ends.reads came.source) (ends.reads gone.source) (ends.writes came.sink) (ends.writes gone.sink) end →
-    HasServed (IsVisit hearing ends) 1 c c' d d' old new
-served_link hearing ends old new came gone end c c' d d' comes goes served cause =
-    served_one (IsVisit hearing ends) (record { came = came; gone = gone; exchange = served.served.exchange; end = end }) c c' d d' old new comes goes
+-- a connection that came, was served and was given back is one that was served
+pub served_link : {W I O : Type 0} (hearing : W → Hearing) (ends : LinkEnds I O) (old new : LinkState W) (came gone : Link I O) (end : ConnEnd) (door : Passed I O) →
+    Takes door.coming door.coming_after (came ∷ []) → Appends door.done door.done_after (gone ∷ []) →
+    IsLinkServed hearing old new (taken ends.left ends.reads came.source gone.source) (put ends.written ends.writes came.sink gone.sink) end →
+    HasEndCause (taken ends.left ends.reads came.source gone.source) (put ends.written ends.writes came.sink gone.sink) end →
+    HasServed (IsVisit hearing ends) 1 door old new
+served_link hearing ends old new came gone end door comes goes served cause =
+    served_one (IsVisit hearing ends) (record { came = came; gone = gone; exchange = served.served.exchange; end = end }) door old new comes goes
     (record { served = served; exchange = refl; cause = cause })
 
+-- what the watchers heard over connections that followed one another
 pub hears_follow : {W I O : Type 0} (hearing : W → Hearing) → NothingHeard hearing → HeardTwice hearing → (ends : LinkEnds I O) (old new : LinkState W) (visits : List (Visit I O LinkAnswer)) →
     Follow (IsVisit hearing ends) old visits new → AllHear hearing (flat_map changes_in visits) old.crowd new.crowd
 hears_follow hearing none twice ends old new [] follow = rw (ap (λ s. s.crowd) follow) (none old.crowd)

@@ -1,6 +1,6 @@
 //! Connections one after another.
 ghost use Rattle.std.specs.Prelude.{◌≡◌, ◌<◌, ◌≤◌, ◌⊎◌, ℕ, true, false, Ok, IfOk, OnErr};
-ghost use Rattle.ml_io.specs.Calls.{link_ends};
+ghost use Rattle.ml_io.specs.Calls.{link_ends, passed};
 ghost use Rattle.ml_io.specs.Causes.{HasCause};
 ghost use Rattle.ml_io.specs.Takes.{HasRunOut};
 ghost use Rattle.ml_http.specs.Context.{IsSameLoan, state_of};
@@ -33,12 +33,12 @@ pub fn serve_links<D: Door, W: Watcher, L: Ledger>(
     ensures texts { HoldsTexts (state_of context.new) }
     ensures ok { IfOk result (λ k. (k ≤ count)
         × HasServed (IsVisit W.hearing (link_ends D.In.left D.In.faults D.Out.written D.Out.faults)) k
-        (D.coming door.old) (D.coming door.new) (D.served door.old) (D.served door.new)
+        (passed D.coming D.served D.faults D.at_port D.listens door.old door.new)
         (state_of context.old) (state_of context.new)
         × ((k ≡ count) ⊎ HasRunOut (D.coming door.new))) }
     ensures err { OnErr result ((k : ℕ) × (k < count)
         × HasServed (IsVisit W.hearing (link_ends D.In.left D.In.faults D.Out.written D.Out.faults)) k
-        (D.coming door.old) (D.coming door.new) (D.served door.old) (D.served door.new)
+        (passed D.coming D.served D.faults D.at_port D.listens door.old door.new)
         (state_of context.old) (state_of context.new)) }
     ensures listens { D.listens door.new ≡ true }
     ensures out { D.is_out door.new ≡ false }
@@ -71,7 +71,7 @@ fn serve_visit<D: Door, W: Watcher, L: Ledger>(
     ensures loan { IsSameLoan context.old context.new }
     ensures texts { HoldsTexts (state_of context.new) }
     ensures served { HasServed (IsVisit W.hearing (link_ends D.In.left D.In.faults D.Out.written D.Out.faults)) (links_in result)
-        (D.coming door.old) (D.coming door.new) (D.served door.old) (D.served door.new)
+        (passed D.coming D.served D.faults D.at_port D.listens door.old door.new)
         (state_of context.old) (state_of context.new) }
     ensures ended { result ≡ Ok false → HasRunOut (D.coming door.new) }
     ensures listens { D.listens door.new ≡ true }

@@ -6,5 +6,5 @@ returns g c =
     let reaches = c.accepted_is_reached.ensures in
     record {
       event = λ s t event answer is x. next_state reaches s is event answer t x;
-      connection = λ hearing old new source left written written_after end is x. link_state reaches hearing old new source left written written_after end is x;
+      connection = λ hearing old new input out end is x. link_state reaches hearing old new input out end is x;
     }
