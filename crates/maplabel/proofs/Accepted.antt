@@ -49,6 +49,7 @@ pub not_too_long : (files : FileSet) (name bytes : List ℕ) → IsLoaded (Some 
 not_too_long files name bytes loaded long = (let is = rw loaded.file at long in let short = loaded.short in let more : most_bytes < length bytes = is in absurd (omega arith))
 
 module _ (known : KnownFiles) where
+  -- a table that is accepted is not refused
   pub table_or_not : (files : FileSet) (name : List ℕ) (labels : List Label) (line : List ℕ) → HasTable (Some files) name labels → ¬ (IsNoTable (Some files) name line)
   table_or_not files name labels line has none =
       let same = same_file files name has.0 none.0 has.1.file none.2.file in
@@ -60,12 +61,15 @@ module _ (known : KnownFiles) where
       let same = same_file files name one.0 two.0 one.1.file two.1.file in
       known.one_table two.0 labels others (rw same at one.2) two.2
 
-  pub slots_or_not : (files : FileSet) (labels : List Label) (name : List ℕ) (slots : List Slot) (line : List ℕ) → HasSlots (Some files) labels name slots → ¬ (AreNoSlots (Some files) labels name line)
+  -- slots that are accepted are not refused
+  pub slots_or_not : (files : FileSet) (labels : List Label) (name : List ℕ) (slots : List Slot) (line : List ℕ) →
+      HasSlots (Some files) labels name slots → ¬ (AreNoSlots (Some files) labels name line)
   slots_or_not files labels name slots line has (bytes, slots_fault.BadLine k, loaded, fault, is) =
       let same = same_file files name has.0 bytes has.1.file loaded.file in
       known.no_slots_fault labels bytes slots k (rw same at has.2) fault
   slots_or_not files labels name slots line has (bytes, slots_fault.Memory, loaded, fault, is) = absurd is
 
+  -- a style that is accepted is not refused
   pub style_or_not : (files : FileSet) (name : List ℕ) (classes : Style) (line : List ℕ) → HasStyle (Some files) name classes → ¬ (IsNoStyle (Some files) name line)
   style_or_not files name classes line has none =
       let same = same_file files name has.0 none.0 has.1.file none.2.file in
@@ -80,6 +84,7 @@ module _ (known : KnownFiles) where
       let impossible : IsStyleLine styles.Memory line = rw memory at none.2 in
       impossible
 
+  -- a map that is accepted is not refused
   pub map_or_not : (files : FileSet) (name : List ℕ) (features : List Feature) (line : List ℕ) → HasMap (Some files) name features → ¬ (IsNoMap (Some files) name line)
   map_or_not files name features line has (inl none) =
       let same = same_file files name has.0 none.0 has.1.file none.2.file in
@@ -93,6 +98,7 @@ module _ (known : KnownFiles) where
       let more = full.4 in
       absurd (omega arith)
 
+  -- states that are accepted are not refused
   pub states_or_not : (files : FileSet) (name : List ℕ) (states : List State) (line : List ℕ) → HasStates (Some files) name states → ¬ (AreNoStates (Some files) name line)
   states_or_not files name states line has (bytes, state_fault.BadState k, loaded, fault, is) =
       let same = same_file files name has.0 bytes has.1.file loaded.file in

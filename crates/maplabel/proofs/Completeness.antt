@@ -1,7 +1,7 @@
 -- Where what the words ask for is ready and no count of faults rose, it is answered, or memory was wanting.
 use Rattle.std.proofs.Common.{◌≡◌, ℕ, List, Some, refl, sym, subst, ◌∙◌, inl, inr, arith}
-use Rattle.std.specs.Prelude.{◌⊎◌, Option}
-use Rattle.ml_io.specs.Calls.{Put}
+use Rattle.std.specs.Prelude.{◌⊎◌}
+use Rattle.ml_io.specs.Calls.{Put, Taken}
 use Rattle.ml_ratio.specs.Count.{one_more}
 use Rattle.ml_io.specs.Causes.{Rose}
 use Rattle.ml_io.specs.Files.{FileSet}
@@ -49,20 +49,20 @@ of_verdict (Uncovered i) = inr refl
 of_verdict (BadBlocker i) = inr refl
 
 -- how one connection ends where neither input nor output failed
-piped : (input input_after out out_after : ℕ) → ¬ (Rose input input_after) → ¬ (Rose out out_after) → (end : ConnEnd) → HasEndCause input input_after out out_after end
-    → (status_of_link end ≡ Done) ⊎ (status_of_link end ≡ Memory)
-piped input input_after out out_after calm dry ends.Shut cause = inl refl
-piped input input_after out out_after calm dry ends.Starved cause = inr refl
-piped input input_after out out_after calm dry ends.Closed cause = inl refl
-piped input input_after out out_after calm dry ends.ReadFault cause = absurd (calm (rose input input_after cause.reads))
-piped input input_after out out_after calm dry ends.WriteFault cause = absurd (dry (rose out out_after cause.writes))
+piped : (input : Taken) (out : Put) → ¬ (Rose input.faults input.faults_after) → ¬ (Rose out.faults out.faults_after) → (end : ConnEnd) → HasEndCause input out end →
+    (status_of_link end ≡ Done) ⊎ (status_of_link end ≡ Memory)
+piped input out calm dry ends.Shut cause = inl refl
+piped input out calm dry ends.Starved cause = inr refl
+piped input out calm dry ends.Closed cause = inl refl
+piped input out calm dry ends.ReadFault cause = absurd (calm (rose input.faults input.faults_after cause.reads))
+piped input out calm dry ends.WriteFault cause = absurd (dry (rose out.faults out.faults_after cause.writes))
 
 -- how serving ends where neither door nor output failed
-served : {X : Type 0} (door : DoorSaid X) (count number out out_after : ℕ) (written written_after : Option (List ℕ)) → ¬ (Rose door.faults door.faults_after) → ¬ (Rose out out_after) → (end : ServeEnd)
-    → IsEndOfServing count number door written written_after end → HasServeCause door.faults door.faults_after out out_after end → status_of_serving end ≡ Done
-served door count number out out_after written written_after calm dry serving.Done is cause = refl
-served door count number out out_after written written_after calm dry serving.WriteFault is cause = absurd (dry (rose out out_after cause.writes))
-served door count number out out_after written written_after calm dry serving.DoorFault is cause = absurd (calm (rose door.faults door.faults_after is.1.1))
+served : {X : Type 0} (door : DoorSaid X) (count number : ℕ) (out : Put) → ¬ (Rose door.faults door.faults_after) → ¬ (Rose out.faults out.faults_after) → (end : ServeEnd) →
+    IsEndOfServing count number door out.written out.written_after end → HasServeCause door.faults door.faults_after out.faults out.faults_after end → status_of_serving end ≡ Done
+served door count number out calm dry serving.Done is cause = refl
+served door count number out calm dry serving.WriteFault is cause = absurd (dry (rose out.faults out.faults_after cause.writes))
+served door count number out calm dry serving.DoorFault is cause = absurd (calm (rose door.faults door.faults_after is.1.1))
 
 -- how following ends where the output did not fail
 followed : {states : List follow.State} (f : Following states) (out : Put) → ¬ (Rose out.faults out.faults_after) → (end : FollowEnd) → IsEndOfFollowing f out end
@@ -157,13 +157,14 @@ module _ (known : KnownFiles) (files : FileSet) {S D I O W : Type 0} (r : Call S
   answered (Live style map task) status ready (inl none) = inr (stopped _ (by_both style.now map.now ready) status none.0)
   answered (Live style map Pipe) status ready (inr is) =
       let p = is.3.0 in
-      rw p.status_is (piped r.input.faults r.input.faults_after r.out.faults r.out.faults_after calm.input calm.out p.end p.cause)
+      rw p.status_is (piped r.input r.out calm.input calm.out p.end p.cause)
   answered (Live style map (Serve port count)) status ready (inr is) =
       let p = is.3.0 in
-      inl (p.status_is ∙ served _ count _ r.out.faults r.out.faults_after _ _ calm.door calm.out p.end p.printed p.cause)
+      inl (p.status_is ∙ served _ count _ r.out calm.door calm.out p.end p.printed p.cause)
   answered (Follow name) status ready (inl none) = inr (stopped _ (by_states name.now ready) status none.0)
   answered (Follow name) status ready (inr is) = (let p = is.3 in rw p.2 (followed p.1.following r.out calm.out p.0 p.1.ended))
 
+  -- words whose files are ready come to the end that they ask for
   pub completes : (words : List (List ℕ)) (status : Status) → AreReady files words → IsRun r words status → EndsWell words status
   completes words status ready (inl (command, asks, is)) = (command, asks, answered command status (ready.ready command asks) is)
   completes words status ready (inr (none, kept, printed, stays)) = absurd (none ready.form)

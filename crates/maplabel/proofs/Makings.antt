@@ -7,6 +7,7 @@ use Rattle.maplabel.specs.Making.{IsMakingStop, sample_style}
 use Rattle.ml_command.specs.declared.stop.Stop.{Stop}
 use Rattle.ml_command.specs.declared.stop.Stop.TheVariants as stop
 
+-- a style that refuses the sample refuses it by this line
 pub sample_refused : (bytes : List ℕ) (fault : StyleFault) (s : Stop) → bytes ≡ sample_style → style_answer.IsRefusal bytes fault → IsStyleRefusal fault s → IsMakingStop s
 sample_refused bytes fault (stop.StyleRefused line) same refuses told = (fault, subst (λ b. style_answer.IsRefusal b fault) same refuses, told)
 sample_refused bytes fault (stop.InputRefused line) same refuses told = told

@@ -180,6 +180,7 @@ module _ (known : KnownMaking) where
       (x.sums.evaluated_are ∙ ap (λ (cs : List Counts). sum_by (λ (k : Counts). k.evaluated) cs) runs.0 ∙ sym y.sums.evaluated_are)
       (x.numbers.rev_is ∙ sym numbers.rev_is)
 
+  -- the totals of a generated map are one text
   pub one_totals : (groups seed : ℕ) (one other : List ℕ) → IsTotalsOf groups seed one → IsTotalsOf groups seed other → one ≡ other
   one_totals groups seed one other (style, is, (totals, are, text)) (another, was, (others, were, words)) =
       let same : another ≡ style = known.one_style sample_style another style was is in

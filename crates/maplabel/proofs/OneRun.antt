@@ -13,7 +13,7 @@ use Rattle.ml_watch.specs.Hearing.{AllHear, Hearing}
 use Rattle.ml_watch.specs.declared.change.Change.{Change}
 use Rattle.ml_editor.specs.State.{IsState, State}
 use Rattle.ml_http.specs.Link.{IsLinkServed, LinkState}
-use Rattle.ml_http.specs.Once.{AreLikeStates, EndsWell}
+use Rattle.ml_http.specs.Once.{Account, AreAccounts, AreLikeStates, EndsWell}
 use Rattle.ml_http.specs.Step.{LinkAnswer}
 use Rattle.ml_http.specs.declared.connection_end.ConnEnd.{ConnEnd}
 use Rattle.ml_http.specs.declared.connection_end.ConnEnd.TheVariants as ends
@@ -21,6 +21,7 @@ use Rattle.ml_serve.specs.Headline.{Headline, changes_in}
 use Rattle.ml_serve.specs.Once.{AllEndWell, AreOverTheSame, AreTold, Session, written_in}
 use Rattle.ml_serve.specs.Printed.{AreDone, IsEndOfServing, served_line}
 use Rattle.ml_serve.specs.Session.{Visit}
+use Rattle.ml_serve.specs.declared.hours.Hours.{Hours}
 use Rattle.ml_serve.specs.declared.serve_end.ServeEnd.{ServeEnd}
 use Rattle.ml_serve.specs.declared.serve_end.ServeEnd.TheVariants as serving
 use Rattle.ml_command.specs.Answers.{IsMapAnswer, IsTableAnswer}
@@ -42,8 +43,8 @@ use Rattle.ml_command.specs.declared.stop.Stop.TheVariants as stop
 use Rattle.maplabel.specs.Making.{IsTotalsOf}
 use Rattle.maplabel.specs.Once.{DoAlike, FindAlike, FindLinks, ReadAlike, ServeAlike, TellAlike, TellBytes}
 use Rattle.maplabel.specs.Outcome.{IsCheckAnswer, IsPrinted, IsStopLine, IsStopPrinted, status_of, usage_line}
-use Rattle.maplabel.specs.Run.{AreFollowed, Call, IsDone, IsRun, IsStopped, IsTextEnd, status_of_following}
-use Rattle.maplabel.specs.Serving.{IsAllServed, IsPiped, at_first, status_of_link, status_of_serving}
+use Rattle.maplabel.specs.Run.{AreFollowed, Call, IsDone, IsRun, IsStopped, IsTextEnd, status_of_following, watchers_of}
+use Rattle.maplabel.specs.Serving.{IsAllServed, IsPiped, Watched, at_first, status_of_link, status_of_serving}
 use Rattle.maplabel.specs.declared.status.Status.{Status}
 use Rattle.maplabel.specs.declared.status.Status.TheVariants.{Done, Usage, StyleRefused, InputRefused, FileFault, Memory, TooLong}
 
@@ -74,7 +75,8 @@ no_stop s out (now, text, line, printed) = by_line s (whole text now out printed
     by_line stop.Memory e x = (let f : Done ≡ Memory = sym e ∙ x.0 in cc (f))
 
 -- the text that was due where a run is done
-due_text : {S D I O W : Type 0} (r : Call S D I O W) (due : Status → List ℕ → Type 0) (stops : Stop → Type 0) → IsTextEnd r due stops Done → (text : List ℕ) × due Done text × Appends r.out.written r.out.written_after text
+due_text : {S D I O W : Type 0} (r : Call S D I O W) (due : Status → List ℕ → Type 0) (stops : Stop → Type 0) →
+    IsTextEnd r due stops Done → (text : List ℕ) × due Done text × Appends r.out.written r.out.written_after text
 due_text r due stops (inl (now, text, is, kept, printed), same) =
     let done = whole text now r.out printed in
     (text, subst (λ (s : Status). due s text) done.0 is, done.1)
@@ -169,22 +171,22 @@ how_many {I} {O} count links coming after visits lines is takes done =
 pub record KnownRuns (W I O : Type 0) : Type 0 where
   pub one_command : (words : List (List ℕ)) (one other : Command) → Ask words one → Ask words other → plain one ≡ plain other
   pub table : (files : FileSet) (table : List ℕ) (task : TableTask) (one other : List ℕ) → IsTableAnswer (Some files) table task one → IsTableAnswer (Some files) table task other → one ≡ other
-  pub map_text : (files : FileSet) (style name : List ℕ) (task : MapTask) (one other : List ℕ) → IsMapAnswer (Some files) style name task one → IsMapAnswer (Some files) style name task other → one ≡ other
+  pub map_text : (files : FileSet) (style name : List ℕ) (task : MapTask) (one other : List ℕ) →
+      IsMapAnswer (Some files) style name task one → IsMapAnswer (Some files) style name task other → one ≡ other
   pub totals : (groups seed : ℕ) (one other : List ℕ) → IsTotalsOf groups seed one → IsTotalsOf groups seed other → one ≡ other
   pub first : (files : FileSet) (style name : List ℕ) (one other : State) → IsFirstState (Some files) style name one → IsFirstState (Some files) style name other → one ≡ other
   pub reached : (told : Option FileSet) (style name : List ℕ) (first : State) → IsFirstState told style name first → IsState first
   pub states : (files : FileSet) (name : List ℕ) (states others : List follow.State) → HasStates (Some files) name states → HasStates (Some files) name others → states ≡ others
   pub answers : (states : List follow.State) (one other : Following states) → one.rest ≡ [] → other.rest ≡ [] → AllAdopted one.answers → AllAdopted other.answers → one.answers ≡ other.answers
   pub held : (states : List follow.State) (one other : Following states) → one.rest ≡ [] → other.rest ≡ [] → AllAdopted one.answers → AllAdopted other.answers → one.held ≡ other.held
-  pub written : (hearing : W → Hearing) (old older one other : LinkState W) (bytes : List ℕ) (left rest written first second : Option (List ℕ)) (end ending : ConnEnd) →
-      IsState old.map_state → AreLikeStates old older → EndsWell end → EndsWell ending →
-      IsLinkServed hearing old one (Some bytes) left written first end → IsLinkServed hearing older other (Some bytes) rest written second ending → first ≡ second
-  pub told : (hearing : W → Hearing) (old older one other : LinkState W) (bytes : List ℕ) (left rest written first writing second : Option (List ℕ)) (end ending : ConnEnd) →
-      IsState old.map_state → AreLikeStates old older → EndsWell end → EndsWell ending →
-      (x : IsLinkServed hearing old one (Some bytes) left written first end) → (y : IsLinkServed hearing older other (Some bytes) rest writing second ending) →
-      flat_map (λ (a : LinkAnswer). a.changes) x.served.exchange.answers ≡ flat_map (λ (a : LinkAnswer). a.changes) y.served.exchange.answers
-  pub replies : (hearing : W → Hearing) (ends : LinkEnds I O) (links : List (Link I O)) (one other : Session W I O) → AreOverTheSame hearing ends links one other → written_in ends one.visits ≡ written_in ends other.visits
-  pub session_told : (hearing : W → Hearing) (ends : LinkEnds I O) (links : List (Link I O)) (one other : Session W I O) → AreOverTheSame hearing ends links one other → flat_map changes_in one.visits ≡ flat_map changes_in other.visits
+  pub written : (hearing : W → Hearing) (bytes : List ℕ) (one other : Account W) → AreAccounts hearing bytes one other →
+      one.out.written ≡ other.out.written → one.out.written_after ≡ other.out.written_after
+  pub told : (hearing : W → Hearing) (bytes : List ℕ) (one other : Account W) (both : AreAccounts hearing bytes one other) →
+      flat_map (λ (a : LinkAnswer). a.changes) both.served.served.exchange.answers ≡ flat_map (λ (a : LinkAnswer). a.changes) both.served_too.served.exchange.answers
+  pub replies : (hearing : W → Hearing) (ends : LinkEnds I O) (links : List (Link I O)) (one other : Session W I O) →
+      AreOverTheSame hearing ends links one other → written_in ends one.visits ≡ written_in ends other.visits
+  pub session_told : (hearing : W → Hearing) (ends : LinkEnds I O) (links : List (Link I O)) (one other : Session W I O) →
+      AreOverTheSame hearing ends links one other → flat_map changes_in one.visits ≡ flat_map changes_in other.visits
 
 -- where its names stand in memory is nothing to what a command does
 done_plain : {S D I O W : Type 0} (r : Call S D I O W) (c : Command) → IsDone r c Done → IsDone r (plain c) Done
@@ -231,10 +233,10 @@ followed hearing states crowd after out (end, is, status) =
     record { following = is.following; printed = ended.0; adopts = ended.1; hears = is.hears }
 
 -- what a session printed, where a run is done
-served_lines : {W I O : Type 0} (hearing : W → Hearing) (ends : LinkEnds I O) (first : State) (crowd after : List W) (port count : ℕ) (door : Passed I O) (out : Put) → (x : IsAllServed hearing ends first crowd after port count door out Done)
-    → (lines : List (List ℕ)) × AreDone count (length x.visits) door.coming_after lines × Appends out.written out.written_after (flat_map (λ (line : List ℕ). line) lines)
-served_lines hearing ends first crowd after port count door out x =
-    let printed = subst (λ (e : ServeEnd). IsEndOfServing count (length x.visits) (record { listens = door.listens; coming_after = door.coming_after; faults = door.faults; faults_after = door.faults_after }) out.written out.written_after e) (served_all x.end x.status_is) x.printed in
+served_lines : {W I O : Type 0} (watchers : Watched W) (ends : LinkEnds I O) (first : State) (hours : Hours) (door : Passed I O) (out : Put) → (x : IsAllServed watchers ends first hours door out Done)
+    → (lines : List (List ℕ)) × AreDone hours.count (length x.visits) door.coming_after lines × Appends out.written out.written_after (flat_map (λ (line : List ℕ). line) lines)
+served_lines watchers ends first hours door out x =
+    let printed = subst (λ (e : ServeEnd). IsEndOfServing hours.count (length x.visits) (record { listens = door.listens; coming_after = door.coming_after; faults = door.faults; faults_after = door.faults_after }) out.written out.written_after e) (served_all x.end x.status_is) x.printed in
     (printed.0, printed.1, printed.3)
 
 like_first : {W : Type 0} (first : State) (crowd others : List W) → AreLikeStates (at_first first crowd) (at_first first others)
@@ -254,54 +256,54 @@ module _ {S D I O W : Type 0} (known : KnownRuns W I O) (r o : Call S D I O W) (
 
   -- ---- one connection
 
+  -- a run on `pipe`, as an account of its connection
+  abbrev account_of : Call S D I O W → State → LinkState W → ConnEnd → Account W
+  account_of c first last end = record { old = at_first first c.old.crowd; new = last; input = c.input; out = c.out; end = end }
+
   record Piped (bytes : List ℕ) (first : State) : Type 0 where
     last : LinkState W
     again : LinkState W
     end : ConnEnd
     ending : ConnEnd
-    well : EndsWell end
-    fine : EndsWell ending
-    one : IsLinkServed r.hearing (at_first first r.old.crowd) last (Some bytes) r.input.left_after r.out.written r.out.written_after end
-    other : IsLinkServed r.hearing (at_first first o.old.crowd) again (Some bytes) o.input.left_after o.out.written o.out.written_after ending
+    both : AreAccounts r.hearing bytes (account_of r first last end) (account_of o first again ending)
     crowd : last.crowd ≡ r.new.crowd
     crowd_too : again.crowd ≡ o.new.crowd
 
-  piped : (bytes : List ℕ) → r.input.left ≡ Some bytes → o.input.left ≡ Some bytes → (first start : State) → start ≡ first → IsPiped r.hearing first r.old.crowd r.new.crowd r.input r.out Done → IsPiped o.hearing start o.old.crowd o.new.crowd o.input o.out Done → Piped bytes first
-  piped bytes told told_too first start same x y =
-      let moved : IsLinkServed o.hearing (at_first first o.old.crowd) y.last o.input.left o.input.left_after o.out.written o.out.written_after y.end =
-      subst (λ (s : State). IsLinkServed o.hearing (at_first s o.old.crowd) y.last o.input.left o.input.left_after o.out.written o.out.written_after y.end) same y.served in
-      let heard : IsLinkServed r.hearing (at_first first o.old.crowd) y.last o.input.left o.input.left_after o.out.written o.out.written_after y.end =
-      subst (λ (h : W → Hearing). IsLinkServed h (at_first first o.old.crowd) y.last o.input.left o.input.left_after o.out.written o.out.written_after y.end) found.hearing_is moved in
+  piped : (bytes : List ℕ) → r.input.left ≡ Some bytes → o.input.left ≡ Some bytes → (first start : State) → IsState first → start ≡ first →
+      IsPiped (watchers_of r) first r.input r.out Done → IsPiped (watchers_of o) start o.input o.out Done → Piped bytes first
+  piped bytes told told_too first start is same x y =
+      let moved : IsLinkServed o.hearing (at_first first o.old.crowd) y.last o.input o.out y.end = subst (λ (s : State). IsLinkServed o.hearing (at_first s o.old.crowd) y.last o.input o.out y.end) same y.served in
+      let heard : IsLinkServed r.hearing (at_first first o.old.crowd) y.last o.input o.out y.end = subst (λ (h : W → Hearing). IsLinkServed h (at_first first o.old.crowd) y.last o.input o.out y.end) found.hearing_is moved in
       record {
         last = x.last;
         again = y.last;
         end = x.end;
         ending = y.end;
-        well = ended_well x.end x.status_is;
-        fine = ended_well y.end y.status_is;
-        one = subst (λ (s : Option (List ℕ)). IsLinkServed r.hearing (at_first first r.old.crowd) x.last s r.input.left_after r.out.written r.out.written_after x.end) told x.served;
-        other = subst (λ (s : Option (List ℕ)). IsLinkServed r.hearing (at_first first o.old.crowd) y.last s o.input.left_after o.out.written o.out.written_after y.end) told_too heard;
+        both = record {
+          reached = is;
+          alike = like_first first r.old.crowd o.old.crowd;
+          brings = told;
+          brings_too = told_too;
+          well = ended_well x.end x.status_is;
+          well_too = ended_well y.end y.status_is;
+          served = x.served;
+          served_too = heard;
+        };
         crowd = x.crowd_is;
         crowd_too = y.crowd_is;
       }
 
-  piped_printed : (bytes : List ℕ) (first : State) → IsState first → r.out.written ≡ o.out.written → Piped bytes first → r.out.written_after ≡ o.out.written_after
-  piped_printed bytes first is same p =
-      let other : IsLinkServed r.hearing (at_first first o.old.crowd) p.again (Some bytes) o.input.left_after r.out.written o.out.written_after p.ending =
-      subst (λ (w : Option (List ℕ)). IsLinkServed r.hearing (at_first first o.old.crowd) p.again (Some bytes) o.input.left_after w o.out.written_after p.ending) (sym same) p.other in
-      known.written r.hearing (at_first first r.old.crowd) (at_first first o.old.crowd) p.last p.again bytes r.input.left_after o.input.left_after r.out.written r.out.written_after o.out.written_after p.end p.ending
-      is (like_first first r.old.crowd o.old.crowd) p.well p.fine p.one other
+  piped_printed : (bytes : List ℕ) (first : State) → r.out.written ≡ o.out.written → Piped bytes first → r.out.written_after ≡ o.out.written_after
+  piped_printed bytes first same p = known.written r.hearing bytes (account_of r first p.last p.end) (account_of o first p.again p.ending) p.both same
 
-  piped_told : (bytes : List ℕ) (first : State) → IsState first → Piped bytes first → TellAlike r o
-  piped_told bytes first is p =
-      let changes = flat_map (λ (a : LinkAnswer). a.changes) p.one.served.exchange.answers in
-      let others = flat_map (λ (a : LinkAnswer). a.changes) p.other.served.exchange.answers in
-      let same : changes ≡ others =
-      known.told r.hearing (at_first first r.old.crowd) (at_first first o.old.crowd) p.last p.again bytes r.input.left_after o.input.left_after r.out.written r.out.written_after o.out.written o.out.written_after p.end p.ending
-      is (like_first first r.old.crowd o.old.crowd) p.well p.fine p.one p.other in
-      let second : AllHear r.hearing changes o.old.crowd p.again.crowd = subst (λ (cs : List Change). AllHear r.hearing cs o.old.crowd p.again.crowd) (sym same) p.other.hears in (
+  piped_told : (bytes : List ℕ) (first : State) → Piped bytes first → TellAlike r o
+  piped_told bytes first p =
+      let changes = flat_map (λ (a : LinkAnswer). a.changes) p.both.served.served.exchange.answers in
+      let others = flat_map (λ (a : LinkAnswer). a.changes) p.both.served_too.served.exchange.answers in
+      let same : changes ≡ others = known.told r.hearing bytes (account_of r first p.last p.end) (account_of o first p.again p.ending) p.both in
+      let second : AllHear r.hearing changes o.old.crowd p.again.crowd = subst (λ (cs : List Change). AllHear r.hearing cs o.old.crowd p.again.crowd) (sym same) p.both.served_too.hears in (
         changes,
-        subst (λ (c : List W). AllHear r.hearing changes r.old.crowd c) p.crowd p.one.hears,
+        subst (λ (c : List W). AllHear r.hearing changes r.old.crowd c) p.crowd p.both.served.hears,
         subst (λ (h : W → Hearing). AllHear h changes o.old.crowd o.new.crowd) (sym found.hearing_is) (subst (λ (c : List W). AllHear r.hearing changes o.old.crowd c) p.crowd_too second),
       )
 
@@ -323,16 +325,17 @@ module _ {S D I O W : Type 0} (known : KnownRuns W I O) (r o : Call S D I O W) (
     crowd : last.crowd ≡ r.new.crowd
     crowd_too : again.crowd ≡ o.new.crowd
 
-  served : FindLinks r o → (first start : State) (port count : ℕ) → start ≡ first → IsAllServed r.hearing r.ends first r.old.crowd r.new.crowd port count r.door r.out Done → IsAllServed o.hearing o.ends start o.old.crowd o.new.crowd port count o.door o.out Done → Served first
-  served came first start port count same x y =
+  served : FindLinks r o → (first start : State) (hours : Hours) → start ≡ first →
+      IsAllServed (watchers_of r) r.ends first hours r.door r.out Done → IsAllServed (watchers_of o) o.ends start hours o.door o.out Done → Served first
+  served came first start hours same x y =
       let moved : Headline o.hearing o.ends (at_first first o.old.crowd) y.last o.door y.visits = subst (λ (s : State). Headline o.hearing o.ends (at_first s o.old.crowd) y.last o.door y.visits) same y.headline in
       let heard : Headline r.hearing o.ends (at_first first o.old.crowd) y.last o.door y.visits = subst (λ (h : W → Hearing). Headline h o.ends (at_first first o.old.crowd) y.last o.door y.visits) found.hearing_is moved in
       let ended : Headline r.hearing r.ends (at_first first o.old.crowd) y.last o.door y.visits = subst (λ (e : LinkEnds I O). Headline r.hearing e (at_first first o.old.crowd) y.last o.door y.visits) found.ends_are heard in
-      let p = served_lines r.hearing r.ends first r.old.crowd r.new.crowd port count r.door r.out x in
-      let q = served_lines o.hearing o.ends start o.old.crowd o.new.crowd port count o.door o.out y in
-      let m = how_many count came.links r.door.coming r.door.coming_after x.visits p.0 came.door_is.0 x.headline.came p.1 in
-      let n = how_many count came.links o.door.coming o.door.coming_after y.visits q.0 came.door_is.1 ended.came q.1 in
-      let many = same_count count (length x.visits) (length y.visits) (length came.links) p.1.few q.1.few m.0 n.0 m.1 n.1 in
+      let p = served_lines (watchers_of r) r.ends first hours r.door r.out x in
+      let q = served_lines (watchers_of o) o.ends start hours o.door o.out y in
+      let m = how_many hours.count came.links r.door.coming r.door.coming_after x.visits p.0 came.door_is.0 x.headline.came p.1 in
+      let n = how_many hours.count came.links o.door.coming o.door.coming_after y.visits q.0 came.door_is.1 ended.came q.1 in
+      let many = same_count hours.count (length x.visits) (length y.visits) (length came.links) p.1.few q.1.few m.0 n.0 m.1 n.1 in
       record {
         last = x.last;
         again = y.last;
@@ -433,11 +436,11 @@ module _ {S D I O W : Type 0} (known : KnownRuns W I O) (r o : Call S D I O W) (
   printed_by same (Live style map Pipe) reads (inl x) y = absurd (not_stopped r _ x.0)
   printed_by same (Live style map Pipe) reads (inr x) (inl y) = absurd (not_stopped o _ y.0)
   printed_by same (Live style map Pipe) reads (inr (first, is, kept, x)) (inr (start, was, still, y)) =
-      piped_printed reads.0 first (known.reached r.files.told style.now map.now first is) same (piped reads.0 reads.1 reads.2 first start (same_first style.now map.now first start is was) x.0 y.0)
+      piped_printed reads.0 first same (piped reads.0 reads.1 reads.2 first start (known.reached r.files.told style.now map.now first is) (same_first style.now map.now first start is was) x.0 y.0)
   printed_by same (Live style map (Serve port count)) reads (inl x) y = absurd (not_stopped r _ x.0)
   printed_by same (Live style map (Serve port count)) reads (inr x) (inl y) = absurd (not_stopped o _ y.0)
   printed_by same (Live style map (Serve port count)) reads (inr (first, is, kept, x)) (inr (start, was, still, y)) =
-      served_printed first same (served reads first start port count (same_first style.now map.now first start is was) x.0 y.0)
+      served_printed first same (served reads first start (record { port = port; count = count }) (same_first style.now map.now first start is was) x.0 y.0)
   printed_by same (Follow name) reads (inl x) y = absurd (not_stopped r _ x.0)
   printed_by same (Follow name) reads (inr x) (inl y) = absurd (not_stopped o _ y.0)
   printed_by same (Follow name) reads (inr (states, has, kept, x, input, door)) (inr (others, had, still, y, source, gate)) = followed_printed same (both_followed name.now states others has had x y)
@@ -450,11 +453,11 @@ module _ {S D I O W : Type 0} (known : KnownRuns W I O) (r o : Call S D I O W) (
   alike_by (Live style map Pipe) reads (inl x) y = absurd (not_stopped r _ x.0)
   alike_by (Live style map Pipe) reads (inr x) (inl y) = absurd (not_stopped o _ y.0)
   alike_by (Live style map Pipe) reads (inr (first, is, kept, x)) (inr (start, was, still, y)) =
-      piped_told reads.0 first (known.reached r.files.told style.now map.now first is) (piped reads.0 reads.1 reads.2 first start (same_first style.now map.now first start is was) x.0 y.0)
+      piped_told reads.0 first (piped reads.0 reads.1 reads.2 first start (known.reached r.files.told style.now map.now first is) (same_first style.now map.now first start is was) x.0 y.0)
   alike_by (Live style map (Serve port count)) reads (inl x) y = absurd (not_stopped r _ x.0)
   alike_by (Live style map (Serve port count)) reads (inr x) (inl y) = absurd (not_stopped o _ y.0)
   alike_by (Live style map (Serve port count)) reads (inr (first, is, kept, x)) (inr (start, was, still, y)) =
-      served_alike reads style.now map.now first is (served reads first start port count (same_first style.now map.now first start is was) x.0 y.0)
+      served_alike reads style.now map.now first is (served reads first start (record { port = port; count = count }) (same_first style.now map.now first start is was) x.0 y.0)
   alike_by (Follow name) reads (inl x) y = absurd (not_stopped r _ x.0)
   alike_by (Follow name) reads (inr x) (inl y) = absurd (not_stopped o _ y.0)
   alike_by (Follow name) reads (inr (states, has, kept, x, input, door)) (inr (others, had, still, y, source, gate)) = followed_told (both_followed name.now states others has had x y)
@@ -478,8 +481,10 @@ module _ {S D I O W : Type 0} (known : KnownRuns W I O) (r o : Call S D I O W) (
   both (inr (none, kept, printed, same)) y = absurd (no_usage r printed)
   both (inl x) (inr (none, kept, printed, same)) = absurd (no_usage o printed)
 
+  -- they print the same
   pub printed : IsRun r words Done → IsRun o words Done → r.out.written ≡ o.out.written → r.out.written_after ≡ o.out.written_after
   printed x y same = let p = both x y in printed_by same (plain p.command) p.reads p.one p.other
 
+  -- they do the same besides
   pub alike : IsRun r words Done → IsRun o words Done → (c : Command) × Ask words c × DoAlike r o c
   alike x y = let p = both x y in (p.command, p.asks, alike_plain r o p.command (alike_by (plain p.command) p.reads p.one p.other))

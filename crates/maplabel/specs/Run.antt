@@ -13,7 +13,7 @@ use Rattle.ml_command.specs.Inputs.{IsTableStop, IsCheckStop, StopKeeps}
 use Rattle.maplabel.specs.Making.{IsTotalsOf, IsMakingStop}
 use Rattle.ml_command.specs.MapInputs.{IsMapAnswerStop}
 use Rattle.maplabel.specs.Outcome.{IsCheckAnswer, IsPrinted, IsStopPrinted, usage_line}
-use Rattle.maplabel.specs.Serving.{IsPiped, IsAllServed}
+use Rattle.maplabel.specs.Serving.{IsPiped, IsAllServed, Watched, watched}
 use Rattle.ml_command.specs.declared.command.Command.{Command}
 use Rattle.ml_command.specs.declared.command.Command.TheVariants.{OnTable, Judge, OnMap, Live, Make, Follow}
 use Rattle.ml_command.specs.declared.command.LiveTask.{LiveTask}
@@ -56,11 +56,15 @@ IsStopped files out stops status = (s : Stop) × stops s × StopKeeps files s ×
 abbrev pub IsTextEnd : {S D I O W : Type 0} → Call S D I O W → (Status → List ℕ → Type 0) → (Stop → Type 0) → Status → Type 0
 IsTextEnd r due stops status = (IsTold r.files r.out due status ⊎ IsStopped r.files r.out stops status) × (r.new ≡ r.old)
 
+-- the watchers of a run, before and after
+abbrev pub watchers_of : {S D I O W : Type 0} → Call S D I O W → Watched W
+watchers_of r = watched r.hearing r.old.crowd r.new.crowd
+
 -- connections were served over a map from its first state: on `pipe` one, and the door stays as it was; on `serve` those of the door, and the input stays
 abbrev pub IsSiteServed : {S D I O W : Type 0} → Call S D I O W → LiveTask → State → Status → Type 0
-IsSiteServed r Pipe first status = IsPiped r.hearing first r.old.crowd r.new.crowd r.input r.out status × (r.new.door ≡ r.old.door)
+IsSiteServed r Pipe first status = IsPiped (watchers_of r) first r.input r.out status × (r.new.door ≡ r.old.door)
 IsSiteServed r (Serve port count) first status =
-    IsAllServed r.hearing r.ends first r.old.crowd r.new.crowd port count r.door r.out status × (r.new.input ≡ r.old.input)
+    IsAllServed (watchers_of r) r.ends first (record { port = port; count = count }) r.door r.out status × (r.new.input ≡ r.old.input)
 
 -- the status of a run by how following ended
 abbrev pub status_of_following : FollowEnd → Status

@@ -2,8 +2,7 @@
 ghost use Rattle.std.specs.Prelude.{◌≡◌, ◌≤◌, None, false, map, string_bytes};
 ghost use Rattle.ml_io.specs.Files.{seen};
 ghost use Rattle.ml_io.specs.Calls.{put, taken, passed, link_ends};
-ghost use Rattle.maplabel.specs.Run.{IsDone, IsFollowEnd, IsRun, lending, status_of_following};
-ghost use Rattle.ml_command.specs.declared.command.Command.TheVariants.{Live};
+ghost use Rattle.maplabel.specs.Run.{IsFollowEnd, IsRun, lending, status_of_following};
 
 use crate::making::totals_of;
 use crate::printing::{print_answer, print_stop, print_usage, print_verdict};
@@ -61,54 +60,18 @@ pub fn run<F: Files, S: Source, K: Sink, D: Door, W: Watcher>(
         Some(Command::OnMap(style, map, task)) => {
             print_answer(out, on_map(alloc, files, style, map, task))
         }
-        Some(Command::Live(style, map, task)) => {
-            live(alloc, style, map, task, files, input, out, door, crowd)
-        }
+        Some(Command::Live(style, map, task)) => match load_editor(alloc, files, style, map) {
+            Ok(site) => match task {
+                LiveTask::Pipe => pipe(alloc, site, input, out, crowd),
+                LiveTask::Serve(port, count) => {
+                    serve_at(alloc, site, out, door, crowd, Hours { port, count })
+                }
+            },
+            Err(stop) => print_stop(out, &stop),
+        },
         Some(Command::Make(groups, seed)) => print_answer(out, totals_of(alloc, groups, seed)),
         Some(Command::Follow(name)) => follow_file(alloc, name, files, out, crowd),
         None => print_usage(out),
-    }
-}
-
-// Loads a map, and serves connections over it.
-fn live<F: Files, S: Source, K: Sink, D: Door, W: Watcher>(
-    alloc: Global,
-    style: &str,
-    map: &str,
-    task: LiveTask,
-    files: &mut F,
-    input: &mut S,
-    out: &mut K,
-    door: &mut D,
-    crowd: &mut Crowd<W>,
-) -> Status
-    requires fresh { D.at_port door.old ≡ None }
-    requires out { D.is_out door.old ≡ false }
-    ensures end { IsDone
-        (record {
-          files = seen F.told F.faults F.failed_name files.old files.new;
-          out = put K.written K.faults out.old out.new;
-          input = taken S.left S.faults input.old input.new;
-          door = passed D.coming D.served D.faults D.at_port D.listens door.old door.new;
-          old = lending input.old door.old crowd.old;
-          new = lending input.new door.new crowd.new;
-          hearing = W.hearing;
-          ends = link_ends D.In.left D.In.faults D.Out.written D.Out.faults;
-        })
-        (Live style.entry map.entry task) result }
-    ensures same { F.told files.new ≡ F.told files.old }
-    ensures later { (F.faults files.old ≤ F.faults files.new) × (K.faults out.old ≤ K.faults out.new)
-        × (S.faults input.old ≤ S.faults input.new) × (D.faults door.old ≤ D.faults door.new) }
-    ensures out { D.is_out door.new ≡ false }
-{
-    match load_editor(alloc, files, style, map) {
-        Ok(site) => match task {
-            LiveTask::Pipe => pipe(alloc, site, input, out, crowd),
-            LiveTask::Serve(port, count) => {
-                serve_at(alloc, site, out, door, crowd, Hours { port, count })
-            }
-        },
-        Err(stop) => print_stop(out, &stop),
     }
 }
 

@@ -2,7 +2,7 @@
 ghost use Rattle.std.specs.Prelude.{◌≡◌, ◌<◌, ◌≤◌, None, false};
 ghost use Rattle.ml_io.specs.Calls.{link_ends, passed, put, taken};
 ghost use Rattle.ml_command.specs.Loading.{no_tiles};
-ghost use Rattle.maplabel.specs.Serving.{IsPiped, IsAllServed, status_of_link, status_of_serving};
+ghost use Rattle.maplabel.specs.Serving.{IsPiped, IsAllServed, status_of_link, status_of_serving, watched};
 
 use crate::status::Status;
 use ml_command::Site;
@@ -26,7 +26,7 @@ pub fn pipe<S: Source, K: Sink, W: Watcher>(
     crowd: &mut Crowd<W>,
 ) -> Status
     requires none { site.1 ≡ no_tiles }
-    ensures served { IsPiped W.hearing site.0.state crowd.old crowd.new
+    ensures served { IsPiped (watched W.hearing crowd.old crowd.new) site.0.state
         (taken S.left S.faults input.old input.new) (put K.written K.faults out.old out.new) result }
     ensures later { (K.faults out.old ≤ K.faults out.new) × (S.faults input.old ≤ S.faults input.new) }
 {
@@ -46,7 +46,7 @@ fn pipe_counted<L: Ledger, S: Source, K: Sink, W: Watcher>(
     requires parts { blank.parts ≡ L.parts }
     requires some { 0 < blank.parts }
     requires none { site.1 ≡ no_tiles }
-    ensures served { IsPiped W.hearing site.0.state crowd.old crowd.new
+    ensures served { IsPiped (watched W.hearing crowd.old crowd.new) site.0.state
         (taken S.left S.faults input.old input.new) (put K.written K.faults out.old out.new) result }
     ensures later { (K.faults out.old ≤ K.faults out.new) × (S.faults input.old ≤ S.faults input.new) }
 {
@@ -77,7 +77,8 @@ pub fn serve_at<K: Sink, D: Door, W: Watcher>(
     requires fresh { D.at_port door.old ≡ None }
     requires out { D.is_out door.old ≡ false }
     requires none { site.1 ≡ no_tiles }
-    ensures served { IsAllServed W.hearing (link_ends D.In.left D.In.faults D.Out.written D.Out.faults) site.0.state crowd.old crowd.new hours.port hours.count
+    ensures served { IsAllServed (watched W.hearing crowd.old crowd.new)
+        (link_ends D.In.left D.In.faults D.Out.written D.Out.faults) site.0.state hours
         (passed D.coming D.served D.faults D.at_port D.listens door.old door.new) (put K.written K.faults out.old out.new) result }
     ensures out { D.is_out door.new ≡ false }
     ensures later { (K.faults out.old ≤ K.faults out.new) × (D.faults door.old ≤ D.faults door.new) }
@@ -101,7 +102,8 @@ fn serve_counted<L: Ledger, K: Sink, D: Door, W: Watcher>(
     requires parts { blank.parts ≡ L.parts }
     requires some { 0 < blank.parts }
     requires none { site.1 ≡ no_tiles }
-    ensures served { IsAllServed W.hearing (link_ends D.In.left D.In.faults D.Out.written D.Out.faults) site.0.state crowd.old crowd.new hours.port hours.count
+    ensures served { IsAllServed (watched W.hearing crowd.old crowd.new)
+        (link_ends D.In.left D.In.faults D.Out.written D.Out.faults) site.0.state hours
         (passed D.coming D.served D.faults D.at_port D.listens door.old door.new) (put K.written K.faults out.old out.new) result }
     ensures out { D.is_out door.new ≡ false }
     ensures later { (K.faults out.old ≤ K.faults out.new) × (D.faults door.old ≤ D.faults door.new) }

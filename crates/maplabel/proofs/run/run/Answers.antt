@@ -26,10 +26,35 @@ returns-in-Some-OnMap-clause-end g c =
     let is = c.on_map.ensures in
     inl (OnMap c.in-Some-OnMap.style c.in-Some-OnMap.map c.in-Some-OnMap.task, asks, (text_end saw _ _ _ c.on_map.result _ is.ok is.stop is.kept c.print_answer-in-Some-OnMap.ensures.printed, refl))
 
-pub returns-in-Some-Live-clause-end : goal.returns-in-Some-Live-clause-end
-returns-in-Some-Live-clause-end g c =
+pub returns-in-Pipe-clause-end : goal.returns-in-Pipe-clause-end
+returns-in-Pipe-clause-end g c =
     let asks = rw c.in-Some-Live.field-0-is at c.in-Some-Live.ensures in
-    inl (Live c.in-Some-Live.style c.in-Some-Live.map c.in-Some-Live.task, asks, c.live.ensures.end)
+    let site = c.in-Ok.ensures in
+    inl (
+      Live c.in-Some-Live.style c.in-Some-Live.map c.in-Some-Live.task,
+      asks,
+      rw c.in-Pipe.is (inr (c.in-Ok.site.0.state, site.ok.0, site.kept, (c.pipe.ensures.served, refl))),
+    )
+
+pub returns-in-Serve-clause-end : goal.returns-in-Serve-clause-end
+returns-in-Serve-clause-end g c =
+    let asks = rw c.in-Some-Live.field-0-is at c.in-Some-Live.ensures in
+    let site = c.in-Ok.ensures in
+    inl (
+      Live c.in-Some-Live.style c.in-Some-Live.map c.in-Some-Live.task,
+      asks,
+      rw c.in-Serve.is (inr (c.in-Ok.site.0.state, site.ok.0, site.kept, (c.serve_at.ensures.served, refl))),
+    )
+
+pub returns-in-Err-clause-end : goal.returns-in-Err-clause-end
+returns-in-Err-clause-end g c =
+    let asks = rw c.in-Some-Live.field-0-is at c.in-Some-Live.ensures in
+    let why = c.in-Err.ensures in
+    inl (
+      Live c.in-Some-Live.style c.in-Some-Live.map c.in-Some-Live.task,
+      asks,
+      inl ((c.in-Err.stop, why.stop, why.kept, c.print_stop.ensures.printed), refl),
+    )
 
 pub returns-in-Some-Make-clause-end : goal.returns-in-Some-Make-clause-end
 returns-in-Some-Make-clause-end g c =
