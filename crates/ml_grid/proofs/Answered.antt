@@ -48,6 +48,7 @@ first_of_numbers P entries numbers k h =
           ];
     }
 
+-- what is true where there is an error may be said in weaker words
 pub on_err : {E : Type 0} (r : Result (Unit {0}) E) (P Q : Type 0) → (P → Q) → OnErr r P → OnErr r Q
 on_err (Ok u) P Q f h = h
 on_err (Err e) P Q f h = f h
@@ -68,6 +69,7 @@ appends_nothing P entries a = (
 pub appends_all : (P : Entry → Type 0) (entries : List Entry) (a b c numbers : List ℕ) → AreNumbers P entries numbers → c ≡ numbers → b ≡ a ++ c → AppendsNumbers P entries a b
 appends_all P entries a b c numbers h e f = (numbers, f ∙ ap (λ (ns : List ℕ). a ++ ns) e, h)
 
+-- a prefix was appended, and it has with each number all that are less
 pub appends_some : (P : Entry → Type 0) (entries : List Entry) (a b c numbers : List ℕ) → AreNumbers P entries numbers → c ≡ numbers → ((k : ℕ) × (b ≡ a ++ take k c)) → AppendsFirst P entries a b
 appends_some P entries a b c numbers h e f = (take f.0 numbers, f.1 ∙ ap (λ (ns : List ℕ). a ++ take f.0 ns) e, first_of_numbers P entries numbers f.0 h)
 

@@ -17,6 +17,7 @@ alike p q h = grind (arith, nat_tests)
 greater : (p q : ℕ) → q < p → nat_cmp p q ≡ Greater
 greater p q h = grind (arith, nat_tests)
 
+-- numbers that tie are the same
 pub same_numbers : (p q : ℕ) → nat_cmp p q ≡ Equal → p ≡ q
 same_numbers p q h = grind (arith, nat_tests)
 

@@ -83,11 +83,13 @@ module _ (ends : Ends) where
     marked_more : marked ends (ms ++ m ∷ []) ≡ marked ends ms ++ (entry_of c (end_by ends number) number) ∷ []
     marked_more = map-append (entry_marked ends) ms (m ∷ []) ∙ ap (λ (e : Entry). marked ends ms ++ e ∷ []) entry_is
 
+    -- no two marked entries are the same after one more mark, if its entry was not marked before
     pub apart_more : AreApart (marked ends ms) → ¬ (Contains (marked ends ms) (entry_of c (end_by ends number) number)) → AreApart (marked ends (ms ++ m ∷ []))
     apart_more apart new =
         let e : Entry = entry_of c (end_by ends number) number in
         subst AreApart (sym marked_more) (all_pairs_push (λ (one other : Entry). one ≢ other) (marked ends ms) e apart (λ k d lt same. new (k, lt, get_or_default (marked ends ms) k e d lt ∙ same)))
 
+    -- one more mark of a cell and a number adds the entry of that cell and number, with the number's end, and no other
     pub adds_more : Adds (λ e. e ≡ entry_of c (end_by ends number) number) (marked ends ms) (marked ends (ms ++ m ∷ []))
     adds_more e = (
       λ there. elim (Contains-append_cases (marked ends ms) (entry_of c (end_by ends number) number ∷ []) e (subst (λ (l : List Entry). Contains l e) marked_more there)) [

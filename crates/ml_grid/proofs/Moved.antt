@@ -11,6 +11,7 @@ use Rattle.ml_grid.specs.Entry.{Entry, Replaces, IsEntryOf, AreEntriesOf}
 use Rattle.ml_grid.specs.Placed.{IsEntryAmong}
 use Rattle.ml_grid.proofs.Places.{place_once}
 
+-- where no entry has the one property or the other, none goes and none comes in
 pub replaces_none : (P Q : Entry → Type 0) (a : List Entry) → ((e : Entry) → ¬ (P e)) → ((e : Entry) → ¬ (Q e)) → Replaces P Q a a
 replaces_none P Q a nothing none e = (λ h. inl (h, nothing e), λ h. elim h [ inl old ↦ old.0 | inr new ↦ absurd (none e new) ])
 

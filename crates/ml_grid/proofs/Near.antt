@@ -62,9 +62,11 @@ near_of_seen a number u entries v its seen =
       cell = record { x = e.key.x; y = e.key.y; among = of_label.in_cell.among; in_view = seen.3.meets };
     }
 
+-- a view sees an entry of a label just if the label is near the view
 pub near_exactly : (a : Label) (number : ℕ) (u : Ratio) (entries : List Entry) (v : View) → IsEnd a (value_of u) → AreEntriesOf number a u entries → IsNumberOf (IsSeen v) entries number ↔ IsNear a u v
 near_exactly a number u entries v end its = (near_of_seen a number u entries v its, seen_of_near a number u entries v end its)
 
+-- where hulls of labels in view have a cell in view, the view sees an entry of each label that is active at its scale and in view
 pub seen_if_shown : ((a : Label) (v : View) (k : ℕ) → IsInBand (value_of v.scale) k → IsInView a v → SeenCell a v k) → (a : Label) (number : ℕ) (u : Ratio) (entries : List Entry) (v : View) → IsEnd a (value_of u) → AreEntriesOf number a u entries →
     ActiveUntil a (value_of u) (value_of v.scale) → IsInView a v → IsNumberOf (IsSeen v) entries number
 unfolding whole

@@ -15,6 +15,7 @@ span_is c x h = omega (arith, ints)
 span_less : (c x d : ℤ) → c ≤ℤ x → x ≤ℤ d → unsigned_abs (x -ℤ c) < count_between c d
 span_less c x d h i = omega (arith, ints)
 
+-- the column n places behind the first one is one of the columns if there are more than n
 pub span_in : (c d : ℤ) (n : ℕ) → c ≤ℤ d → n < count_between c d → (c ≤ℤ (c +ℤ pos n)) × ((c +ℤ pos n) ≤ℤ d)
 span_in c d n h i = (omega (arith, ints), omega (arith, ints))
 

@@ -16,6 +16,7 @@ use Rattle.ml_cone.specs.declared.label.BoxPx.{BoxPx}
 use Rattle.ml_cone.specs.declared.label.Label.{Label}
 use Rattle.ml_grid.specs.Marks.{IsDigit, AreDigits}
 
+-- a mark has a digit for a column between two columns for which it has one
 pub digit_between : (a b c : ℤ) → negsuc 2097151 ≤ℤ a → a ≤ℤ c → c ≤ℤ b → b ≤ℤ pos 2097151 → IsDigit c
 digit_between a b c f g h i = (omega (arith, ints), omega (arith, ints))
 

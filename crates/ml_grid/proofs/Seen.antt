@@ -27,9 +27,11 @@ band_low s j k h i =
       | inr more ↦ more
     ]
 
+-- two bands in which a fraction lies are one
 pub one_band : (s : Fraction) (j k : ℕ) → IsInBand s j → IsInBand s k → j ≡ k
 one_band s j k h i = let a = band_low s j k h i in let b = band_low s k j i h in omega arith
 
+-- a view sees an entry just if its cell meets the window in the band of the scale and it ends at the scale at the earliest
 pub is_seen : (v : View) (cells : Cells) (s : Ratio) → IsInBand (value_of v.scale) cells.band → ((x y : ℤ) → IsAmongCells cells x y ↔ CellInView v cells.band x y) → s ≡ v.scale → (e : Entry) →
     IsSeen v e ↔ IsAmongFrom cells s e
 is_seen v cells s band meets is e = (

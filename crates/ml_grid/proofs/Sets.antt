@@ -45,9 +45,11 @@ adds_same P Q a b h r e = (
   λ old. elim old [ inl in_a ↦ (h e).1 (inl in_a) | inr some ↦ (h e).1 (inr ((r e).0 some)) ],
 )
 
+-- where no entry has the property, none goes
 pub drops_none : (P : Entry → Type 0) (a : List Entry) → ((e : Entry) → ¬ (P e)) → LosesEntries P a a
 drops_none P a none e = (λ h. (h, none e), λ h. h.0)
 
+-- where first the entries with one property go and then those with another, those with either one go
 pub drops_both : (P Q R : Entry → Type 0) (a b c : List Entry) → LosesEntries P a b → LosesEntries Q b c → ((e : Entry) → R e ↔ (P e ⊎ Q e)) → LosesEntries R a c
 drops_both P Q R a b c h k r e = (
   λ left.
@@ -57,15 +59,18 @@ drops_both P Q R a b c h k r e = (
   λ old. (k e).1 ((h e).1 (old.0, λ first. old.1 ((r e).1 (inl first))), λ second. old.1 ((r e).1 (inr second))),
 )
 
+-- the entries that go are those with the same property in other words
 pub drops_same : (P Q : Entry → Type 0) (a b : List Entry) → LosesEntries P a b → ((e : Entry) → Q e ↔ P e) → LosesEntries Q a b
 drops_same P Q a b h r e =
     (λ left. let in_a = (h e).0 left in (in_a.0, λ some. in_a.1 ((r e).0 some)), λ old. (h e).1 (old.0, λ some. old.1 ((r e).1 some)))
 
 -- ---- the entries of a hull's cells
 
+-- no entry is in the first 0 cells
 pub none_placed : (number : ℕ) (until : Ratio) (cells : Cells) (e : Entry) → ¬ (IsEntryAmong number until cells 0 e)
 none_placed number until cells e h = let m = h.1 in omega arith
 
+-- an entry is in one of the first n + 1 cells just if it is in one of the first n or is that of the next cell
 pub placed_more : (number : ℕ) (until : Ratio) (cells : Cells) (n : ℕ) (c : Cell) → c ≡ cell_in cells n → (e : Entry) → IsEntryAmong number until cells (n + 1) e ↔ (IsEntryAmong number until cells n e ⊎ (e ≡ (entry_of c until number)))
 placed_more number until cells n c is e = (
   λ h. elim (cases_lt h.0 n) [
@@ -90,6 +95,7 @@ entry_parts : (e : Entry) (c : Cell) (until : Ratio) (number : ℕ) → e.key �
 entry_parts e c until number p q r =
     ap (λ (d : Cell). entry_of d e.end e.value) p ∙ (ap (λ (u : Ratio). entry_of c u e.value) q ∙ ap (λ (n : ℕ). entry_of c until n) r)
 
+-- no entry of a label is in a band below 0
 pub none_below : (number : ℕ) (a : Label) (until : Ratio) (e : Entry) → ¬ (IsEntryBelow number a until 0 e)
 none_below number a until e h = let m = h.1 in omega arith
 
@@ -129,6 +135,7 @@ none_at number a until k unmet e h =
     let met = of_meets a k (subst (λ (m : ℕ). MeetsBand m (value_of a.min) (value_of a.max)) h.1 h.0.in_cell.meets) in
     false≢true (sym unmet ∙ met)
 
+-- an entry of a label is in a band below k + 1 just if it is in a band below k or in band k
 pub below_more : (number : ℕ) (a : Label) (until : Ratio) (k : ℕ) (e : Entry) → IsEntryBelow number a until (k + 1) e ↔ (IsEntryBelow number a until k e ⊎ IsEntryAt number a until k e)
 below_more number a until k e = (
   λ h. elim (cases_lt e.key.band k) [

@@ -83,6 +83,7 @@ window_columns c w h k s e positive x =
       λ p. let p0 = p.0 in let p1 = p.1 in o.1 (omega (arith, ints), omega (arith, ints)),
     )
 
+-- a window up to 4,096 wide meets one to nine columns of a band whose upper end is above the scale
 pub window_few : (c : ℤ) (w h k : ℕ) (s : Fraction) → w ≡ 2 * h → 2 ≤ w → w ≤ 4096 → 0 < s.num → s.num < 2 ^ (k + 1) * s.den → 0 < cell_side k * s.den →
     AreUpToNine (int_div_euclid ((c *ℤ pos s.den) -ℤ pos (h * s.num)) (pos (cell_side k * s.den))) (int_div_euclid (((c *ℤ pos s.den) +ℤ pos (h * s.num)) -ℤ pos 1) (pos (cell_side k * s.den)))
 window_few c w h k s e some low above below positive =
@@ -113,6 +114,7 @@ halves w even = omega arith
 side_some : (k : ℕ) (s : Fraction) → 0 < cell_side k * s.den
 side_some k s = mul-lt 0 0 (cell_side k) s.den (let p = pow_pos k in omega arith) s.positive
 
+-- the cells of the band of a view's scale that meet the window are those of a rectangle of at most 81 cells
 pub few_seen : (v : View) (k : ℕ) → IsInBand (value_of v.scale) k → HasFewCells v k
 unfolding first_of last_of
 few_seen v k in_band =

@@ -8,7 +8,7 @@ ghost use Rattle.ml_spans.specs.Spans.{renewed, HaveOwnPlaces};
 ghost use Rattle.ml_grid.specs.Cell.{cell_cmp};
 ghost use Rattle.ml_grid.specs.Count.{AreUpToNine, entry_count};
 ghost use Rattle.ml_grid.specs.Entry.{IsEntryOf, Adds, LosesEntries, Replaces, IsFree, AreEntriesOf, AreApart};
-ghost use Rattle.ml_grid.specs.Found.{Finds, AppendsNumbers, AppendsFirst, IsInHull, IsNumberOf, HasEntry, IsSeen};
+ghost use Rattle.ml_grid.specs.Found.{Finds, AppendsNumbers, AppendsFirst, IsAmong, IsInHull, IsNumberOf, HasEntry, IsSeen};
 ghost use Rattle.ml_grid.specs.Column.{IsAmongFrom};
 ghost use Rattle.ml_grid.specs.Marks.{marked, end_by};
 
@@ -218,6 +218,20 @@ impl Grid {
     {
         let mut found = Seq::of_vec(Vec::with_capacity(alloc, ROOM)?);
         find_cells_from(&self.tree, cells, scale, &mut found)?;
+        Ok(found)
+    }
+
+    /// The numbers that have an entry in one of the cells, of which there are nine columns at most, in whatever
+    /// order and however often.
+    ///
+    /// # Errors
+    /// Out of memory.
+    pub fn all_in_cells(&self, alloc: Global, cells: &Cells) -> Result<Seq<u32>, AllocError>
+        requires few { AreUpToNine cells.now.x0 cells.now.x1 }
+        ensures { IfOk result (λ numbers. (n : ℕ) → Contains numbers n ↔ IsNumberOf (IsAmong cells.now) self.now.entries n) }
+    {
+        let mut found = Seq::of_vec(Vec::with_capacity(alloc, ROOM)?);
+        find_cells(&self.tree, cells, &mut found)?;
         Ok(found)
     }
 

@@ -18,9 +18,11 @@ use Rattle.ml_ratio.proofs.lemmas.Lists.{all_pairs_insert, map_insert, map_remov
 
 -- ---- ids
 
+-- an id comes before a third one if it comes before a second one that comes before the third
 pub before_trans : (a b c : List ℕ) → IsIdBefore a b → IsIdBefore b c → IsIdBefore a c
 before_trans a b c = nat_list_cmp_total.trans a b c
 
+-- no id comes before itself
 pub not_before_itself : (a : List ℕ) → ¬ (IsIdBefore a a)
 not_before_itself a h = let e = tied_itself nat_list_cmp_total a in cc
 
@@ -30,6 +32,7 @@ turned one Less e a b = refl
 turned one Equal e a b = absurd (b e)
 turned one Greater e a b = absurd (a e)
 
+-- of two different ids the second comes before the first, if the first does not come before the second
 pub before_other : (a b : List ℕ) → ¬ (IsIdBefore a b) → a ≢ b → IsIdBefore b a
 before_other a b not differ = turned (slice_cmp nat_cmp a b) (slice_cmp nat_cmp b a) (nat_list_cmp_total.antisymm a b) not (λ tie. differ (tied_keys a b tie))
 
@@ -51,10 +54,12 @@ not_twice sorted at name lt is up there =
 
 -- ---- names of which no two have one number
 
+-- names that have one number are one name
 abbrev pub AreUnique : List Name → Type 0
 AreUnique names = (a b : Name) → Contains names a → Contains names b → a.number ≡ b.number → a ≡ b
 
 module _ (names : List Name) (numbers : List ℕ) (own : AreUnique names) (by : AreByName names numbers) where
+  -- there are as many numbers as names that were sorted by id
   pub length_sorted : length numbers ≡ length by.sorted
   length_sorted = ap length by.numbers_are ∙ length-map by.sorted (λ (x : Name). x.number)
 
@@ -77,6 +82,7 @@ module _ (names : List Name) (numbers : List ℕ) (own : AreUnique names) (by : 
       let in' : at.0 < length numbers = omega arith in
       (at.0, in', number_sorted at.0 name in' ∙ ap (λ (x : Name). x.number) at.2)
 
+  -- of two numbers in the list, the id of the earlier one's name comes before that of the later one's
   pub order_here : (i j : ℕ) (a b : Name) → i < j → j < length numbers → Contains names a → Contains names b → get_or numbers i 0 ≡ a.number → get_or numbers j 0 ≡ b.number → IsIdBefore a.id b.id
   order_here i j a b less lt in_a in_b at_a at_b =
       let n = length_sorted in
@@ -91,6 +97,7 @@ module _ (names : List Name) (numbers : List ℕ) (own : AreUnique names) (by : 
 
   -- ---- the search
 
+  -- where the id of the name at the middle place comes before the id sought, so do those of all names up to that place
   pub before_more : (id : List ℕ) (middle : ℕ) (name : Name) → middle < length numbers → Contains names name → get_or numbers middle 0 ≡ name.number → IsIdBefore name.id id →
       (k : ℕ) (other : Name) → k < middle + 1 → Contains names other → get_or numbers k 0 ≡ other.number → IsIdBefore other.id id
   before_more id middle name lt there at before k other in' there' at' =
@@ -102,6 +109,7 @@ module _ (names : List Name) (numbers : List ℕ) (own : AreUnique names) (by : 
             subst (λ (x : Name). IsIdBefore x.id id) e before
       ]
 
+  -- where the id of the name at the middle place does not come before the id sought, neither do those of all names from there on
   pub after_more : (id : List ℕ) (middle : ℕ) (name : Name) → middle < length numbers → Contains names name → get_or numbers middle 0 ≡ name.number → ¬ (IsIdBefore name.id id) →
       (k : ℕ) (other : Name) → middle ≤ k → k < length numbers → Contains names other → get_or numbers k 0 ≡ other.number → ¬ (IsIdBefore other.id id)
   after_more id middle name lt there at not k other le in' there' at' before =
@@ -133,6 +141,7 @@ module _ (names : List Name) (numbers : List ℕ) (own : AreUnique names) (by : 
 
   -- ---- a name comes or goes
 
+  -- when a name of a new id comes in, with its number put at the place of the id, the numbers are still in byte order of ids
   pub named_in : (name : Name) (at : ℕ) (more : List Name) → IsIdPlace names numbers name.id at → ¬ (HaveId names name.id) → IsAdded name names more → AreByName more (insert numbers at name.number)
   named_in name at more place new added =
       let n = length_sorted in
@@ -159,6 +168,7 @@ module _ (names : List Name) (numbers : List ℕ) (own : AreUnique names) (by : 
         numbers_are = ap (λ ns. insert ns at name.number) by.numbers_are ∙ sym (map_insert (λ (x : Name). x.number) by.sorted at name);
       }
 
+  -- when a name goes, with its number taken from its place, the other numbers are still in byte order of ids
   pub named_out : (name : Name) (at : ℕ) (less : List Name) → at < length numbers → get_or numbers at 0 ≡ name.number → ¬ (Contains less name) → IsAdded name less names → AreByName less (remove numbers at)
   named_out name at less lt here gone added =
       let n = length_sorted in

@@ -16,7 +16,7 @@ use Rattle.ml_cone.specs.declared.outline.Outline.{Outline}
 use Rattle.ml_cone.specs.declared.view.View.{View}
 use Rattle.ml_grid.specs.Cell.{cell_of}
 use Rattle.ml_grid.specs.Entry.{Entry, AreEntriesOf}
-use Rattle.ml_grid.specs.Found.{IsNumberOf, HasEntry, IsInHull, IsSeen, AppendsNumbers, Finds}
+use Rattle.ml_grid.specs.Found.{IsAmong, IsNumberOf, HasEntry, IsInHull, IsSeen, AppendsNumbers, Finds}
 use Rattle.ml_grid.specs.Column.{IsAmongFrom}
 use Rattle.ml_grid.specs.Near.{IsNear}
 use Rattle.ml_store.specs.Rows.{HaveOwnNumbers, IsLive}
@@ -27,14 +27,17 @@ use Rattle.ml_store.proofs.Fresh.{fresh_removed}
 use Rattle.ml_store.proofs.Index.{index_its, entry_number}
 use Rattle.ml_ratio.proofs.lemmas.Lists.{added_remove}
 
+-- what is true where there is a result may be said in weaker words
 pub on_ok : {A E : Type 0} (r : Result A E) (P Q : Type 0) → (P → Q) → OnOk r P → OnOk r Q
 on_ok (Ok a) P Q f h = f h
 on_ok (Err e) P Q f h = h
 
+-- what is true of a result where there is one may be said in weaker words
 pub if_ok : {A E : Type 0} (r : Result A E) (P Q : A → Type 0) → ((x : A) → P x → Q x) → IfOk r P → IfOk r Q
 if_ok (Ok x) P Q f h = f x h
 if_ok (Err e) P Q f h = h
 
+-- where there is an error, whatever is said for the case of a result is true
 pub on_err : {A E : Type 0} (r : Result A E) (e : E) (P : Type 0) → r ≡ Err e → OnOk r P
 on_err r e P is = rw is tt
 
@@ -76,10 +79,12 @@ module _ (rows : List Row) (entries : List Entry) (kept : IsIndex IsEntryIn rows
       (found r.number).1 (e, (kept e).1 (r, there, record { in_cell = f.kept; its_end = refl; its_number = refl }), refl, ((refl, f.among), lasts))
 
   -- and where that holds in several bands, those of all that it overlaps there
-  pub found_across : (o : Outline) → AreWithin o rows → (a : Label) (k m : ℕ) (scale : Ratio) (cells : Cells) → scale.num ≡ 0 → ((b : Label) (n : ℕ) → IsWithin o b → k ≤ n → n < m → OverlapIn a b n → IsKeptAmong cells b) →
-      (numbers : List ℕ) → ((n : ℕ) → Contains numbers n ↔ IsNumberOf (IsAmongFrom cells scale) entries n) → AreAcross rows a k m numbers
-  found_across o within a k m scale cells none whole numbers found r n there from upto over =
-      found_overlapping o within a n scale cells (λ b w v. whole b n w from upto v) numbers found r there over (rw none (omega arith))
+  pub found_across : (o : Outline) → AreWithin o rows → (a : Label) (k m : ℕ) (cells : Cells) → ((b : Label) (n : ℕ) → IsWithin o b → k ≤ n → n < m → OverlapIn a b n → IsKeptAmong cells b) →
+      (numbers : List ℕ) → ((n : ℕ) → Contains numbers n ↔ IsNumberOf (IsAmong cells) entries n) → AreAcross rows a k m numbers
+  found_across o within a k m cells whole numbers found r n there from upto over =
+      let f = whole r.label n (All-contains (λ (s : Row). IsWithin o s.label) rows r within there) from upto over in
+      let e = entry_of (cell_of cells.band f.x f.y) r.slot.until r.number in
+      (found r.number).1 (e, (kept e).1 (r, there, record { in_cell = f.kept; its_end = refl; its_number = refl }), refl, (refl, f.among))
 
   -- where no entry of such a cell lasts long enough, none of these labels does
   pub clear_of : (o : Outline) → AreWithin o rows → (a : Label) (k m : ℕ) (scale : Ratio) (cells : Cells) → HoldOverlapped o a k m cells → ¬ (HasEntry (IsAmongFrom cells scale) entries) → NoneOverlaps rows a k m scale
@@ -95,6 +100,7 @@ module _ (rows : List Row) (entries : List Entry) (kept : IsIndex IsEntryIn rows
       let some = (kept h.0).0 h.1 in
       (some.0, some.1, sym some.2.its_number ∙ h.2)
 
+  -- the numbers that come in from a label's hull are those of the rows that a search for the label finds
   pub found_near : (a : Label) (k : ℕ) (before after : List ℕ) → Finds (IsInHull a k) entries before after → Gathers (IsNumberWith (λ r. IsFoundIn a r.label k) rows) before after
   found_near a k before after found n = (
     λ c. elim ((found n).0 c) [ inl old ↦ inl old | inr new ↦ inr (hull_row a k n new) ],
@@ -107,6 +113,7 @@ module _ (rows : List Row) (entries : List Entry) (kept : IsIndex IsEntryIn rows
       let read : r ≡ get_or rows there.0 r = sym there.2 in
       index_its (λ (e : Entry). e.value) IsEntryIn entry_number entries (added_remove rows there.0 r there.1 read) (fresh_removed rows there.0 r differ there.1 read) kept
 
+  -- the numbers of the entries that a view sees are those of the rows near it, each once
   pub found_seen : HaveOwnNumbers rows → All (λ r. IsEnd r.label (value_of r.slot.until)) rows → (v : View) →
       ((a : Label) (n : ℕ) (u : Ratio) (es : List Entry) (w : View) → IsEnd a (value_of u) → AreEntriesOf n a u es → IsNumberOf (IsSeen w) es n ↔ IsNear a u w) →
       (numbers : List ℕ) → AppendsNumbers (IsSeen v) entries [] numbers → AreNearNumbers rows v numbers
@@ -134,6 +141,7 @@ module _ (rows : List Row) (entries : List Entry) (kept : IsIndex IsEntryIn rows
         );
       }
 
+  -- and among them are those of all rows that are active at the view's scale and in the view
   pub found_shown : HaveOwnNumbers rows → All (λ r. IsEnd r.label (value_of r.slot.until)) rows → (v : View) →
       ((a : Label) (n : ℕ) (u : Ratio) (es : List Entry) (w : View) → IsEnd a (value_of u) → AreEntriesOf n a u es → ActiveUntil a (value_of u) (value_of w.scale) → IsInView a w → IsNumberOf (IsSeen w) es n) →
       (numbers : List ℕ) → AppendsNumbers (IsSeen v) entries [] numbers →

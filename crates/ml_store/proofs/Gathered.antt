@@ -39,15 +39,19 @@ fresh_next rows i r differ lt read there =
 
 -- one box more is read
 module _ (boxes : List (Box Row Global)) (i : ℕ) (b : Box Row Global) (lt : i < length boxes) (read : b ≡ get_or boxes i b) where
+  -- the row in the box that is read is the row at that place
   pub box_read : b.value ≡ get_or (unboxed boxes) i b.value
   box_read = ap box_value read ∙ sym (get_or-map box_value boxes i b b.value lt)
 
+  -- the place of the box that is read is that of some row
   pub row_there : i < length (unboxed boxes)
   row_there = let long = length-map boxes box_value in omega arith
 
+  -- the first rows up to this box are those read before and its row
   pub added_box : IsAdded b.value (take i (unboxed boxes)) (take (i + 1) (unboxed boxes))
   added_box = added_next (unboxed boxes) i b.value row_there box_read
 
+  -- where rows have numbers of their own, no row read before has the number of the row in this box
   pub fresh_box : HaveOwnNumbers (unboxed boxes) → IsFresh b.value.number (take i (unboxed boxes))
   fresh_box differ = fresh_next (unboxed boxes) i b.value differ row_there box_read
 

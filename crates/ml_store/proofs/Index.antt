@@ -87,9 +87,11 @@ module _ {X : Type 0} (number_of : X → ℕ) (Q : Row → X → Type 0) (own : 
 
 -- what had the number goes, and other values come
 module _ {X : Type 0} (number_of : X → ℕ) (n : ℕ) (P Q : X → Type 0) (old : List X) (its : (x : X) → (Contains old x × (number_of x ≡ n)) ↔ P x) where
+  -- once all that had the number are gone, nothing that is left has it
   pub moved_free : (less : List X) → ((x : X) → Contains less x ↔ (Contains old x × (¬ (P x)))) → (x : X) → Contains less x → ¬ (number_of x ≡ n)
   moved_free less went x c e = let h = (went x).0 c in h.1 ((its x).0 (h.0, e))
 
+  -- where the values with the number go first and others come after, the index has the values of other numbers and what came
   pub moved_both : (less new : List X) → ((x : X) → Contains less x ↔ (Contains old x × (¬ (P x)))) → ((x : X) → Contains new x ↔ (Contains less x ⊎ Q x)) →
       (x : X) → Contains new x ↔ ((Contains old x × (¬ (number_of x ≡ n))) ⊎ Q x)
   moved_both less new went came x = (
@@ -142,12 +144,15 @@ index_same Q rows index after moved is x = (
 
 -- ---- the two indices
 
+-- an entry of a row has the row's number for its value
 pub entry_number : (r : Row) (e : Entry) → IsEntryIn r e → e.value ≡ r.number
 entry_number r e h = h.its_number
 
+-- a pair of a label's number and its blocker has the label's number for its value
 pub pair_by_number : (number : ℕ) (blocker : Option ℕ) (p : Pair) → IsPairBy number blocker p → p.value ≡ number
 pair_by_number number None p h = absurd h
 pair_by_number number (Some b) p h = ap (λ (q : Pair). q.value) h
 
+-- a pair of a row has the row's number for its value
 pub pair_number : (r : Row) (p : Pair) → IsPairIn r p → p.value ≡ r.number
 pair_number r p h = pair_by_number r.number r.slot.blocker p h

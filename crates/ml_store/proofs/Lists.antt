@@ -11,6 +11,7 @@ pub all_shorter : {A : Type 0} (P : A → Type 0) {x : A} {xs ys : List A} → I
 all_shorter {A} P {x} {xs} {ys} a h =
     All-weaker (Contains xs) P (λ y c. All-contains P ys y h (added_has a y c)) xs (All-contains_itself xs)
 
+-- what is true of the new element and of each one of the shorter list is true of each one of the longer list
 pub all_longer : {A : Type 0} (P : A → Type 0) {x : A} {xs ys : List A} → IsAdded x xs ys → P x → All P xs → All P ys
 all_longer {A} P {x} {xs} {ys} a p h =
     All-weaker (Contains ys) P (λ y c. elim (added_only a y c) [

@@ -12,6 +12,7 @@ use Rattle.ml_store.proofs.ByName.{AreUnique}
 use Rattle.ml_ratio.proofs.lemmas.Lists.{contains_map, map_contains, map_remove, removed_gone, same_place}
 use Rattle.std.proofs.lemmas.Simd.{map-map}
 
+-- the numbers of the rows' names are the numbers of the rows
 pub number_of_names : (rows : List Row) → map (λ (x : Name). x.number) (names_in rows) ≡ numbers_in rows
 number_of_names rows = map-map (λ (x : Name). x.number) naming_of rows
 

@@ -40,16 +40,19 @@ different_from_places order places many placed i j d less lt e =
 abbrev pub shifted : List ℕ → ℕ → ℕ → List ℕ
 shifted order from to = insert (remove order from) to (get_or order from 0)
 
+-- a shift leaves the order as long as it was
 pub length-shifted : (order : List ℕ) (from to : ℕ) → from < length order → to < length order → length (shifted order from to) ≡ length order
 length-shifted order from to a b =
     let n = length-remove order from a in
     let m = length-insert (remove order from) to (get_or order from 0) (omega arith) in
     omega arith
 
+-- a shift keeps all numbers and changes their places alone
 pub permutation_shifted : (order : List ℕ) (from to : ℕ) → from < length order → IsPermutation order (shifted order from to)
 permutation_shifted order from to lt =
     IsPermutation-trans order _ _ (IsPermutation-remove order from (get_or order from 0) lt (get_or_default order from 0 (get_or order from 0) lt)) (IsPermutation-insert (remove order from) to (get_or order from 0))
 
+-- different numbers still differ after a shift
 pub different_shifted : (order : List ℕ) (from to : ℕ) → from < length order → to < length order → AreDifferent order → AreDifferent (shifted order from to)
 different_shifted order from to a b differ =
     let n = length-remove order from a in
@@ -104,6 +107,7 @@ unused order places used n o le there =
     let at : get_or places n 0 ≡ k = sym (ap (λ m. get_or places m 0) e) ∙ o.placed k (omega arith) in
     absurd (omega arith)
 
+-- no number from 32,768 on is in use
 pub unused_high : (order places : List ℕ) (used n : ℕ) → AreOrdered order places used → 32768 ≤ n → ¬ (Contains (take used order) n)
 unused_high order places used n o high there =
     let few : used ≤ 32768 = o.few in
@@ -139,6 +143,7 @@ placed_shifted order places from to low high many a b c d e f placed k in' but =
       | inr more ↦ rw (shifted_right order from to k 0 (omega arith) (omega arith) (omega arith) (omega arith)) (placed k in')
     ]
 
+-- after a shift, the order fits a column in which each number's new place is written, however many are then in use
 pub ordered_shifted : (order places new : List ℕ) (used from to now : ℕ) → AreOrdered order places used → from < 32768 → to < 32768 → now ≤ 32768 → length new ≡ 32768 →
     ((k : ℕ) → k < 32768 → get_or new (get_or (shifted order from to) k 0) 0 ≡ k) → AreOrdered (shifted order from to) new now
 ordered_shifted order places new used from to now o a b few many placed =

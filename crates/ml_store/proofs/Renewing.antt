@@ -17,6 +17,7 @@ use Rattle.ml_ratio.proofs.lemmas.Lists.{contains_cons, contains_map, map_contai
 
 -- ---- one row after another
 
+-- rows get a list of new slots when they get its first one and then all the others
 pub moved_cons : (m : Moved) (moved : List Moved) (rows : List Row) → moved_rows (m ∷ moved) rows ≡ moved_rows moved (moved_rows (m ∷ []) rows)
 moved_cons m moved [] = refl
 moved_cons m moved (r ∷ rows) = ap (λ rs. moved_row (m ∷ moved) r ∷ rs) (moved_cons m moved rows)
@@ -40,10 +41,12 @@ one_moved m (r ∷ rows) (suc at) lt here others =
 number_is : (rows : List Row) (k : ℕ) (d : Row) → k < length rows → number_at rows k ≡ (get_or rows k d).number
 number_is rows k d lt = get_or-map (λ (t : Row). t.number) rows k d 0 lt
 
+-- a new slot for a number that no row has changes no row
 pub moved_fresh : (m : Moved) (rows : List Row) → IsFresh m.number rows → moved_rows (m ∷ []) rows ≡ rows
 moved_fresh m rows fresh =
     none_moved m rows (λ k d lt e. let many = length-map rows (λ (t : Row). t.number) in fresh (k, omega arith, get_or_default (numbers_in rows) k m.number 0 (omega arith) ∙ number_is rows k d lt ∙ e))
 
+-- where rows have numbers of their own, a new slot for the number of the row at a place goes to that row alone
 pub moved_at_row : (m : Moved) (rows : List Row) (at : ℕ) → HaveOwnNumbers rows → IsRowAt rows m.number at → moved_rows (m ∷ []) rows ≡ with_slot rows at m.slot
 moved_at_row m rows at differ here =
     let many = length-map rows (λ (t : Row). t.number) in
@@ -51,6 +54,7 @@ moved_at_row m rows at differ here =
     one_moved m rows at here.0 (λ d. sym (number_is rows at d here.0) ∙ here.1)
     (λ k d k_in ne e. ne (same_place (numbers_in rows) k at 0 differ (omega arith) (omega arith) (number_is rows k d k_in ∙ e ∙ sym here.1)))
 
+-- behind the last of the new slots there is none left that changes a row
 pub rows_none : (moved : List Moved) (k : ℕ) (rows : List Row) → length moved ≤ k → moved_rows (drop k moved) rows ≡ rows
 rows_none [] zero rows le = moved_none rows
 rows_none [] (suc k) rows le = moved_none rows
@@ -62,6 +66,7 @@ pub numbers_moved : (moved : List Moved) (rows : List Row) → numbers_in (moved
 numbers_moved moved [] = refl
 numbers_moved moved (r ∷ rows) = ap (λ ns. r.number ∷ ns) (numbers_moved moved rows)
 
+-- rows with numbers of their own still have them when all of them get their new slots
 pub differ_all_moved : (moved : List Moved) (rows : List Row) → HaveOwnNumbers rows → HaveOwnNumbers (moved_rows moved rows)
 differ_all_moved moved rows differ = rw (numbers_moved moved rows) differ
 
@@ -70,6 +75,7 @@ differ_all_moved moved rows differ = rw (numbers_moved moved rows) differ
 differ_rest : (r : Row) (rows : List Row) → HaveOwnNumbers (r ∷ rows) → HaveOwnNumbers rows
 differ_rest r rows differ i j d less within = differ (suc i) (suc j) d (omega arith) (omega arith)
 
+-- where rows have numbers of their own, the end that is found by a row's number is that row's
 pub end_of_row : (rows : List Row) (r : Row) (n : ℕ) (end : Ratio) → HaveOwnNumbers rows → Contains rows r → r.number ≡ n → end_in rows n end ≡ r.slot.until
 end_of_row [] r n end differ there e = absurd (let none = there.1 in omega arith)
 end_of_row (s ∷ rows) r n end differ there e = elim (contains_cons s r rows there) [
@@ -80,6 +86,7 @@ end_of_row (s ∷ rows) r n end differ there e = elim (contains_cons s r rows th
       ∙ end_of_row rows r n end (differ_rest s rows differ) later e
 ]
 
+-- where no row has the number, the end that is given for this case is found
 pub end_of_none : (rows : List Row) (n : ℕ) (end : Ratio) → IsFresh n rows → end_in rows n end ≡ end
 end_of_none [] n end fresh = refl
 end_of_none (s ∷ rows) n end fresh =

@@ -16,6 +16,7 @@ turned_right part = drop (length part - 1) part ++ take (length part - 1) part
 left_part : (x : ℕ) (rest : List ℕ) (n : ℕ) → turned_left (take (suc n) (x ∷ rest)) ++ drop (suc n) (x ∷ rest) ≡ insert rest n x
 left_part x rest n = append_assoc (take n rest) (x ∷ []) (drop n rest)
 
+-- when the part from `from` up to `to` is turned left by one, the element at `from` moves up to `to`
 pub left_moved : (xs : List ℕ) (from to : ℕ) → from < length xs → from ≤ to →
     take from xs ++ (turned_left (take (to + 1 - from) (drop from xs)) ++ drop (to + 1 - from) (drop from xs)) ≡ insert (remove xs from) to (get_or xs from 0)
 left_moved xs from to lt le =
@@ -36,6 +37,7 @@ right_part x front behind =
     ap (λ n. (drop n (front ++ x ∷ []) ++ take n (front ++ x ∷ [])) ++ behind) last
     ∙ (λ i. (drop_at front (x ∷ []) (length front) refl i ++ take_at front (x ∷ []) (length front) refl i) ++ behind)
 
+-- when the part from `to` up to `from` is turned right by one, the element at `from` moves down to `to`
 pub right_moved : (xs : List ℕ) (from to : ℕ) → from < length xs → to ≤ from →
     take to xs ++ (turned_right (take (from + 1 - to) (drop to xs)) ++ drop (from + 1 - to) (drop to xs)) ≡ insert (remove xs from) to (get_or xs from 0)
 right_moved xs from to lt le =

@@ -12,13 +12,16 @@ use Rattle.ml_store.specs.declared.row.Row.{Row}
 use Rattle.ml_store.proofs.Lists.{all_longer, all_shorter}
 use Rattle.ml_ratio.proofs.lemmas.Lists.{added_insert, added_remove}
 
+-- when a row comes in, all labels are within an outline that has room for its label and for all that the old one had room for
 pub within_inserted : (o next : Outline) (rows : List Row) (at : ℕ) (row : Row) → IsWithin next row.label → ((a : Label) → IsWithin o a → IsWithin next a) → AreWithin o rows → AreWithin next (insert rows at row)
 within_inserted o next rows at row new kept within =
     all_longer (λ (r : Row). IsWithin next r.label) (added_insert rows at row) new (All-weaker (λ (r : Row). IsWithin o r.label) (λ (r : Row). IsWithin next r.label) (λ r h. kept r.label h) rows within)
 
+-- when a row goes, the labels of the others are still within the outline
 pub within_removed : (o : Outline) (rows : List Row) (at : ℕ) (row : Row) → at < length rows → row ≡ get_or rows at row → AreWithin o rows → AreWithin o (remove rows at)
 within_removed o rows at row lt read within = all_shorter (λ (r : Row). IsWithin o r.label) (added_remove rows at row lt read) within
 
+-- when a row gets another slot, all labels are still within the outline
 pub within_slotted : (o : Outline) (rows : List Row) (at : ℕ) (slot : Slot) → AreWithin o rows → AreWithin o (with_slot rows at slot)
 within_slotted o [] at slot within = within
 within_slotted o (r ∷ rows) zero slot within =

@@ -55,16 +55,6 @@ pub fn find_overlapping(
     grid.in_cells(alloc, &outline.around(label, band), scale)
 }
 
-// The fraction 0/1.
-fn zero() -> Ratio
-    ensures { result.num ≡ 0 }
-{
-    match Ratio::of(0, 1) {
-        Some(zero) => zero,
-        None => unreachable!(),
-    }
-}
-
 // Cells in which each label is kept that the label overlaps in a band from `band` on, and the first band of those
 // that are still to be searched: that behind `upto` where one search does until there, else the next one.
 fn cells_across(outline: &Outline, label: &Label, band: u8, upto: u8) -> (Cells, u8)
@@ -101,7 +91,7 @@ pub fn find_across(
     ensures whole { IfOk result (λ found. AreAcross rows.now.rows label.now band found.1 found.0) }
 {
     let (cells, next) = cells_across(outline, label, band, upto);
-    let numbers = grid.in_cells(alloc, &cells, &zero())?;
+    let numbers = grid.all_in_cells(alloc, &cells)?;
     Ok((numbers, next))
 }
 
