@@ -8,5 +8,6 @@ use Rattle.ml_cone.specs.declared.label.Label.{Label}
 use Rattle.ml_cone.specs.declared.slot.Slot.{Slot}
 use Rattle.ml_cone.specs.declared.view.View.{View}
 
+-- the places of shown labels are places of labels
 pub shown_placed : (labels : List Label) (slots : List Slot) (v : View) (places : List ℕ) → AreShown labels (ends slots) v places → All (λ place. place < length labels) places
 shown_placed labels slots v places shown k d lt = rw (get_or_default places k 0 d lt) at (shown.sound k lt).0

@@ -24,6 +24,7 @@ printed_nothing : (a : Option (List ℕ)) → Appends a a []
 printed_nothing None = refl
 printed_nothing (Some xs) = ap Some (sym (append-nil xs))
 
+-- where a text was printed and then another, both were printed, one behind the other
 pub printed_on : (a b c : Option (List ℕ)) (p q : List ℕ) → Appends a b p → Appends b c q → Appends a c (p ++ q)
 printed_on None b c p q first second = rw first at second
 printed_on (Some xs) b c p q first second = (let is = rw first at second in is ∙ ap Some (append_assoc xs p q))
@@ -68,6 +69,7 @@ changes_more xs x = flat_map-append (λ a. a.changes) xs (x ∷ []) ∙ ap (λ c
 lines_more : (xs : List Offered) (x : Offered) → lines_of (xs ++ x ∷ []) ≡ lines_of xs ++ x.line ∷ []
 lines_more xs x = map-append (λ a. a.line) xs (x ∷ [])
 
+-- a further text comes behind those that are joined
 pub joined_more : (texts : List (List ℕ)) (text : List ℕ) → joined (texts ++ text ∷ []) ≡ joined texts ++ text
 joined_more texts text = flat_map-append (λ t. t) texts (text ∷ []) ∙ ap (λ xs. joined texts ++ xs) (append-nil text)
 
@@ -104,6 +106,7 @@ pub record SoFar {W : Type 0} (hearing : W → Hearing) (held : Option State) (s
   pub told : MatchBool all (AllAdopted answers) (SomeNotAdopted answers)
   pub calm : writes_now ≡ writes
 
+-- before any state is offered, all are left and nothing was printed
 pub at_start : {W : Type 0} (hearing : W → Hearing) (held : Option State) (states : List State) (crowd : List W) (written : Option (List ℕ)) (writes : ℕ) → AllHear hearing [] crowd crowd
     → SoFar hearing held states states held crowd crowd written written writes writes true
 at_start hearing held states crowd written writes nothing = record {

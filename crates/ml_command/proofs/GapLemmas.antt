@@ -17,6 +17,7 @@ lines_push (l ∷ labels) (s ∷ gaps) label gap n =
     ap (λ (rest : List ℕ). gap_line l.order.id s ++ rest) (lines_push labels gaps label gap (omega arith))
     ∙ sym (append_assoc (gap_line l.order.id s) (gap_lines labels gaps) (gap_line label.order.id gap))
 
+-- the gap lines of the first i + 1 labels are those of the first i and that of the next label
 pub lines_more : (labels : List Label) (gaps : List Gap) (i : ℕ) (d : Label) (e : Gap) → length gaps ≡ length labels → i < length labels → gap_lines (take (i + 1) labels) (take (i + 1) gaps) ≡ gap_lines (take i labels) (take i gaps) ++ gap_line (get_or labels i d).order.id (get_or gaps i e)
 lines_more labels gaps i d e n at =
     rw (take_more labels i d at, take_more gaps i e (omega arith))

@@ -66,6 +66,7 @@ module _ (rows : List Row) (are : AreSlots (number_at rows) (labels_in rows) (sl
     | inr past ↦ ap (λ s. s.until) (get_or_past (slots_in rows) i no_slot (omega (arith, past, many)) ∙ sym (get_or_past slots i no_slot (omega (arith, past, size))))
   ]
 
+  -- there are slots with the same ends whose blockers are told by place
   pub slots_by_place : (slots : List Slot) × ArePlacedSlots rows slots
   slots_by_place =
       let made = slots_for (IsPlacedAt rows) (length (labels_in rows)) each in

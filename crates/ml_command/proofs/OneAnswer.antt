@@ -74,6 +74,7 @@ module _ (tables : (bytes : List ℕ) (labels others : List Label) → IsTable b
       let places : x.places ≡ y.places = same_gap_places labels x.gaps view x.places y.places x.shown shown in
       x.line ∙ ap (λ (ps : List ℕ). view_line labels (map slot_of x.gaps) ps view.scale) places ∙ ap (λ (gs : List Gap). view_line labels (map slot_of gs) y.places view.scale) (sym gaps) ∙ sym y.line
 
+  -- what is asked of a named table has one answer
   pub one_table_answer : (files : FileSet) (table : List ℕ) (task : TableTask) (a b : List ℕ) → IsTableAnswer (Some files) table task a → IsTableAnswer (Some files) table task b → a ≡ b
   one_table_answer files table task a b (labels, has, x) (others, had, y) =
       let bytes : had.0 ≡ has.0 = same_file files table had.0 has.0 had.1 has.1 in
@@ -94,6 +95,7 @@ module _ (styles : (bytes : List ℕ) (one other : Style) → IsStyle bytes one 
       let bytes : y.0 ≡ x.0 = same_file files name y.0 x.0 y.1 x.1 in
       maps x.0 features others x.2 (rw bytes at y.2)
 
+  -- a named style and a named map give one first state
   pub one_first_state : (files : FileSet) (style name : List ℕ) (one other : State) → IsFirstState (Some files) style name one → IsFirstState (Some files) style name other → one ≡ other
   one_first_state files style name one other x y =
       x.is ∙ ap (λ (s : Style). first_state s x.features) (same_style files style x.classes y.classes x.has_style y.has_style)
@@ -123,6 +125,7 @@ module _ (styles : (bytes : List ℕ) (one other : Style) → IsStyle bytes one 
         let same : others ≡ labels = labels_again style features others labels were are in
         zoom_again labels window a b x (subst (λ (ls : List Label). IsZoomOf ls window b) same y)
 
+    -- what is asked of a named map under a named style has one answer
     pub one_map_answer : (files : FileSet) (style name : List ℕ) (task : MapTask) (a b : List ℕ) → IsMapAnswer (Some files) style name task a → IsMapAnswer (Some files) style name task b → a ≡ b
     one_map_answer files style name task a b x y =
         let classes : y.classes ≡ x.classes = same_style files style y.classes x.classes y.has_style x.has_style in

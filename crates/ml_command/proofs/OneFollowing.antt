@@ -95,8 +95,10 @@ both : (states : List State) (f g : Following states) → f.rest ≡ [] → g.re
 both states f g none empty p q =
     same_offers None states f.answers g.answers f.held g.held p q (rw (all_offered f none) at f.offers) (rw (all_offered g empty) at g.offers)
 
+-- two followings in which all states are offered and adopted have the same answers
 pub same_answers : (states : List State) (f g : Following states) → f.rest ≡ [] → g.rest ≡ [] → AllAdopted f.answers → AllAdopted g.answers → f.answers ≡ g.answers
 same_answers states f g none empty p q = (both states f g none empty p q).0
 
+-- and they hold the same in the end
 pub same_held : (states : List State) (f g : Following states) → f.rest ≡ [] → g.rest ≡ [] → AllAdopted f.answers → AllAdopted g.answers → f.held ≡ g.held
 same_held states f g none empty p q = (both states f g none empty p q).1

@@ -23,9 +23,11 @@ pub record AreFirstStays (labels : List Label) (slots : List Slot) (at : Window)
   pub apart : (k : ℕ) → k < i → AreApart (get_or all k [])
 
 module _ (labels : List Label) (slots : List Slot) (at : Window) where
+  -- there are no stays of no labels
   pub no_stays : AreFirstStays labels slots at 0 []
   no_stays = record { count = refl; stays = λ k d less. absurd (omega arith); apart = λ k less. absurd (omega arith) }
 
+  -- with the stays of the label at i, the stays of the first i labels are those of the first i + 1
   pub more_stays : (i : ℕ) (all : List (List Stay)) (label : Label) (slot : Slot) (its : List Stay) → AreFirstStays labels slots at i all → i < length labels → length slots ≡ length labels →
       label ≡ get_or labels i label → slot ≡ get_or slots i slot → AreMaximal (IsShownAt label (span_of label slot) at) its → AreApart its → AreFirstStays labels slots at (i + 1) (all ++ its ∷ [])
   more_stays i all label slot its first within one_each is_label is_slot maximal apart =
@@ -61,6 +63,7 @@ lines_push (l ∷ labels) (s ∷ all) label its n =
     ap (λ (rest : List ℕ). zoom_line l.order.id s ++ rest) (lines_push labels all label its (omega arith))
     ∙ sym (append_assoc (zoom_line l.order.id s) (zoom_lines labels all) (zoom_line label.order.id its))
 
+-- the zoom lines of the first i + 1 labels are those of the first i and that of the next label
 pub lines_more : (labels : List Label) (all : List (List Stay)) (i : ℕ) (d : Label) (e : List Stay) → length all ≡ length labels → i < length labels → zoom_lines (take (i + 1) labels) (take (i + 1) all) ≡ zoom_lines (take i labels) (take i all) ++ zoom_line (get_or labels i d).order.id (get_or all i e)
 lines_more labels all i d e n at =
     rw (take_more labels i d at, take_more all i e (omega arith))

@@ -29,6 +29,7 @@ come_is : (a : Answer) (l : Label) → label_given a ≡ Some l → a ≡ Ok l
 come_is (Ok label) l is = cc
 come_is (Err reason) l is = cc
 
+-- no label comes where none is given
 pub no_label : (l : Label) → None ≡ Some l → ⊥
 no_label l is = cc
 
@@ -347,6 +348,7 @@ module _ (style : Style) where
         let less : length (labels_in the_answers) < length the_answers = fewer fs the_answers all_answered id there (λ l more same. none (l, to_before l more, same)) in
         omega (arith, less, length_permutation labels.unsorted before labels.same, ap length labels.made.labels_are, labels.made.answered.one_each)
 
+    -- where any label with an id went and none came, the labels are those of the features but that with the id
     pub after_remove : (id : List ℕ) → IsEdited id None before after → HaveDifferentIds (kept id fs) → AreLabelsOf style (kept id fs) after
     after_remove id edited differ =
         labels_of_answers (kept id fs) (out id fs the_answers) after (out_answered id fs the_answers all_answered) differ ordered
@@ -357,6 +359,7 @@ module _ (style : Style) where
         ])
 
     module _ (g : Feature) (c : Answer) (new : IsLabelling style g c) (edited : IsEdited g.id (label_given c) before after) where
+      -- where a feature's label, if any, came for any with its id, the labels are those with the feature in the place of that with its id
       pub after_replace : HasFeature fs g.id → HaveDifferentIds (map (in_place g) fs) → AreLabelsOf style (map (in_place g) fs) after
       after_replace known differ =
           labels_of_answers (map (in_place g) fs) (put g c new fs the_answers) after (put_answered g c new fs the_answers all_answered) differ ordered
@@ -369,6 +372,7 @@ module _ (style : Style) where
             | inr is ↦ put_at g c new fs the_answers all_answered known.0 known.1.0 known.1.1 known.1.2 known.2 l (come_is c l is)
           ])
 
+      -- and where no feature had its id, the labels are those of the features with the new one behind them
       pub after_add : ¬ (HasFeature fs g.id) → HaveDifferentIds (fs ++ g ∷ []) → AreLabelsOf style (fs ++ g ∷ []) after
       after_add unknown differ =
           labels_of_answers (fs ++ g ∷ []) (the_answers ++ c ∷ []) after (add_answered g c new fs the_answers all_answered) differ ordered

@@ -27,6 +27,7 @@ use Rattle.ml_editor.proofs.Unchanged.{same_state}
 
 -- ---- the label with an id
 
+-- where no label has an id, each label has another one
 pub absent_of : (labels : List Label) (id : List ℕ) → ¬ (HasId labels id) → IsAbsent labels id
 absent_of labels id none k d lt same = none (get_or labels k d, Contains-get_or labels k d lt, same)
 
@@ -34,6 +35,7 @@ absent_of labels id none k d lt same = none (get_or labels k d, Contains-get_or 
 abbrev pub ranged_row : Row → Ranged
 ranged_row r = record { label = r.label; span = record { min = r.label.min; until = r.slot.until } }
 
+-- a row's label stands, with its id and its active range, among the labels of the rows
 pub stands : (rows : List Row) (r : Row) (id : List ℕ) → Contains rows r → r.label.order.id ≡ id → IsStanding (labels_in rows) (slots_in rows) id (ranged_row r)
 stands rows r id there same = record {
   place = there.0;
@@ -43,6 +45,7 @@ stands rows r id there same = record {
   its_span = ap (λ (s : Slot). record { min = r.label.min; until = s.until }) (sym (get_or-map (λ (x : Row). x.slot) rows there.0 r no_slot there.1 ∙ ap (λ (x : Row). x.slot) there.2));
 }
 
+-- the same where its label, its minimum and its slot are given one by one
 pub stands_so : (rows : List Row) (r : Row) (id : List ℕ) (label : Label) (min : Ratio) (slot : Slot) → Contains rows r → r.label.order.id ≡ id → label ≡ r.label → min ≡ label.min → slot ≡ r.slot → IsStanding (labels_in rows) (slots_in rows) id (record { label = label; span = record { min = min; until = slot.until } })
 stands_so rows r id label min slot there same labels mins slots =
     let low : r.label.min ≡ min = ap (λ (l : Label). l.min) (sym labels) ∙ sym mins in
@@ -61,6 +64,7 @@ module _ (old new : List Row) (settled : IsSettled old) (settled_too : IsSettled
       let P : List ℕ → Type 0 = λ i. IsStateOf (labels_in new) (slots_in new) i h.is in
       same_state (labels_in new) (slots_in new) settled_too.in_order id h.is is (subst P same h.state_after) after
 
+  -- an id whose label and active range are as they were has no change
   pub no_change : was ≡ is → IsChangeOf old new id None
   no_change same c = ((λ e. absurd cc), (λ h. absurd (h.0.differ (was_only c h.0 h.1 ∙ same ∙ sym (is_only c h.0 h.1)))))
 
@@ -78,6 +82,7 @@ module _ (old new : List Row) (settled : IsSettled old) (settled_too : IsSettled
         let afters : c.after ≡ other.after = span_after ∙ ap (option_map (λ (one : Ranged). one.span)) (sym (is_only other h same)) ∙ sym h.span_after in
         (λ i. record { id = ids i; before = befores i; after = afters i })
 
+    -- where they are not, the id has one change, which tells the active ranges before and after
     pub one_change : IsChangeOf old new id (Some c)
     one_change other = (
       (λ e. let same : c ≡ other = cc in (subst (IsChangeIn old new) same changes, sym (ap (λ (x : Change). x.id) same) ∙ own)),
@@ -87,6 +92,7 @@ module _ (old new : List Row) (settled : IsSettled old) (settled_too : IsSettled
 -- ---- the changes of many ids
 
 module _ (old new : List Row) where
+  -- the ids of no features have no changes
   pub none_yet : AreChangesAt old new [] []
   none_yet = record {
     are = (λ c. ((λ h. let lt = h.1 in absurd (omega arith)), (λ h. let lt = h.1.1.1 in absurd (omega arith))));
@@ -119,6 +125,7 @@ module _ (old new : List Row) where
       let P : List ℕ → Type 0 = λ id. HasFeature fs id in
       unknown (subst P (same ∙ own) ((at.are (get_or before k d)).0 (Contains-get_or before k d lt)).1)))
 
+  -- the change of a further feature's id, if there is one, comes to those of the features before it
   pub one_more_change : (fs : List Feature) (f : Feature) (before after : List Change) → ¬ (HasFeature fs f.id) → AreChangesAt old new fs before → IsTakenIn old new f.id before after → AreChangesAt old new (fs ++ f ∷ []) after
   one_more_change fs f before after unknown at (change, of, joined) = record {
     are = one_more_is fs f change before after at of joined;
@@ -131,6 +138,7 @@ module _ (old new : List Row) where
   changed_id id (Some a) is before after differ = inl (a.label, (before.place, before.is_place, before.its_label a.label), before.its_id)
   changed_id id None (Some b) before after differ = inr (b.label, (after.place, after.is_place, after.its_label b.label), after.its_id)
 
+  -- where each label is that of a feature, the changes of the features' ids, sorted, are all changes between the two lists of labels
   pub all_changes : (fs : List Feature) (some sorted : List Change) → ((id : List ℕ) → HasId (labels_in old) id → HasFeature fs id) → ((id : List ℕ) → HasId (labels_in new) id → HasFeature fs id) → AreChangesAt old new fs some → ((c : Change) → Contains sorted c ↔ Contains some c) → IsStrictlySortedBy (slice_cmp nat_cmp) (map (λ (c : Change). c.id) sorted) → AreChanges (labels_in old) (slots_in old) (labels_in new) (slots_in new) sorted
   all_changes fs some sorted known known_too at same ascending = record {
     ascending = ascending;

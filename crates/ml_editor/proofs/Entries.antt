@@ -105,6 +105,7 @@ finds_more g fs id true found same h = ((0, omega arith, refl), sym ((bytes_eq-D
 finds_more g fs id false None same h = λ there. h (first_or_later g fs id there.0 there.1.0 there.1.1 there.1.2 there.2 (λ e. true≢false (sym ((bytes_eq-Decides id g.id).1 (sym e)) ∙ same)))
 finds_more g fs id false (Some f) same h = ((suc h.0.0, omega arith, h.0.2), h.1)
 
+-- a look-up by an id finds a feature with the id, or none where no feature has it
 pub finds : (id : List ℕ) (es : List Entry) → keys_of es ≡ ids (values_of es) → Finds (values_of es) id (lookup (bytes_eq id) es)
 finds id [] own = λ there. omega (arith, there.1.1)
 finds id (e ∷ es) own = finds_more e.1 (values_of es) id (bytes_eq id e.0) (lookup (bytes_eq id) es) (ap (bytes_eq id) (sym (front_is own))) (finds id es (rest_is own))
@@ -114,6 +115,7 @@ finds_none : (fs : List Feature) (id : List ℕ) (found : Option Feature) → Fi
 finds_none fs id None h none = refl
 finds_none fs id (Some f) h none = absurd (none (f, h.0, h.1))
 
+-- a look-up by an id that no feature has finds none
 pub found_none : (id : List ℕ) (es : List Entry) → keys_of es ≡ ids (values_of es) → ¬ (HasFeature (values_of es) id) → lookup (bytes_eq id) es ≡ None
 found_none id es own none = finds_none (values_of es) id (lookup (bytes_eq id) es) (finds id es own) none
 
@@ -122,5 +124,6 @@ finds_some : (fs : List Feature) (id : List ℕ) (found : Option Feature) → Fi
 finds_some fs id None h there = absurd (h there)
 finds_some fs id (Some f) h there = refl
 
+-- a look-up by an id that a feature has finds one
 pub found_some : (id : List ℕ) (es : List Entry) → keys_of es ≡ ids (values_of es) → HasFeature (values_of es) id → IsSome (lookup (bytes_eq id) es)
 found_some id es own there = finds_some (values_of es) id (lookup (bytes_eq id) es) (finds id es own) there

@@ -36,6 +36,7 @@ number_is : (id : List ℕ) (es : List Held) (o : Option ℕ) → number_with id
 number_is id es None is some = let P : Option Feature → Type 0 = IsSome in subst P (none_by id es is) some
 number_is id es (Some n) is some = refl
 
+-- an id that a feature has has a number
 pub number_known : (es : List Held) (id : List ℕ) → HasFeature (values_of es) id → IsSome (number_with id es)
 number_known es id known =
     let P : List Feature → Type 0 = λ fs. HasFeature fs id in
@@ -52,6 +53,7 @@ module _ (places : List Place) (names : List Name) (next taken : ℕ) (are : Are
     pub list_behind : values_of (standing new) ≡ values_of (standing places) ++ f ∷ []
     list_behind = ap values_of stands_behind ∙ values_behind (standing places) next f
 
+    -- and the features stay numbered if the names tell its number besides the others; the next number and the count rise by one
     pub are_behind : (called : List Name) → ¬ (HasFeature (values_of (standing places)) f.id) → IsDistinct nat_eq (keys_of new) →
         ((q : List ℕ) → lookup (bytes_eq q) called ≡ cond (bytes_eq f.id q) (Some next) (lookup (bytes_eq q) names)) → AreNumbered new called (next + 1) (taken + 1)
     are_behind called new_id differ names_is =
@@ -78,6 +80,7 @@ module _ (places : List Place) (names : List Name) (next taken : ℕ) (are : Are
         ∙ replaced_is f (by_id (standing places)) (by_own (standing places)) (differ_by (standing places) are.own_ids)
         ∙ ap (map (in_place f)) (by_values (standing places))
 
+    -- and the features stay numbered by the same names, with the same next number and the same count
     pub are_in_place : keys_of new ≡ keys_of places → AreNumbered new names next taken
     are_in_place keys = record {
       differ = subst (IsDistinct nat_eq) (sym keys) are.differ;
@@ -105,6 +108,7 @@ module _ (places : List Place) (names : List Name) (next taken : ℕ) (are : Are
           ∙ removed_is id (by_id (standing places)) (by_own (standing places)) (differ_by (standing places) are.own_ids)
           ∙ ap (filter (λ (f : Feature). not (bytes_eq f.id id))) (by_values (standing places))
 
+      -- and the features stay numbered if the names tell no number of the id any more; the count falls by one
       pub are_without : (called : List Name) (left : ℕ) → IsDistinct nat_eq (keys_of new) → All (λ n. n < next) (keys_of new) → left + 1 ≡ taken →
           ((q : List ℕ) → lookup (bytes_eq q) called ≡ cond (bytes_eq id q) None (lookup (bytes_eq q) names)) → AreNumbered new called next left
       are_without called left differ low count names_is = record {

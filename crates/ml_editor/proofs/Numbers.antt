@@ -27,14 +27,17 @@ abbrev pub by_id : List Held → List Entry
 by_id [] = []
 by_id (e ∷ es) = (e.1.id, e.1) ∷ by_id es
 
+-- as entries by id the features stay the same, in the same order
 pub by_values : (es : List Held) → values_of (by_id es) ≡ values_of es
 by_values [] = refl
 by_values (e ∷ es) = ap (λ fs. e.1 ∷ fs) (by_values es)
 
+-- the keys of these entries are the ids of the features
 pub by_keys : (es : List Held) → keys_of (by_id es) ≡ ids (values_of es)
 by_keys [] = refl
 by_keys (e ∷ es) = ap (λ ks. e.1.id ∷ ks) (by_keys es)
 
+-- each of these entries has the id of its own feature as its key
 pub by_own : (es : List Held) → keys_of (by_id es) ≡ ids (values_of (by_id es))
 by_own es = by_keys es ∙ ap ids (sym (by_values es))
 
@@ -179,6 +182,7 @@ module _ (f : Feature) (n : ℕ) where
           let there : number_with f.id (standing es) ≡ Some n = subst (λ b. cond b (Some key) (number_with f.id (standing es)) ≡ Some n) e is in
           rw (e, turned_number key n (number_other key f.id n es apart there)) (ap (λ xs. (g.id, g) ∷ xs) (others there))
 
+  -- the place of its number takes the new feature: this comes in the place of that with its id
   pub taken_is : (es : List Place) → IsDistinct nat_eq (keys_of es) → number_with f.id (standing es) ≡ Some n → by_id (standing (set_value (nat_eq n) es (Some f))) ≡ set_value (bytes_eq f.id) (by_id (standing es)) f
   unfolding IsDistinct
   taken_is [] differ is = absurd (no_number n is)
@@ -209,6 +213,7 @@ unset_more : (e : Place) (o : Option Feature) (es rest : List Place) (p : Option
 unset_more e o es rest p true none others = absurd (let f : Some e.1 ≡ None = none in cc)
 unset_more e o es rest p false none others = ap (λ xs. e ∷ xs) (others none)
 
+-- nothing changes where a number that no place has is set
 pub none_set : (n : ℕ) (es : List Place) (o : Option Feature) → lookup (nat_eq n) es ≡ None → set_value (nat_eq n) es o ≡ es
 none_set n [] o none = refl
 none_set n (e ∷ es) o none = unset_more e o es (set_value (nat_eq n) es o) (lookup (nat_eq n) es) (nat_eq n e.0) none (none_set n es o)
@@ -219,18 +224,22 @@ behind_more : (key : ℕ) (o : Option Feature) (all others last : List Held) →
 behind_more key None all others last same = same
 behind_more key (Some f) all others last same = ap (λ xs. (key, f) ∷ xs) same
 
+-- a further place that a feature takes puts the feature behind the others, by its number
 pub standing_behind : (es : List Place) (n : ℕ) (f : Feature) → standing (es ++ (n, Some f) ∷ []) ≡ standing es ++ (n, f) ∷ []
 standing_behind [] n f = refl
 standing_behind (e ∷ es) n f = behind_more e.0 e.1 (standing (es ++ (n, Some f) ∷ [])) (standing es) ((n, f) ∷ []) (standing_behind es n f)
 
+-- a feature behind others by number is the last of the features
 pub values_behind : (es : List Held) (n : ℕ) (f : Feature) → values_of (es ++ (n, f) ∷ []) ≡ values_of es ++ f ∷ []
 values_behind [] n f = refl
 values_behind (e ∷ es) n f = ap (λ fs. e.1 ∷ fs) (values_behind es n f)
 
+-- the id of the last feature is the last of the ids
 pub ids_behind : (fs : List Feature) (f : Feature) → ids (fs ++ f ∷ []) ≡ ids fs ++ f.id ∷ []
 ids_behind [] f = refl
 ids_behind (g ∷ fs) f = ap (λ ks. g.id ∷ ks) (ids_behind fs f)
 
+-- the number of the last place is the last of the numbers
 pub keys_behind : (es : List Place) (n : ℕ) (o : Option Feature) → keys_of (es ++ (n, o) ∷ []) ≡ keys_of es ++ n ∷ []
 keys_behind [] n o = refl
 keys_behind (e ∷ es) n o = ap (λ ks. e.0 ∷ ks) (keys_behind es n o)
@@ -269,6 +278,7 @@ closed_more : (key : ℕ) (o : Option Feature) (es rest : List Place) → standi
 closed_more key None es rest same = same
 closed_more key (Some f) es rest same = ap (λ xs. (key, f) ∷ xs) same
 
+-- the features keep their order and their numbers where the places that were left are closed up
 pub closed_is : (es : List Place) → standing (filter (λ e. is_some e.1) es) ≡ standing es
 closed_is [] = refl
 closed_is (e ∷ es) = closed_more e.0 e.1 es (filter (λ e. is_some e.1) es) (closed_is es)
@@ -277,6 +287,7 @@ closed_keys : (o : Option Feature) (key : ℕ) (rest : List Place) (P : ℕ → 
 closed_keys None key rest P here all = all
 closed_keys (Some f) key rest P here all = All-cons P key (keys_of rest) here all
 
+-- what holds of the numbers of all places holds of those of the places that stay
 pub closed_low : (P : ℕ → Type 0) (es : List Place) → All P (keys_of es) → All P (keys_of (filter (λ e. is_some e.1) es))
 closed_low P [] all = all
 closed_low P (e ∷ es) all = closed_keys e.1 e.0 (filter (λ e. is_some e.1) es) P (all 0 0 (omega arith)) (closed_low P es (All-tail P e.0 (keys_of es) all))
@@ -287,10 +298,12 @@ few_more : (key : ℕ) (o : Option Feature) (others : List Held) (n : ℕ) → l
 few_more key None others n few = omega (arith, few)
 few_more key (Some f) others n few = omega (arith, few)
 
+-- there are no more features than places
 pub standing_few : (es : List Place) → length (standing es) ≤ length es
 standing_few [] = omega arith
 standing_few (e ∷ es) = few_more e.0 e.1 (standing es) (length es) (standing_few es)
 
+-- there are as many features by id as by number
 pub by_length : (es : List Held) → length (by_id es) ≡ length es
 by_length [] = refl
 by_length (e ∷ es) = ap suc (by_length es)
@@ -312,6 +325,7 @@ found_more id n e es is rest = go (bytes_eq id e.1.id) is
     go true h = refl
     go false h = rest h
 
+-- a look-up by an id that has a number finds a feature
 pub found_by : (id : List ℕ) (n : ℕ) (es : List Held) → number_with id es ≡ Some n → IsSome (lookup (bytes_eq id) (by_id es))
 found_by id n [] is = absurd (no_number n is)
 found_by id n (e ∷ es) is = found_more id n e es is (found_by id n es)
@@ -320,6 +334,7 @@ found_by id n (e ∷ es) is = found_more id n e es is (found_by id n es)
 none_more : (id : List ℕ) (e : Held) (es : List Held) → number_with id (e ∷ es) ≡ None → (number_with id es ≡ None → lookup (bytes_eq id) (by_id es) ≡ None) → cond (bytes_eq id e.1.id) (Some e.1) (lookup (bytes_eq id) (by_id es)) ≡ None
 none_more id e es is rest = let h = not_first (bytes_eq id e.1.id) e.0 (number_with id es) is in rw h.0 (rest h.1)
 
+-- a look-up by an id that has no number finds none
 pub none_by : (id : List ℕ) (es : List Held) → number_with id es ≡ None → lookup (bytes_eq id) (by_id es) ≡ None
 none_by id [] is = refl
 none_by id (e ∷ es) is = none_more id e es is (none_by id es)
@@ -329,6 +344,7 @@ lacks_more : (id : List ℕ) (e : Held) (o : Option Feature) (p : Option ℕ) (b
 lacks_more id e o p true is rest = absurd (let f : Some e.1 ≡ None = is in cc)
 lacks_more id e o p false is rest = rest is
 
+-- an id by which a look-up finds no feature has no number
 pub number_lacks : (id : List ℕ) (es : List Held) → lookup (bytes_eq id) (by_id es) ≡ None → number_with id es ≡ None
 number_lacks id [] is = refl
 number_lacks id (e ∷ es) is = lacks_more id e (lookup (bytes_eq id) (by_id es)) (number_with id es) (bytes_eq id e.1.id) is (number_lacks id es)

@@ -31,6 +31,7 @@ given_own : (style : Style) (f : Feature) (answer : Result Label Reason) → IsL
 given_own style f (Ok label) made = made.ordered.id_is
 given_own style f (Err reason) made = tt
 
+-- the label of a feature, if it has one, has the feature's id
 pub own_label : (style : Style) (f : Feature) (label : Option Label) → IsLabelFor style f label → IfSome label (λ l. l.order.id ≡ f.id)
 own_label style f label made =
     let P : Option Label → Type 0 = λ o. IfSome o (λ l. l.order.id ≡ f.id) in

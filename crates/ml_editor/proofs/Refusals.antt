@@ -21,6 +21,7 @@ use Rattle.ml_editor.specs.declared.fault.EditFault.TheVariants.{Geo, Style as B
 
 module _ (one_feature : (bytes : List ℕ) (one other : Feature) → IsFeature bytes one → IsFeature bytes other → one ≡ other)
     (one_style : (bytes : List ℕ) (one other : Style) → IsStyle bytes one → IsStyle bytes other → one ≡ other) where
+  -- what is asked asks for one edit at most
   pub one_made : (wish : Wish) (one other : Edit) → AsksFor wish one → AsksFor wish other → one ≡ other
   one_made (adds body) one other p q = p.1 ∙ ap Add (one_feature body p.0 q.0 p.2 q.2) ∙ sym q.1
   one_made (replaces body) one other p q = p.1 ∙ ap Replace (one_feature body p.0 q.0 p.2 q.2) ∙ sym q.1
@@ -111,11 +112,13 @@ module _ (one_edit : (wish : Wish) (one other : Edit) → AsksFor wish one → A
     no_cause fault edit good (inr (_, inl p)) = unread_or_made wish fault edit p good.asked
     no_cause fault edit good (inr (_, inr p)) = refused_or_made s edit fault (subst (λ (e : Edit). IsRefused s e fault) (one_edit wish p.0 edit p.1 good.asked) p.2) good.allowed good.not_last
 
+    -- a request is refused by one fault at most, and by none where it is granted
     pub one_refusal : ExcludeOneAnother (IsFault s rev wish) (IsGranted s rev wish)
     one_refusal = record { one = one_cause; none = no_cause }
 
 -- ---- what comes of it
 
+-- a map to which nothing was done is the same map
 pub same_map : (e : Editing) → IsSameMap e e
 same_map e = record { state = refl; rows = refl; features_room = omega arith; labels_room = record { labels = omega arith; cells = omega arith; blocks = omega arith } }
 
@@ -128,6 +131,7 @@ module _ (old new : Editing) (rev : Option ℕ) (wish : Wish) (law : ExcludeOneA
   only_memory e edit (inl memory) good = memory
   only_memory e edit (inr due) good = absurd (law.none e edit good due)
 
+  -- a refusal by the fault that stands, or for want of memory, is a right answer to the request
   pub refused_so : (e : EditFault) → OrMemory (IsFault old.state rev wish) e → IsPrepared old new rev wish (Err e)
   refused_so e due = record {
     ok = tt;
@@ -138,6 +142,7 @@ module _ (old new : Editing) (rev : Option ℕ) (wish : Wish) (law : ExcludeOneA
     same = same;
   }
 
+  -- a ready edit that is granted, with room for all that it brings, is a right answer to the request
   pub ready_so : (ready : Prepared) → IsGranted old.state rev wish ready.edit → IsReady ready new.state new.engine.rows → HasRoomFor ready new → IsPrepared old new rev wish (Ok ready)
   ready_so ready good is room = record {
     ok = good;

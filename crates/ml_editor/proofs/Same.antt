@@ -10,9 +10,11 @@ module _ {X : Type 0} where
   Apart [] = Unit {0}
   Apart (x ∷ xs) = (¬ (Contains xs x)) × Apart xs
 
+  -- the first element is in the list
   pub here : (x : X) (xs : List X) → Contains (x ∷ xs) x
   here x xs = (0, omega arith, refl)
 
+  -- what is in the rest of a list is in the list
   pub later : (x y : X) (xs : List X) → Contains xs y → Contains (x ∷ xs) y
   later x y xs there = (suc there.0, omega arith, there.2)
 
@@ -23,6 +25,7 @@ module _ {X : Type 0} where
   at_cases x y xs zero lt is = inl is
   at_cases x y xs (suc k) lt is = inr (k, omega arith, is)
 
+  -- an element of a list is the first one or is in the rest
   pub cases : (x y : X) (xs : List X) → Contains (x ∷ xs) y → (x ≡ y) ⊎ Contains xs y
   cases x y xs there = at_cases x y xs there.0 there.1 there.2
 
@@ -61,6 +64,7 @@ module _ {X : Type 0} where
   to_middle : (before after : List X) (x : X) → IsPermutation (x ∷ (before ++ after)) (before ++ x ∷ after)
   to_middle before after x = IsPermutation-sym (before ++ x ∷ after) (x ∷ (before ++ after)) (IsPermutation-middle before x after)
 
+  -- of two lists without repeats, each with the elements of the other, one is a permutation of the other
   pub same_elements : (xs ys : List X) → Apart xs → Apart ys → ((x : X) → Contains xs x → Contains ys x) → ((x : X) → Contains ys x → Contains xs x) → IsPermutation xs ys
   same_elements [] [] a b forth back = IsPermutation-refl []
   same_elements [] (y ∷ ys) a b forth back = absurd (none_in_none (back y (here y ys)))

@@ -11,6 +11,7 @@ use Rattle.ml_editor.specs.declared.edit.Edit.TheVariants.{Add, Replace, Remove,
 use Rattle.ml_editor.specs.State.{State, IsState, IsAllowed, HasFeature, in_place, step, last_rev}
 use Rattle.ml_editor.proofs.Same.{here, later, cases}
 
+-- where there are no features, none has the id
 pub no_feature : (id : List ℕ) → ¬ (HasFeature [] id)
 no_feature id there = let lt = there.1.1 in omega arith
 
@@ -100,6 +101,7 @@ placed_differ g (f ∷ fs) differ =
 
 -- ---- one feature comes
 
+-- an id that one of the features with one more behind them has is that of an old one or of the new one
 pub added_cases : (fs : List Feature) (g : Feature) (id : List ℕ) → HasFeature (fs ++ g ∷ []) id → HasFeature fs id ⊎ (g.id ≡ id)
 added_cases [] g id there = elim (feature_cases g [] id there) [
   | inl same ↦ inr same
@@ -117,6 +119,7 @@ added_cases (f ∷ fs) g id there = elim (feature_cases f (fs ++ g ∷ []) id th
 pub one_behind : (fs : List Feature) (g : Feature) (id : List ℕ) → HasFeature fs id → HasFeature (fs ++ g ∷ []) id
 one_behind fs g id there = (there.0, Contains-append_left fs (g ∷ []) there.0 there.1, there.2)
 
+-- the new feature behind the others has its id among theirs
 pub last_one : (fs : List Feature) (g : Feature) (id : List ℕ) → g.id ≡ id → HasFeature (fs ++ g ∷ []) id
 last_one fs g id same = (g, Contains-append_right fs (g ∷ []) g (here g []), same)
 
@@ -138,6 +141,7 @@ below_last s le not_last = below s.rev last_rev le not_last
     below : (n m : ℕ) → n ≤ m → ¬ (n ≡ m) → n + 1 ≤ m
     below n m le other = omega (arith, le, other)
 
+-- an allowed edit leads from a state that can be reached to another such state, but where the revision is the last one
 pub reached : (s : State) (edit : Edit) → IsState s → IsAllowed s.features edit → ¬ (s.rev ≡ last_rev) → IsState (step s edit)
 reached s (Add g) state allowed not_last = record {
   own_ids = added_differ s.features g allowed.0 state.own_ids;
@@ -164,6 +168,7 @@ behind_differs (g ∷ fs) f rest differ there = elim (feature_cases g fs f.id th
   | inr more ↦ behind_differs fs f rest (differ_tail g (fs ++ f ∷ rest) differ) more
 ]
 
+-- the same of a list that is made up of those before the feature, the feature and the rest
 pub behind_differs_in : (fs : List Feature) (f : Feature) (rest all : List Feature) → fs ++ f ∷ rest ≡ all → HaveDifferentIds all → ¬ (HasFeature fs f.id)
 behind_differs_in fs f rest all is differ = behind_differs fs f rest (subst (λ (l : List Feature). HaveDifferentIds l) (sym is) differ)
 

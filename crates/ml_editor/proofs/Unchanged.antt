@@ -27,6 +27,7 @@ label_in (x ∷ rows) r (suc k) lt is = later x.label r.label (labels_in rows) (
 pub has_id : (rows : List Row) (id : List ℕ) (number : ℕ) → IsNumberOf rows id number → HasId (labels_in rows) id
 has_id rows id number live = (live.0.label, label_in rows live.0 live.1.0 live.1.1 live.1.2, live.2)
 
+-- where no label has the id and none comes, the edit leaves the labels as they are
 pub not_edited : (id : List ℕ) (labels : List Label) → ¬ (HasId labels id) → IsEdited id None labels labels
 not_edited id labels absent l = (
   (λ there. inl (there, (λ same. absent (l, there, same)))),
@@ -49,6 +50,7 @@ no_place id labels absent j place =
     let l = label_there labels j place.0 in
     absent (l.0, l.1, sym (ap (λ (x : Label). x.order.id) l.2) ∙ place.1 l.0)
 
+-- and no label has to be evaluated for it
 pub no_cost : (id : List ℕ) (labels : List Label) → ¬ (HasId labels id) → IsCost labels labels id 0
 no_cost id labels absent = record {
   gone = 0;
@@ -86,6 +88,7 @@ module _ (labels : List Label) (slots : List Slot) (ordered : IsLabelList labels
   absent_or_there : (id : List ℕ) (a : Ranged) → IsAbsent labels id → IsStanding labels slots id a → ⊥
   absent_or_there id a absent x = absent x.place a.label x.is_place (ap (λ (l : Label). l.order.id) (x.its_label a.label) ∙ x.its_id)
 
+  -- among labels in order an id has one label with one active range, or it has none
   pub same_state : (id : List ℕ) (was is : Option Ranged) → IsStateOf labels slots id was → IsStateOf labels slots id is → was ≡ is
   same_state id None None x y = refl
   same_state id None (Some b) x y = absurd (absent_or_there id b x y)
@@ -96,6 +99,7 @@ module _ (labels : List Label) (slots : List Slot) (ordered : IsLabelList labels
   unfolding IsStrictlySortedBy
   none_sorted = tt
 
+  -- labels with the slots that they had have no changes
   pub no_changes : AreChanges labels slots labels slots []
   no_changes = record {
     ascending = none_sorted;

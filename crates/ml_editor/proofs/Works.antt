@@ -29,6 +29,7 @@ planned_work plan rows id own come before after same made =
 -- what is drawn up with a plan, if there is one
 module _ {E : Type 0} (rows : List Row) (id own key : List ℕ) (given come copy : Option Label) (before after : ℕ)
     (is : given ≡ come) (same : own ≡ id) (is_key : key ≡ id) (is_copy : copy ≡ given) where
+  -- a draft with a plan for the label with the id, with the id as its key and a copy of the label, is what is drawn up for the id
   pub drawn_so : (plan : Result Planned E) (result : Result Draft E) →
       IsDrawn key plan copy result → IfOk plan (λ p. IsPlanFor p rows own come before after) → IfOk result (λ draft. IsDrawnFor draft rows id given before after)
   drawn_so (Ok plan) result drawn made =
@@ -58,12 +59,15 @@ module _ (s : State) (rows : List Row) (before after : ℕ) where
   of_feature : (f : Feature) (come : Option Label) (draft : Draft) → IsLabelFor s.style f come → IsDrawnFor draft rows f.id come before after → IsFeatureDraft s.style rows f draft
   of_feature f come draft made drawn = record { label = subst (IsLabelFor s.style f) (sym drawn.label) made; work = subst (IsWorkFor draft.work rows f.id) (sym drawn.label) drawn.work }
 
+  -- what was drawn up for a feature's id and label was drawn up for the edit that adds the feature
   pub drawn_add : (f : Feature) (come : Option Label) → IsLabelFor s.style f come → (draft : Draft) → IsDrawnFor draft rows f.id come before after → IsEditDraft s rows (Add f) before after draft
   drawn_add f come made draft drawn = record { is = of_feature f come draft made drawn; key = drawn.key; spent = drawn.spent }
 
+  -- and it was drawn up for the edit that puts the feature in the place of that with its id
   pub drawn_replace : (f : Feature) (come : Option Label) → IsLabelFor s.style f come →
       (draft : Draft) → IsDrawnFor draft rows f.id come before after → IsEditDraft s rows (Replace f) before after draft
   drawn_replace f come made draft drawn = record { is = of_feature f come draft made drawn; key = drawn.key; spent = drawn.spent }
 
+  -- what was drawn up for an id and no label was drawn up for the edit that removes the feature with the id
   pub drawn_remove : (id : List ℕ) (draft : Draft) → IsDrawnFor draft rows id None before after → IsEditDraft s rows (Remove id) before after draft
   drawn_remove id draft drawn = record { is = record { label = drawn.label; work = drawn.work }; key = drawn.key; spent = drawn.spent }

@@ -16,15 +16,19 @@ abbrev pub Other : Thing → Thing → Type 0
 Other t u = t.id ≢ u.id
 
 module _ {X : Type 0} (P : X → Type 0) (x : X) (xs : List X) (all : All P (x ∷ xs)) where
+  -- what holds of all elements holds of the first one
   pub all_head : P x
   all_head = all 0 x (omega arith)
 
+  -- what holds of all elements holds of all but the first one
   pub all_tail : All P xs
   all_tail k d lt = all (suc k) d (omega (arith, lt))
 
+-- what holds of all pairs in a list holds of those behind its first element
 pub pairs_tail : {X : Type 0} (R : X → X → Type 0) (x : X) (xs : List X) → AllPairs R (x ∷ xs) → AllPairs R xs
 pairs_tail R x xs pairs i j d below lt = pairs (suc i) (suc j) d (omega (arith, below)) (omega (arith, lt))
 
+-- and it holds of the first element with each one behind it
 pub pairs_head : {X : Type 0} (R : X → X → Type 0) (x : X) (xs : List X) → AllPairs R (x ∷ xs) → All (R x) xs
 pairs_head R x xs pairs k d lt = pairs 0 (suc k) d (omega arith) (omega (arith, lt))
 

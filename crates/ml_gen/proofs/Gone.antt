@@ -9,9 +9,11 @@ use Rattle.ml_gen.specs.Thing.{Thing, thing_of, first_town, things_in}
 use Rattle.ml_gen.specs.declared.group.Group.{Group}
 
 module _ {X : Type 0} where
+  -- the first element is in the list
   pub here : (x : X) (xs : List X) → Contains (x ∷ xs) x
   here x xs = (0, omega arith, refl)
 
+  -- what is in the rest of a list is in the list
   pub later : (x y : X) (xs : List X) → Contains xs y → Contains (x ∷ xs) y
   later x y xs there = (suc there.0, omega (arith, there.1), there.2)
 
@@ -19,9 +21,11 @@ module _ {X : Type 0} where
   at_cases x y xs zero lt is = inl is
   at_cases x y xs (suc k) lt is = inr (k, omega (arith, lt), is)
 
+  -- an element of a list is the first one or is in the rest
   pub cases : (x y : X) (xs : List X) → Contains (x ∷ xs) y → (x ≡ y) ⊎ Contains xs y
   cases x y xs there = at_cases x y xs there.0 there.1 there.2
 
+  -- nothing is in the empty list
   pub none_in_none : (x : X) → Contains [] x → ⊥
   none_in_none x there = omega (arith, there.1)
 
@@ -42,6 +46,7 @@ feature_cases f fs id there = elim (cases f there.0 fs there.1) [
 
 -- ---- one feature goes
 
+-- the features but any with the id
 abbrev pub kept : List ℕ → List Feature → List Feature
 kept gone fs = filter (λ (f : Feature). not (bytes_eq f.id gone)) fs
 

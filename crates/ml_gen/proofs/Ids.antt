@@ -18,12 +18,14 @@ last_snoc d (x ∷ xs) a = last_snoc x xs a
 tails : (g h : Group) (a b : ℕ) → id_of g (a ∷ []) ≡ id_of h (b ∷ []) → decimal g.number ++ a ∷ [] ≡ decimal h.number ++ b ∷ []
 tails g h a b same = append_cancel_left (codes "g") (decimal g.number ++ a ∷ []) (decimal h.number ++ b ∷ []) same
 
+-- where two groups' features have one id, it ends in one letter
 pub same_letter : (g h : Group) (a b : ℕ) → id_of g (a ∷ []) ≡ id_of h (b ∷ []) → a ≡ b
 same_letter g h a b same = sym (last_snoc 0 (decimal g.number) a) ∙ ap (last_or 0) (tails g h a b same) ∙ last_snoc 0 (decimal h.number) b
 
 same_number : (m n : ℕ) → m < 6000 → n < 6000 → decimal m ≡ decimal n → m ≡ n
 same_number m n low small same = decimal_injective m n (omega arith) (omega arith) same
 
+-- and the two groups have one number, as their numbers are below 6000
 pub same_group : (g h : Group) (a b : ℕ) → g.number < 6000 → h.number < 6000 → id_of g (a ∷ []) ≡ id_of h (b ∷ []) → g.number ≡ h.number
 same_group g h a b low small same =
     let letters : b ∷ [] ≡ a ∷ [] = ap (λ (c : ℕ). c ∷ []) (sym (same_letter g h a b same)) in

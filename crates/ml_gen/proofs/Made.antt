@@ -20,6 +20,7 @@ use Rattle.ml_gen.specs.Turn.{goes, comes, HaveLabels, IsViewOf, Shows, IsMade, 
 use Rattle.ml_gen.specs.declared.counts.Counts.{Counts}
 use Rattle.ml_gen.specs.declared.group.Group.{Group}
 
+-- an editor holds the labels of its map, and slots whose ends are their longest choice
 pub editing_labels : (e : Editing) → IsEditing e → HaveLabels e.state (labels_in e.engine.rows) (slots_in e.engine.rows)
 editing_labels e h = record { labels_are = h.labels; one_slot = h.settled.slots.one_slot; longest = h.settled.slots.longest }
 
@@ -62,6 +63,7 @@ below_last n m low same = omega (arith, low, same)
 pub removal_granted : (s : State) (id : List ℕ) → HasFeature s.features id → s.rev < last_rev → IsGranted s None (removes id) (Remove id)
 removal_granted s id there early = record { present = tt; asked = refl; allowed = there; not_last = below_last s.rev last_rev early }
 
+-- the text of a feature whose id is new is granted, where there is room for a feature and a revision more
 pub addition_granted : (s : State) (body : List ℕ) (f : Feature) →
     IsFeature body f → ¬ (HasFeature s.features f.id) → length s.features < most_labels → s.rev < last_rev → IsGranted s None (adds body) (Add f)
 addition_granted s body f is gone few early = record { present = tt; asked = (f, refl, is); allowed = (gone, few); not_last = below_last s.rev last_rev early }

@@ -20,18 +20,22 @@ remainders_differ n a b less near same =
 
 -- the groups that a function of their places gives
 module _ (f : ℕ → Group) (n : ℕ) where
+  -- the group at place i is what the function gives for i
   pub listed_at : (i : ℕ) (d : Group) → i < n → get_or (map f (range_with_len 0 n)) i d ≡ f i
   listed_at i d lt = get_or-map-range_with_len f 0 n i i d lt (omega arith)
 
+  -- no two groups have one number if the function gives none for two places
   pub listed_own : ((i j : ℕ) → i < j → j < n → (f i).number ≢ (f j).number) → HaveOwnNumbers (map f (range_with_len 0 n))
   listed_own apart i j d below lt same =
       let long : length (map f (range_with_len 0 n)) ≡ n = length-map-range_with_len f 0 n in
       let low : j < n = omega arith in
       apart i j below low (ap (λ (g : Group). g.number) (sym (listed_at i d (omega arith))) ∙ same ∙ ap (λ (g : Group). g.number) (listed_at j d low))
 
+-- no two groups of a map have one number
 pub groups_own : (n seed : ℕ) → HaveOwnNumbers (groups_in n seed)
 groups_own n seed = listed_own (group_of seed) n (λ i j below lt same. omega (arith, below, same))
 
+-- no group is edited twice in the first m turns, where there are not more turns than groups
 pub order_own : (n seed m : ℕ) → m ≤ n → HaveOwnNumbers (map (group_in_turn n seed) (range_with_len 0 m))
 order_own n seed m few = listed_own (group_in_turn n seed) m (λ i j below lt. remainders_differ n (i + seed) (j + seed) (omega (arith, below)) (omega (arith, lt, few)))
 
@@ -50,8 +54,10 @@ order_all P groups seed all each k d lt =
     group_there groups seed ((k + seed) % length groups) d all at ∙ sym (listed_at (group_in_turn (length groups) seed) (length groups) k d low) in
     subst P is (each ((k + seed) % length groups) d at)
 
+-- a map of n groups has n of them
 pub groups_long : (n seed : ℕ) → length (groups_in n seed) ≡ n
 groups_long n seed = length-map-range_with_len (group_of seed) 0 n
 
+-- and n groups are edited in turn
 pub order_long : (n seed : ℕ) → length (order n seed) ≡ n
 order_long n seed = length-map-range_with_len (group_in_turn n seed) 0 n

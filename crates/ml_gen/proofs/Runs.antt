@@ -13,6 +13,7 @@ use Rattle.ml_gen.specs.declared.group.Group.{Group}
 use Rattle.ml_gen.proofs.Ids.{same_group}
 use Rattle.ml_gen.proofs.Gone.{left_was_there, is_gone, others_stay, fewer_left, others_absent}
 
+-- a run that goes on where another one ended is one run with it
 pub run_on : (a b c : State) (ts us : List Turn) (xs ys : List Counts) → Run a ts xs b → Run b us ys c → Run a (ts ++ us) (xs ++ ys) c
 run_on a b c [] us [] ys first second = subst (λ (s : State). Run s us ys c) first second
 run_on a b c [] us (x ∷ xs) ys first second = absurd first
@@ -74,9 +75,11 @@ module _ (groups : List Group) (own : HaveOwnNumbers groups) (placed : All IsGro
                 is_gone (town_id g) s.features (subst (λ (id : List ℕ). HasFeature (step s (Remove (town_id g))).features id) same left))
           ]
 
+      -- the town's removal leaves at least one feature fewer, if the town was there
       pub one_fewer : HasFeature s.features (town_id g) → length t.features + 1 ≤ length s.features
       one_fewer there = subst (λ (u : State). length u.features + 1 ≤ length s.features) (sym goes) (fewer_left (town_id g) s.features there)
 
+      -- the town's removal leads to the next revision
       pub next_rev : t.rev ≡ s.rev + 1
       next_rev = ap (λ (u : State). u.rev) goes
 
@@ -87,9 +90,11 @@ module _ (groups : List Group) (own : HaveOwnNumbers groups) (placed : All IsGro
           others_absent s.features f (town_id (get_or groups j d)) (λ same. ids_apart j d low (λ at. omega (arith, behind, at)) (sym same ∙ id)) gone
           (subst (λ (u : State). HasFeature u.features (town_id (get_or groups j d))) comes there)
 
+      -- the town's return makes one feature more
       pub one_longer : length t.features ≡ length s.features + 1
       one_longer = ap (λ (u : State). length u.features) comes ∙ length-append s.features (f ∷ [])
 
+      -- the town's return leads to the next revision, too
       pub rev_after : t.rev ≡ s.rev + 1
       rev_after = ap (λ (u : State). u.rev) comes
 

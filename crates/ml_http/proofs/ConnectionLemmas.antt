@@ -98,6 +98,7 @@ after_turn taken event answer x = record { taken = taken ++ x.taken; events = ev
 abbrev pub then_taken : Taken → Taken → Taken
 then_taken input more = record { left = input.left; left_after = more.left_after; faults = input.faults; faults_after = more.faults_after }
 
+-- what is put into one sink first and then is told as if it were put at once
 abbrev pub then_put : Put → Put → Put
 then_put out next = record { written = out.written; written_after = next.written_after; faults = out.faults; faults_after = next.faults_after }
 
@@ -255,6 +256,7 @@ module _ {S A : Type 0} (machine : Machine S A) (from to : Position S) (input : 
   read_to_end : closes event ≡ true → Reads HasNoEvent from.left (from.held ++ brought input.left taken) (event ∷ [])
   read_to_end shut = reads_close HasNoEvent from.left (from.held ++ taken) (brought input.left_after []) to.held _ event begins shut bytes_of_turn
 
+  -- where the reply is put as the turn says, and a closed connection is shut just after its last request, this is the turn
   pub turn_of_reply : (turn : Turn) → IsReply machine event from.state to.state out turn → IsLast (from.left == 1) turn → IsTurn machine from to input out turn
   turn_of_reply Open ((answer, steps, wrote), stays) last =
       record { taken = taken; event = event; answer = answer; takes = takes; begins = begins; stays = stays; one_less = less; steps = steps; wrote = wrote }

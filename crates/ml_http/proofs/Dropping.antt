@@ -52,12 +52,15 @@ kept P (first ∷ old) new tile (inr (rest, stays, is, loses)) there = elim (cas
   | inr others ↦ (let behind = kept P old rest tile loses others in (later first tile old behind.0, behind.1))
 ]
 
+-- what goes by a rule goes by another that holds of the same tiles
 pub drops_same : (P Q : TileKey → Type 0) (old new : Cache) → ((key : TileKey) → P key ↔ Q key) → Drops P old new → Drops Q old new
 drops_same P Q old new same drops = record { tiles = loses_same P Q old.tiles new.tiles same drops.tiles; hits = drops.hits; skips = drops.skips }
 
+-- by a rule that holds of no tile none goes
 pub drops_none : (P : TileKey → Type 0) (old : Cache) → ((key : TileKey) → ¬ (P key)) → Drops P old old
 drops_none P old none = record { tiles = loses_none P old.tiles none; hits = refl; skips = refl }
 
+-- where some tiles go by one rule and then some by another, just those go of which either holds
 pub drops_both : (P Q : TileKey → Type 0) (a b c : Cache) → Drops P a b → Drops Q b c → Drops (λ key. P key ⊎ Q key) a c
 drops_both P Q a b c first second = record {
   tiles = loses_both P Q a.tiles b.tiles c.tiles first.tiles second.tiles;
@@ -112,6 +115,7 @@ one_more before after changes k d key within =
       | inr end ↦ inr (subst (λ c. ShowsChange before after c key) (sym end) shows.2)
     ]
 
+-- once the tiles that show the first k changes are gone, and then those that show the next one, those of the first k + 1 are gone
 pub drops_more : (before after : List Row) (changes : List Change) (k : ℕ) (d : Change) (a b c : Cache) → k < length changes →
     Drops (ShowsChanges before after (take k changes)) a b → Drops (ShowsChange before after (get_or changes k d)) b c → Drops (ShowsChanges before after (take (k + 1) changes)) a c
 drops_more before after changes k d a b c within first second =

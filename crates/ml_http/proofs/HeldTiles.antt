@@ -33,9 +33,11 @@ use Rattle.ml_http.proofs.ShownRows.{ShowsRow, AreJustShown, just_shown, rows_sh
 abbrev pub StaysAfter : Type 0
 StaysAfter = (before after : List Row) (changes : List Change) (row : Row) → AreChanges (labels_in before) (slots_in before) (labels_in after) (slots_in after) changes → Contains before row → ¬ (IsChanged changes row.label.order.id) → StandsAmong after row
 
+-- the other way round: what stands after an edit and whose id no change has stood there before
 abbrev pub StaysBefore : Type 0
 StaysBefore = (before after : List Row) (changes : List Change) (row : Row) → AreChanges (labels_in before) (slots_in before) (labels_in after) (slots_in after) changes → Contains after row → ¬ (IsChanged changes row.label.order.id) → StandsAmong before row
 
+-- no two rows have one id
 abbrev pub OneAnId : Type 0
 OneAnId = (rows : List Row) (one other : Row) → IsSettled rows → Contains rows one → Contains rows other → one.label.order.id ≡ other.label.order.id → one ≡ other
 
@@ -111,6 +113,7 @@ module _ (one_an_id : OneAnId) (rows others : List Row) (settled : IsSettled row
         subst (Contains found.0) same partner.1;
   }
 
+  -- the view shows as many of the other rows, with the same labels and ends, one for one
   pub shown_there : (found : List Row) × AreShownRows others view found × (map shown_of found ≡ map shown_of shown)
   shown_there = (found.0, rows_shown others settled_others view found.0 found.1 just_found, found.2)
 

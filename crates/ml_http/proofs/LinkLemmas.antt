@@ -71,6 +71,7 @@ same_texts s t old new map tiles texts = subst (AreTexts t) tiles (subst (λ z. 
 
 -- the bodies of tiles stay right over answers, and so over a whole connection
 module _ (right : (s t : State) (event : Event) (answer : LinkAnswer) (old new : Cache) → MapStep s event answer t → IsDoneTo answer.work answer.changes old new → AreTexts s old.tiles → AreTexts t new.tiles) where
+  -- each body that is held stays that of its tile while one event is answered
   pub texts_stay : {W : Type 0} (hearing : W → Hearing) (old new : LinkState W) (event : Event) (answer : LinkAnswer) → LinkStep hearing old event answer new → HoldsTexts old → HoldsTexts new
   texts_stay hearing old new event answer step texts = right old.map_state new.map_state event answer old.tiles new.tiles step.by_rule step.done texts
 
@@ -91,6 +92,7 @@ module _ (right : (s t : State) (event : Event) (answer : LinkAnswer) (old new :
   texts_left WriteFault last new (inl left) texts = subst HoldsTexts (sym left) texts
   texts_left WriteFault last new (inr left) texts = idle_texts last new left texts
 
+  -- and so it does while a whole connection is served
   pub texts_served : {W : Type 0} (hearing : W → Hearing) (old new : LinkState W) (input : Taken) (out : Put) (end : ConnEnd) →
       IsServed (link_machine hearing) (position most_requests [] old) new input out end → HoldsTexts old → HoldsTexts new
   texts_served hearing old new input out end served texts = texts_left end served.last new served.leaves (texts_run hearing old served.last served.exchange.events served.exchange.answers served.run texts)

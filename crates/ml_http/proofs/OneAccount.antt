@@ -73,9 +73,11 @@ OneReply = (s : State) (event : Event) (one other : LinkAnswer) (t u : State) �
 abbrev pub replies : List LinkAnswer → List (List ℕ)
 replies answers = map (λ (a : LinkAnswer). a.reply) answers
 
+-- all changes that the answers tell, one answer after another
 abbrev pub changes : List LinkAnswer → List Change
 changes answers = flat_map (λ (a : LinkAnswer). a.changes) answers
 
+-- how many labels were evaluated for all answers together
 abbrev pub costs : List LinkAnswer → ℕ
 costs answers = sum_by (λ (a : LinkAnswer). a.cost) answers
 
@@ -83,9 +85,11 @@ costs answers = sum_by (λ (a : LinkAnswer). a.cost) answers
 abbrev cost_after : ℕ → List LinkAnswer → ℕ
 cost_after n answers = fold (λ (m : ℕ) (a : LinkAnswer). m + a.cost) n answers
 
+-- the replies of all answers as one text
 abbrev pub written_of : List LinkAnswer → List ℕ
 written_of answers = flat_map (λ (a : LinkAnswer). a.reply) answers
 
+-- texts as one, one after another
 abbrev pub joined : List (List ℕ) → List ℕ
 joined texts = flat_map (λ (text : List ℕ). text) texts
 

@@ -41,6 +41,7 @@ itself : (s : State) → LookAlike s s
 itself s = record { style = refl; features = λ f. (λ h. h, λ h. h) }
 
 module _ (one : OneLabel) (known : KnownChoice) (s : State) where
+  -- a map in one state has one list of labels
   pub labels_again : (a b : List Label) → AreLabelsOf s.style s.features a → AreLabelsOf s.style s.features b → a ≡ b
   labels_again a b first second = same_labels one s.style s.features s.features a b first second (λ f. (λ h. h, λ h. h))
 
@@ -52,6 +53,7 @@ module _ (one : OneLabel) (known : KnownChoice) (s : State) where
       let many : length first.0 ≡ length second.0 = sym (length-map first.0 (λ r. r.label)) ∙ ap length labels ∙ length-map second.0 (λ r. r.label) in
       first.2 ∙ ap (λ (n : ℕ). json_reply 200 closes (rev_text s.rev (length s.features) n)) many ∙ sym second.2
 
+  -- a map in one state has one text that tells the state of its labels
   pub state_text_again : (a b : List ℕ) → IsStateText s a → IsStateText s b → a ≡ b
   state_text_again a b (labels, are, (slots, best, is)) (others, those, (rest, also, text)) =
       let same = labels_again labels others are those in

@@ -121,6 +121,7 @@ module _ (one : OneLabel) (choice : KnownChoice) (known : KnownEdits) (s : State
   routed_once (Ok routes.Tile) request a b t u x y = tile_once request.closes (query_pairs (query_of request.target)) a b t u x y
   routed_once (Ok (routes.Edit route)) request a b t u x y = route_once route request.closes (query_pairs (query_of request.target)) request.body a b t u x y
 
+  -- two answers to one event in one state that can be reached are one answer, and leave one state
   pub one_reply : (event : Event) (a b : LinkAnswer) (t u : State) → MapStep s event a t → MapStep s event b u → AreOneAnswer a b t u
   one_reply (Refused refusal) a b t u x y = stays_once s _ _ a b t u refl x y
   one_reply (Whole request) a b t u x y = routed_once (route_of request.method (path_of request.target)) request a b t u x y

@@ -29,6 +29,7 @@ view_of_tile z i j v u p q =
     let same : IsSame (value_of v.scale) (value_of u.scale) = ap (λ (n : ℕ). n * u.scale.den) nums ∙ ap (λ (n : ℕ). u.scale.num * n) (sym dens) in
     same_view v u (p.cx_is ∙ sym q.cx_is) (p.cy_is ∙ sym q.cy_is) (p.w_is ∙ sym q.w_is) (p.h_is ∙ sym q.h_is) (same_ratio v.scale u.scale same)
 
+-- a tile has one body on maps that look alike
 pub one_body : OneLabel → OneLongest → (s t : State) (key : TileKey) (a b : List ℕ) → LookAlike s t → IsTileText s key a → IsTileText t key b → a ≡ b
 one_body one longest s t key a b alike first second =
     let views = view_of_tile key.z key.i key.j second.0 first.0 second.1 first.1 in
@@ -74,6 +75,7 @@ module _ (z i j : List ℕ) where
   one_bad (suc (suc zero)) (suc (suc (suc n))) v w = absurd w
   one_bad (suc (suc (suc m))) q v w = absurd v
 
+-- a query asks for one tile, or has one word that is the first to be wrong
 pub one_asked : (query : Query) (a b : Result TileKey ℕ) → IsTileAsked query a → IsTileAsked query b → a ≡ b
 one_asked query (Ok a) (Ok b) v w = ap Ok (one_key _ _ _ a b v w)
 one_asked query (Ok a) (Err q) v w = absurd (good_or_bad _ _ _ a q v w)

@@ -85,6 +85,7 @@ module _ (rows : List Row) (view : View) (shown : List Row) (settled : IsSettled
       sym (get_or-map (λ r. r.number) shown k d 0 lt) ∙ ap (λ ns. get_or ns k 0) are.numbers.numbers_are ∙ numbers_at rows places k lt_p in
       row_of rows row (get_or places k 0) settled.own_numbers (All-contains (Contains rows) shown row are.among there) (within_rows k lt_p) number
 
+  -- the rows that a view shows by their places are just those that it shows one by one
   pub just_shown : AreJustShown rows view shown
   just_shown = record {
     among = λ r there. All-contains (Contains rows) shown r are.among there;
@@ -141,6 +142,7 @@ numbers_of rows (r ∷ shown) among =
 less_not_greater : Less ≡ Greater → ⊥
 less_not_greater e = cc
 
+-- no two orders are each before the other
 pub clash : (a b : Order) → order_cmp a b ≡ Less → order_cmp b a ≡ Less → ⊥
 clash a b first second = less_not_greater (sym first ∙ order_total.antisymm a b ∙ ap ordering_reverse second)
 
@@ -190,6 +192,7 @@ module _ (rows : List Row) (settled : IsSettled rows) where
     sizes_are : length their ≡ length shown
     sizes_are = size_of rows shown among
 
+    -- the places of the rows that a view shows one by one are those of the labels that it shows
     pub are_shown : AreShown (labels_in rows) (ends (slots_in rows)) view their
     are_shown = record {
       ascending = λ k m lt within.
@@ -216,6 +219,7 @@ module _ (rows : List Row) (settled : IsSettled rows) where
           (k.0, omega (arith, k.1, sizes_are), one_place r (get_or their k.0 0) p at_k.0 p_in at at_p);
     }
 
+    -- so these rows are what the view shows of all, by their places
     pub rows_shown : AreShownRows rows view shown
     rows_shown = record {
       among = among;

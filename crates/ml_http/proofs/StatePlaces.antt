@@ -69,6 +69,7 @@ module _ (rows : List Row) (own : HaveOwnNumbers rows) (are : AreSlots (number_a
       first_row [] k lt = absurd (omega (arith, lt))
       first_row (r ∷ xs) k lt = r
 
+  -- with blockers told by place, the slots are still the longest choice of the labels with its blockers
   pub placed_slots : AreSlots (λ j. j) (labels_in rows) slots
   placed_slots = record {
     one_slot = omega (arith, placed.one_slot, many);
@@ -86,6 +87,7 @@ pub record AreAdded (rows : List Row) (rev count i : ℕ) (text : List ℕ) : Ty
   pub each : (k : ℕ) → k < i → IsToldByPlace rows (get_or (slots_in rows) k no_slot) (get_or slots k no_slot)
   pub so_far : text ≡ begun_text rev count (take i (labels_in rows)) slots
 
+-- the text as it begins tells of no row
 pub none_added : (rows : List Row) (rev count : ℕ) (text : List ℕ) → text ≡ begun_text rev count [] [] → AreAdded rows rev count 0 text
 none_added rows rev count text is = record { slots = []; size = refl; each = λ k lt. absurd (omega (arith, lt)); so_far = is }
 
@@ -114,6 +116,7 @@ module _ (rows : List Row) (own : HaveOwnNumbers rows) (rev count i : ℕ) (old 
         (subst (IsToldByPlace rows (get_or (slots_in rows) i no_slot)) (sym at_end) (subst (λ s. IsToldByPlace rows s row.slot) (sym its_slot) row.placed))
   ]
 
+  -- the text that told the rows before i tells the row at i too, once this was added
   pub one_added : AreAdded rows rev count (i + 1) new
   one_added =
       let many_labels : length (labels_in rows) ≡ length rows = length-map rows (λ r. r.label) in
@@ -172,6 +175,7 @@ low_list : (rows : List Row) → All (λ r. r.number < 32768) rows → All (λ n
 low_list [] low = All-nil (λ n. n < 32768)
 low_list (r ∷ rows) low = All-cons (λ n. n < 32768) r.number (numbers_in rows) (All-head (λ x. x.number < 32768) r rows low) (low_list rows (All-tail (λ x. x.number < 32768) r rows low))
 
+-- all numbers in the list of the rows' numbers are below 32,768 if those of the rows are
 pub low_numbers : (rows : List Row) (numbers : List ℕ) → numbers ≡ numbers_in rows → All (λ r. r.number < 32768) rows → All (λ n. n < 32768) numbers
 low_numbers rows numbers are low = subst (All (λ n. n < 32768)) (sym are) (low_list rows low)
 

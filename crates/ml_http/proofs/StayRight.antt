@@ -132,6 +132,7 @@ module _ (one : OneLabel) (longest : OneLongest) (stays_after : StaysAfter) (sta
   routed_right (Ok routes.Tile) s t request answer (asked, is, told) = tile_right s t request.closes asked answer told
   routed_right (Ok (routes.Edit route)) s t request answer edited = edited_right route s t request.closes (query_pairs (query_of request.target)) request.body answer edited
 
+  -- whatever event is answered, each body that is held stays that of its tile
   pub step_right : (s t : State) (event : Event) (answer : LinkAnswer) → MapStep s event answer t → StayRight s t answer
   step_right s t (Refused refusal) answer stays = stays_right s t _ answer stays
   step_right s t (Whole request) answer is = routed_right (route_of request.method (path_of request.target)) s t request answer is

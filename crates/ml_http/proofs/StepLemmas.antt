@@ -41,6 +41,7 @@ not_memory fault code status is =
 
 -- replies that change nothing
 module _ {W : Type 0} (hearing : W → Hearing) (nothing : (ws : List W) → AllHear hearing [] ws ws) where
+  -- a reply that follows a rule, while nothing changes and no step is spent, is an answer by the rule
   pub answered_plain : (rule : State → LinkAnswer → State → Type 0) (old new : LinkState W) (reply : List ℕ) → LinkIdles old new → new.spent ≡ old.spent → rule old.map_state (plain reply) new.map_state → IsAnswered hearing rule old new reply
   answered_plain rule old new reply idle same by = (
     plain reply,
@@ -121,6 +122,7 @@ module _ {W : Type 0} (hearing : W → Hearing) where
         by_wish wish old new reply asks
         (subst (λ o. IsAnswered hearing (λ s a t. MatchOption o (Stays s (query_reply closes (codes "rev")) a t) (λ r. IsEditAnswered s r wish closes a t)) old new reply) is follows)
 
+    -- the edit was granted and carried out, and the steps for it were spent before
     pub accepted : (wish : Wish) (rev : Option ℕ) (said : Bool) (edit : Edit) (cost : ℕ) (old mid new : LinkState W) (reply : List ℕ) →
         said ≡ closes → Some wish ≡ wish_in route query body → Some rev ≡ revision_in (named (codes "rev") query) →
         IsGranted old.map_state rev wish edit → LinkIdles old mid → mid.spent ≡ old.spent + cost → IsAccepted hearing said edit cost mid new reply →

@@ -55,9 +55,11 @@ next_slots before after slots slot lt read so_far came =
 
 -- what is left to come in
 module _ (rows : List Row) (rest : List Label) (label : Label) (labels : List Label) (coming : labels_in rows ++ reverse (rest ++ label ∷ []) ≡ labels) where
+  -- once the next label stands behind the rows, they and the labels still to come are all labels again
   pub next_coming : (labels_in rows ++ label ∷ []) ++ reverse rest ≡ labels
   next_coming = append_assoc (labels_in rows) (label ∷ []) (reverse rest) ∙ ap (λ ls. labels_in rows ++ ls) (sym (reverse-append rest (label ∷ []))) ∙ coming
 
+  -- while a label is still to come in, there are fewer rows than labels
   pub next_few : (n : ℕ) → length labels ≤ n → length rows < n
   next_few n few =
       let a = ap length next_coming in

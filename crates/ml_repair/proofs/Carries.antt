@@ -27,6 +27,7 @@ use Rattle.ml_ratio.proofs.lemmas.Lists.{map_insert, same_place}
 
 -- ---- the label that comes
 
+-- a row that goes to its place in priority order comes in at some place of the list
 pub with_row_some : (row : Row) (rows : List Row) → (p : ℕ) × (p ≤ length rows) × (with_row row rows ≡ insert rows p row)
 with_row_some row [] = (0, omega arith, refl)
 with_row_some row (r ∷ rows) = go (is_lt (order_cmp r.label.order row.label.order)) refl (with_row_some row rows)
@@ -48,6 +49,7 @@ differ_once xs p x le differ there =
       | inr high ↦ differ p (k + 1) x (omega arith) (omega arith) (get_or-insert_at xs p x x le ∙ sym there.2 ∙ sym (get_or-insert_above xs p x x k high le))
     ]
 
+-- in a list in priority order no other label has the id of the label at a place
 pub id_once : (labels : List Label) (p : ℕ) (a : Label) → p ≤ length labels → IsLabelList (insert labels p a) → ¬ (HasId labels a.order.id)
 id_once labels p a le up has =
     let n = length-insert labels p a le in
@@ -60,6 +62,7 @@ id_once labels p a le up has =
     ]
 
 module _ (row : Row) (rows : List Row) (settled : IsSettled (with_row row rows)) where
+  -- the labels beside the row that came are in priority order, with different ids
   pub come_up : IsLabelList (labels_in rows)
   come_up =
       let s = with_row_some row rows in
@@ -69,6 +72,7 @@ module _ (row : Row) (rows : List Row) (settled : IsSettled (with_row row rows))
       let n = length-insert (labels_in rows) s.0 row.label (omega arith) in
       subst IsLabelList (remove_insert (labels_in rows) s.0 row.label (omega arith)) (list_remove (insert (labels_in rows) s.0 row.label) s.0 (omega arith) up)
 
+  -- the row may come in: its number is low, and no other row has its number or its id
   pub can_come : CanComeIn row rows
   can_come =
       let s = with_row_some row rows in
@@ -84,6 +88,7 @@ module _ (row : Row) (rows : List Row) (settled : IsSettled (with_row row rows))
 
 -- ---- room
 
+-- where a plan had room, its row has room once the old row is out and the new slots are set
 pub carried_room : (edit : LabelEdit) (moved : List Moved) (changes : List Change) (n : ℕ) (old mid last : Stored) → HasRoom (room_of (record { edit = edit; moved = moved; changes = changes; evaluated = n })) old →
     mid.labels ≡ old.labels + gone_count edit → old.cells ≤ mid.cells → old.blocks ≤ mid.blocks → last.labels ≡ mid.labels → last.cells ≡ mid.cells → mid.blocks ≤ last.blocks + moved_pairs moved → HasRoomIn edit last
 carried_room (Add row) moved changes n old mid last room l1 c1 b1 l2 c2 b2 =
@@ -94,9 +99,11 @@ carried_room (Replace row) moved changes n old mid last room l1 c1 b1 l2 c2 b2 =
     let l = room.labels in let c = room.cells in let b = room.blocks in
     record { labels = omega arith; cells = omega arith; blocks = omega arith }
 
+-- where a plan had room, the pairs of its new slots have room once the old row is out
 pub moved_room : (edit : LabelEdit) (moved : List Moved) (changes : List Change) (n : ℕ) (old mid : Stored) → HasRoom (room_of (record { edit = edit; moved = moved; changes = changes; evaluated = n })) old → old.blocks ≤ mid.blocks → moved_pairs moved ≤ mid.blocks
 moved_room edit moved changes n old mid room le = let b = room.blocks in omega arith
 
+-- the rows after a plan come about in three steps: some rows stay, they get their new slots, the row comes in
 pub planned_parts : (plan : Planned) (rows : List Row) → planned_rows plan rows ≡ rows_with plan.edit (moved_rows plan.moved (kept_rows plan.edit rows))
 unfolding planned_rows
 planned_parts plan rows = refl

@@ -31,11 +31,13 @@ ranged r = record { label = r.label; span = record { min = r.label.min; until = 
 ranged_same : (a b : Ranged) → a.label ≡ b.label → a.span ≡ b.span → a ≡ b
 ranged_same a b e f = λ i. record { label = e i; span = f i }
 
+-- two changes are one where they have the same id and the same ranges before and after
 pub change_same : (a b : Change) → a.id ≡ b.id → a.before ≡ b.before → a.after ≡ b.after → a ≡ b
 change_same a b e f g = λ i. record { id = e i; before = f i; after = g i }
 
 -- ---- one list
 
+-- the label of each row stands in the list under its id, with its active range
 pub standing : (rows : List Row) (r : Row) → Contains rows r → IsStanding (labels_in rows) (slots_in rows) r.label.order.id (ranged r)
 standing rows r there =
     let many = length-labels rows in
@@ -48,6 +50,7 @@ standing rows r there =
       its_span = ap (λ (s : Slot). record { min = r.label.min; until = s.until }) (sym (map_read (λ (t : Row). t.slot) rows there.0 r no_slot lt (sym there.2)));
     }
 
+-- a label that stands in the list under an id is the label of some row with that id
 pub standing_row : (rows : List Row) (id : List ℕ) (one : Ranged) → IsStanding (labels_in rows) (slots_in rows) id one → (r : Row) × Contains rows r × (r.label.order.id ≡ id) × (one ≡ ranged r)
 standing_row rows id one stands =
     let many = length-labels rows in
@@ -64,12 +67,14 @@ standing_row rows id one stands =
           (stands.its_span ∙ ap (λ (a : Label). record { min = a.min; until = (get_or (slots_in rows) at no_slot).until }) (sym label) ∙ ap (λ (t : Slot). record { min = r.label.min; until = t.until }) (map_read (λ (t : Row). t.slot) rows at r no_slot lt s.1)),
     )
 
+-- where no label has an id, no row has it
 pub no_row : (rows : List Row) (id : List ℕ) → IsAbsent (labels_in rows) id → (r : Row) → Contains rows r → r.label.order.id ≢ id
 no_row rows id absent r there e =
     let many = length-labels rows in
     let lt : there.0 < length rows = there.1 in
     absent there.0 r.label (omega arith) (ap (λ (a : Label). a.order.id) (label_read rows there.0 r r.label lt (sym there.2)) ∙ e)
 
+-- where no row has an id, no label has it
 pub is_absent : (rows : List Row) (id : List ℕ) → ((r : Row) → Contains rows r → r.label.order.id ≢ id) → IsAbsent (labels_in rows) id
 is_absent rows id none k d lt e =
     let many = length-labels rows in
@@ -165,6 +170,7 @@ module _ (rows after left : List Row) (moved : List Moved) (id : List ℕ) (edit
       go false e =
           inl (other c (λ same. let t = (bytes_eq-Decides c.id id).1 same in let f : true ≡ false = sym t ∙ e in cc) h.was h.is h.state_before h.state_after h.differ h.span_before h.span_after)
 
+  -- sorted by id, the changes of the labels that stay, and that of the edited one if it differs, are those of the edit
   pub are_changes : (changes : List Change) → IsStrictlySortedBy (slice_cmp nat_cmp) (map (λ change. change.id) changes) →
       ((c : Change) → Contains changes c ↔ (IsStayChange left moved c ⊎ ((c ≡ edited_change id was is) × (was ≢ is)))) → AreChanges (labels_in rows) (slots_in rows) (labels_in after) (slots_in after) changes
   are_changes changes sorted same = record {

@@ -21,24 +21,30 @@ use Rattle.ml_repair.proofs.Present.{length-labels, length-present}
 use Rattle.ml_repair.proofs.Repairing.{own_before}
 use Rattle.ml_ratio.proofs.lemmas.Lists.{map_insert, map_remove}
 
+-- the law: slots are the longest choice with its blockers exactly where each label has the slot that those before it leave
 abbrev pub OwnLaw : Type 0
 OwnLaw = (number : ℕ → ℕ) (labels : List Label) (slots : List Slot) → HaveOwnSlots number labels slots ↔ AreSlots number labels slots
 
+-- an element that comes into a list and goes again leaves the list as it was
 pub remove_insert : {X : Type 0} (xs : List X) (i : ℕ) (y : X) → i ≤ length xs → remove (insert xs i y) i ≡ xs
 remove_insert [] zero y le = refl
 remove_insert [] (suc i) y le = absurd (omega arith)
 remove_insert (x ∷ xs) zero y le = refl
 remove_insert (x ∷ xs) (suc i) y le = ap (λ ys. x ∷ ys) (remove_insert xs i y (omega arith))
 
+-- rows get the same slots whether another row comes in before the new slots are set or after
 pub moved-insert : (moved : List Moved) (rows : List Row) (at : ℕ) (r : Row) → moved_rows moved (insert rows at r) ≡ insert (moved_rows moved rows) at (moved_row moved r)
 moved-insert moved rows at r = map_insert (moved_row moved) rows at r
 
+-- rows get the same slots whether another row goes before the new slots are set or after
 pub moved-remove : (moved : List Moved) (rows : List Row) (at : ℕ) → moved_rows moved (remove rows at) ≡ remove (moved_rows moved rows) at
 moved-remove moved rows at = map_remove (moved_row moved) rows at
 
+-- the present slots with a row more are those of the other rows, and that of the row at its place
 pub present-insert : (moved : List Moved) (rows : List Row) (at : ℕ) (r : Row) → present_slots (insert rows at r) moved ≡ insert (present_slots rows moved) at (moved_row moved r).slot
 present-insert moved rows at r = ap slots_in (moved-insert moved rows at r) ∙ map_insert (λ (t : Row). t.slot) (moved_rows moved rows) at (moved_row moved r)
 
+-- the present slots without a row are those of all rows but the one at its place
 pub present-remove : (moved : List Moved) (rows : List Row) (at : ℕ) → present_slots (remove rows at) moved ≡ remove (present_slots rows moved) at
 present-remove moved rows at = ap slots_in (moved-remove moved rows at) ∙ map_remove (λ (t : Row). t.slot) (moved_rows moved rows) at
 
@@ -46,6 +52,7 @@ module _ (own_law : OwnLaw) (carried_law : CarriedLaw) where
   -- ---- the label at `at` goes
 
   module _ (rows : List Row) (at : ℕ) (old new : List Moved) (in' : at < length rows) where
+    -- before the label goes, each label has the slot that all before it leave, the one that goes among them
     pub gone_start : AreSlots (number_at rows) (labels_in rows) (present_slots rows old) → AreOwn (number_at rows) (labels_in rows) (present_slots rows old) at false false
     gone_start are = own_all_there (number_at rows) (labels_in rows) (present_slots rows old) at false false refl ((own_law (number_at rows) (labels_in rows) (present_slots rows old)).1 are)
 
@@ -54,6 +61,7 @@ module _ (own_law : OwnLaw) (carried_law : CarriedLaw) where
         let many = length-map rows (λ (r : Row). r.number) in
         (without_remove (numbers_in rows) at (omega arith)).same j k 0 p ∙ ap (λ ns. get_or ns k 0) (sym (map_remove (λ (r : Row). r.number) rows at))
 
+    -- once each label that stays has the slot that those before it leave without the one that goes, the slots are the longest choice
     pub gone_end : AreOwn (number_at rows) (labels_in rows) (present_slots rows new) at false true → AreSlots (number_at (remove rows at)) (labels_in (remove rows at)) (present_slots (remove rows at) new)
     gone_end own =
         let a = length-labels rows in
@@ -63,6 +71,7 @@ module _ (own_law : OwnLaw) (carried_law : CarriedLaw) where
         (all_shorter carried_law at (number_at rows) (number_at (remove rows at)) (labels_in rows) (remove (labels_in rows) at) (present_slots rows new) (remove (present_slots rows new) at)
         number_link (without_remove (labels_in rows) at (omega arith)) (without_remove (present_slots rows new) at (omega arith)) false true (λ e. cc) own))
 
+    -- where n labels are touched between the slots before and after, the edit touches n labels as the label goes
     pub gone_cost : AreSlots (number_at rows) (labels_in rows) (present_slots rows old) → AreSlots (number_at (remove rows at)) (labels_in (remove rows at)) (present_slots (remove rows at) new) →
         (n : ℕ) → IsSize (IsTouched (labels_in rows) at false (ends (present_slots rows old)) (ends (present_slots rows new))) n → AreTouched (labels_in rows) at false n
     gone_cost was is n size =
@@ -91,6 +100,7 @@ module _ (own_law : OwnLaw) (carried_law : CarriedLaw) where
         let many = length-map rows (λ (t : Row). t.number) in
         ap (λ ns. get_or ns j 0) (map_insert (λ (t : Row). t.number) rows at r) ∙ (without_insert (numbers_in rows) at r.number (omega arith)).same j k 0 p
 
+    -- before the label comes, each other label has the slot that those before it leave without the one that comes
     pub come_start : AreSlots (number_at rows) (labels_in rows) (present_slots rows old) → AreOwn (number_at (insert rows at r)) (labels_in (insert rows at r)) (present_slots (insert rows at r) old) at true false
     come_start are =
         let a = length-labels rows in
@@ -100,11 +110,13 @@ module _ (own_law : OwnLaw) (carried_law : CarriedLaw) where
         come_link (without_insert (labels_in rows) at r.label (omega arith)) (without_insert (present_slots rows old) at (moved_row old r).slot (omega arith)) true false (λ e. cc)
         ((own_law (number_at rows) (labels_in rows) (present_slots rows old)).1 are))
 
+    -- once each label has the slot that those before it leave, the one that came among them, the slots are the longest choice
     pub come_end : AreOwn (number_at (insert rows at r)) (labels_in (insert rows at r)) (present_slots (insert rows at r) new) at true true → AreSlots (number_at (insert rows at r)) (labels_in (insert rows at r)) (present_slots (insert rows at r) new)
     come_end own =
         (own_law (number_at (insert rows at r)) (labels_in (insert rows at r)) (present_slots (insert rows at r) new)).0
         (all_own_there (number_at (insert rows at r)) (labels_in (insert rows at r)) (present_slots (insert rows at r) new) at true true refl own)
 
+    -- where n labels are touched between the slots before and after, the edit touches n labels as the label comes
     pub come_cost : AreSlots (number_at rows) (labels_in rows) (present_slots rows old) → AreSlots (number_at (insert rows at r)) (labels_in (insert rows at r)) (present_slots (insert rows at r) new) →
         (n : ℕ) → IsSize (IsTouched (labels_in (insert rows at r)) at true (ends (present_slots (insert rows at r) old)) (ends (present_slots (insert rows at r) new))) n → AreTouched (labels_in (insert rows at r)) at true n
     come_cost was is n size =
@@ -131,6 +143,7 @@ module _ (own_law : OwnLaw) (carried_law : CarriedLaw) where
     numbers_same : numbers_in (insert rows at r) ≡ numbers_in (insert rows at s)
     numbers_same = map_insert (λ (t : Row). t.number) rows at r ∙ ap (λ n. insert (numbers_in rows) at n) one_number ∙ sym (map_insert (λ (t : Row). t.number) rows at s)
 
+    -- the list has the same labels whichever of the two rows stands in it
     pub labels_same : labels_in (insert rows at r) ≡ labels_in (insert rows at s)
     labels_same = map_insert (λ (t : Row). t.label) rows at r ∙ ap (λ n. insert (labels_in rows) at n) one_label ∙ sym (map_insert (λ (t : Row). t.label) rows at s)
 
@@ -150,6 +163,7 @@ module _ (own_law : OwnLaw) (carried_law : CarriedLaw) where
         let b = length-present rows old in
         ap (λ (xs : List Slot). get_or xs at no_slot) (present-insert old rows at s) ∙ get_or-insert_at (present_slots rows old) at (moved_row old s).slot no_slot (omega arith) ∙ untouched s.slot ∙ is
 
+    -- the slot found while the one row stood there is the label's own once the row with that slot stands there
     pub come_here : (slot : Slot) → s.slot ≡ slot → ((own : Slot) → slot_for s.number own old ≡ own) →
         ((d : Label) → IsOwnSlot (row (number_at (insert rows at r)) (labels_in (insert rows at r)) (present_slots (insert rows at r) old) d) (Stands true true at at) (get_or (labels_in (insert rows at r)) at d) slot) →
         (d : Label) → IsOwnSlot (row (number_at (insert rows at s)) (labels_in (insert rows at s)) (present_slots (insert rows at s) old) d) (Stands true true at at) (get_or (labels_in (insert rows at s)) at d) (get_or (present_slots (insert rows at s) old) at no_slot)

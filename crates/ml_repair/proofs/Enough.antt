@@ -25,6 +25,7 @@ use Rattle.ml_repair.specs.Repair.{Stands, ReachesBand, Counts, present_slots, r
 use Rattle.ml_repair.proofs.Carrying.{CarriedLaw, JoinedLaw, carried_by, joined_by, stand_test, is_standing, is_below, is_same, both_tests}
 use Rattle.ml_repair.proofs.Present.{chosen_is, length-labels}
 
+-- a list of numbers has a number, or it does not
 pub contained_or_not : (xs : List ℕ) (x : ℕ) → Contains xs x ⊎ (¬ (Contains xs x))
 contained_or_not [] x = inr (λ h. let lt : h.0 < 0 = h.1 in omega arith)
 contained_or_not (y ∷ xs) x =
@@ -40,6 +41,7 @@ contained_or_not (y ∷ xs) x =
     go zero lt e other none = other e
     go (suc k) lt e other none = none (k, omega arith, e)
 
+-- the law: a label that sets another no limit up to a bound in its range allows it the bound
 abbrev pub UptoLaw : Type 0
 UptoLaw = (low high : Label) (u bound : Fraction) → IsAtMost bound (value_of low.max) → SetsNoneUpTo low high u bound → Allows low high u bound
 
@@ -76,18 +78,23 @@ covers_beyond a b v u covers =
     let beyond : IsLess u v = less_trans u s v (middle_above u covers.0 covers.1) both.0.1 in
     omega arith
 
+-- the law: two labels are rivals, or the one, active up to its maximum, allows the other its own maximum
 abbrev pub FreeLaw : Type 0
 FreeLaw = (low high : Label) → AreRivals low high ⊎ Allows low high (value_of high.max) (value_of low.max)
 
+-- the law: rivals overlap in some band that meets both selectable ranges
 abbrev pub RivalLaw : Type 0
 RivalLaw = (a b : Label) → AreRivals a b → RivalBand a b
 
+-- the law: a label that covers another from an end below the other's maximum on overlaps it in the band of that end
 abbrev pub BoundLaw : Type 0
 BoundLaw = (low high : Label) (until bound : Fraction) → IsEnd low bound → IsLess bound (value_of low.max) → IsAtMost until (value_of high.max) → CoversFrom low high until bound → BoundBand low high bound
 
+-- the law: an earlier label blocks a label that ends below its maximum, where the limit that it sets is that end
 abbrev pub BlocksLaw : Type 0
 BlocksLaw = (labels : List Label) (choice : Choice) (j i : ℕ) → j < i → ((d : Label) → IsLess (choice i) (value_of (get_or labels i d).max)) → ((d : Label) → IsLimit (get_or labels i d) (get_or labels j d) (choice j) (choice i)) → Blocks labels choice j i
 
+-- the law: a label that allows another an end still does so where it ends earlier itself, and allows any smaller end
 abbrev pub SmallerLaw : Type 0
 SmallerLaw = (low high : Label) (u v e f : Fraction) → IsAtMost v u → IsAtMost e f → Allows low high u f → Allows low high v e
 
@@ -273,6 +280,7 @@ module _ (free_law : FreeLaw) (rival_law : RivalLaw) (bound_law : BoundLaw) (blo
       let h : k < length places = omega arith in
       (get_or places k 0, are.stand (get_or places k 0) (k, h, get_or_default places k (get_or places k 0) 0 h), alike d k h, (h, refl))
 
+  -- what places that are enough leave the label is what all labels that stand before it leave
   pub enough_own : (d : Label) → ((e : Label) → get_or (labels_in rows) i e ≡ low) → IsOwnSlot (row (number_at rows) (labels_in rows) (present_slots rows moved) d) (Stands comes true at i) (get_or (labels_in rows) i d) slot
   unfolding rivals others
   enough_own d is =

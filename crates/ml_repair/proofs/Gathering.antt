@@ -60,6 +60,7 @@ band_from low high k b meets in' =
 
 -- ---- bounds
 
+-- a bound that some places set is still one they set as more places come in
 pub bound_more : (rows : List Row) (moved : List Moved) (low : Label) (few many : List ℕ) (bound : Ratio) → ((p : ℕ) → Contains few p → Contains many p) → IsBoundBy rows moved low few bound → IsBoundBy rows moved low many bound
 bound_more rows moved low few many bound all h = elim h [ inl most ↦ inl most | inr some ↦ inr (some.0, all some.0 some.1, some.2) ]
 
@@ -133,6 +134,7 @@ from_nothing scale u none = rw none (omega arith)
 
 -- ---- places that are sifted
 
+-- the k-th of the numbers with new slots is that of the k-th new slot
 pub number_read : (moved : List Moved) (k : ℕ) (m : Moved) → k < length moved → m ≡ get_or moved k m → get_or (numbers_of moved) k 0 ≡ m.number
 number_read moved k m lt read = map_read (λ (x : Moved). x.number) moved k m 0 lt read
 
@@ -219,6 +221,7 @@ module _ (rows : List Row) (moved : List Moved) (low : Label) where
 
     -- ---- the places of a list
 
+    -- before the first place of the list nothing has to come in
     pub sifted_none : (found : List ℕ) (bound : Ratio) (places : List ℕ) → AreSifted rows moved low at comes i (Contains (take 0 found)) bound bound places places
     sifted_none found bound places = sifted_same (Contains (take 0 found)) bound places (λ p h s. absurd (let lt : h.0 < 0 = h.1 in omega arith))
 
@@ -254,6 +257,7 @@ module _ (rows : List Row) (moved : List Moved) (low : Label) where
         let many = length-map rows (λ (t : Row). t.number) in
         sifted_same (IsRowAt rows n) bound places (λ p h s. absurd (fresh (p, (let lt : p < length rows = h.0 in omega arith), get_or_default (numbers_in rows) p n 0 (let lt : p < length rows = h.0 in omega arith) ∙ h.1)))
 
+    -- no other row has the number, so sifting the place of its row is sifting the number
     pub sifted_number : (n place : ℕ) (before after : List ℕ) (bound next : Ratio) → HaveOwnNumbers rows → IsRowAt rows n place → AreSifted rows moved low at comes i (λ p. p ≡ place) bound next before after →
         AreSifted rows moved low at comes i (IsRowAt rows n) bound next before after
     sifted_number n place before after bound next differ here are =
@@ -261,9 +265,11 @@ module _ (rows : List Row) (moved : List Moved) (low : Label) where
         sifted_fewer (λ p. p ≡ place) (IsRowAt rows n) before after bound next are
         (λ p h. same_place (numbers_in rows) p place 0 differ (let a = h.0 in omega arith) (let b = here.0 in omega arith) (h.1 ∙ sym here.1))
 
+    -- before the first label with a new slot nothing has to come in
     pub moved_none : (bound : Ratio) (places : List ℕ) → AreSifted rows moved low at comes i (AmongMoved rows moved 0) bound bound places places
     moved_none bound places = sifted_same (AmongMoved rows moved 0) bound places (λ p h s. absurd (let lt : h.1.0 < 0 = h.1.1 in omega arith))
 
+    -- one more label with a new slot is sifted: the one with the next number
     pub moved_more : (before middle after : List ℕ) (bound mid next : Ratio) (k n : ℕ) → k < length moved → get_or (numbers_of moved) k 0 ≡ n → AreSifted rows moved low at comes i (AmongMoved rows moved k) bound mid before middle →
         AreSifted rows moved low at comes i (IsRowAt rows n) mid next middle after → AreSifted rows moved low at comes i (AmongMoved rows moved (k + 1)) bound next before after
     moved_more before middle after bound mid next k n lt is one two' =
@@ -275,6 +281,7 @@ module _ (rows : List Row) (moved : List Moved) (low : Label) where
           | inr same ↦ inr (h.0, sym same ∙ is)
         ])
 
+    -- once the number of each new slot is sifted, all labels with new slots are
     pub moved_all : (before after : List ℕ) (bound next : Ratio) (k : ℕ) → length moved ≤ k → AreSifted rows moved low at comes i (AmongMoved rows moved k) bound next before after →
         AreSifted rows moved low at comes i (λ p. (p < length rows) × Contains (numbers_of moved) (number_at rows p)) bound next before after
     moved_all before after bound next k all are =
@@ -339,6 +346,7 @@ module _ (rows : List Row) (moved : List Moved) (low : Label) (at : ℕ) (comes 
     new_ones = λ p s lt m. are.whole p (lt, m) s;
   }
 
+  -- one more band is gathered, once the labels without a new slot that reach into it are sifted
   pub gathered_more : (band : ℕ) (bound next : Ratio) (places more found : List ℕ) → GatheredBelow rows moved low at comes i first band bound places → AreReaching rows moved low band found →
       AreSifted rows moved low at comes i (Contains found) bound next places more → GatheredBelow rows moved low at comes i first (band + 1) next more
   gathered_more band bound next places more found so_far all are = record {
@@ -374,10 +382,12 @@ module _ (rows : List Row) (moved : List Moved) (low : Label) (at : ℕ) (comes 
   pub gathered_start : GatheredBands rows moved low at comes i first first low.max []
   gathered_start = bands_none (λ p. ⊥) [] low.max (sifted_same rows moved low at comes i (λ p. ⊥) low.max [] (λ p h s. absurd h))
 
+  -- some more bands are gathered, once all labels that the label overlaps in them are sifted
   pub gathered_all : (band until : ℕ) (bound next : Ratio) (places more found : List ℕ) → GatheredBands rows moved low at comes i first band bound places → AreMet rows low band until [] found →
       AreSifted rows moved low at comes i (Contains found) bound next places more → GatheredBands rows moved low at comes i first until next more
   gathered_all band until bound next places more found so_far all are = bands_over (Contains found) band until bound next places more so_far are (λ p k from upto s f r. are.whole p (all.whole p k from upto f) s)
 
+  -- places gathered in all bands up to that of the bound are enough for the label's slot, in whatever order
   pub gathered_enough : (band b : ℕ) (bound : Ratio) (places sorted : List ℕ) → GatheredBands rows moved low at comes i first band bound places → IsInBand (value_of low.min) first → IsInBand (value_of bound) b → (b < band) ⊎ (28 ≤ band) →
       ((p : ℕ) → Contains sorted p ↔ Contains places p) → AreEnough rows moved low at comes i sorted
   gathered_enough band b bound places sorted done starts ends' stop same = record {

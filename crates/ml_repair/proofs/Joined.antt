@@ -24,6 +24,7 @@ pub record IsWithout {X : Type 0} (at : ℕ) (xs ys : List X) : Type 0 where
   pub in_list : at ≤ length ys
   pub same : (j k : ℕ) (d : X) → IsPlaceOf at j k → get_or xs j d ≡ get_or ys k d
 
+-- a list into which an element came at a place is, without that place, the old list
 pub without_insert : {X : Type 0} (xs : List X) (at : ℕ) (x : X) → at ≤ length xs → IsWithout at (insert xs at x) xs
 without_insert {X} xs at x le =
     record {
@@ -36,6 +37,7 @@ without_insert {X} xs at x le =
           ];
     }
 
+-- a list from which the element at a place was removed is the old list without that place
 pub without_remove : {X : Type 0} (xs : List X) (at : ℕ) → at < length xs → IsWithout at xs (remove xs at)
 without_remove {X} xs at lt =
     let len = length-remove xs at lt in
@@ -112,6 +114,7 @@ module _ (carried_law : CarriedLaw) (at : ℕ) (number shorter_number : ℕ → 
         | inr a ↦ (let x = a.0 in let y = a.1 in elim q [ inl b' ↦ (let x' = b'.0 in let y' = b'.1 in omega arith) | inr a' ↦ (let x' = a'.1 in omega arith) ])
       ]
 
+  -- a slot that is left by the labels that stand in the longer list is left by those before the place in the shorter one
   pub own_shorter : (d low : Label) (slot : Slot) (j k : ℕ) → IsPlaceOf at j k → IsOwnSlot (row number labels slots d) (Stands comes after at j) low slot → IsOwnSlot (row shorter_number shorter_labels shorter_slots d) (λ m. m < k) low slot
   own_shorter d low slot j k p own =
       carried_by (Stands comes after at j) (λ m. m < k) (stand_test comes after at j) (λ m. nat_lt m k) (is_standing comes after at j) (is_below k) (IsPlaceOf at) (place_test at) (is_place at)
@@ -122,6 +125,7 @@ module _ (carried_law : CarriedLaw) (at : ℕ) (number shorter_number : ℕ → 
         order = order;
       }) slot own
 
+  -- a slot that is left by the labels before the place in the shorter list is left by those that stand in the longer one
   pub own_longer : (d low : Label) (slot : Slot) (j k : ℕ) → IsPlaceOf at j k → IsOwnSlot (row shorter_number shorter_labels shorter_slots d) (λ m. m < k) low slot → IsOwnSlot (row number labels slots d) (Stands comes after at j) low slot
   own_longer d low slot j k p own =
       carried_by (λ m. m < k) (Stands comes after at j) (λ m. nat_lt m k) (stand_test comes after at j) (is_below k) (is_standing comes after at j) (λ k j. IsPlaceOf at j k) (λ k j. place_test at j k) (λ k j. is_place at j k)
@@ -159,6 +163,7 @@ module _ (carried_law : CarriedLaw) (at : ℕ) (number shorter_number : ℕ → 
             (own_shorter d (get_or labels w.0 d) (get_or slots w.0 no_slot) w.0 k w.1 (are.own d w.0 in' (λ e. absurd (ne e))));
       }
 
+  -- where the labels of the shorter list have their own slots, so have those of the longer one but the edited label
   pub all_longer : HaveOwnSlots shorter_number shorter_labels shorter_slots → AreOwn number labels slots at comes after
   all_longer all =
       let a = all.one_slot in
@@ -182,6 +187,7 @@ own_all_there number labels slots at comes after same all =
       own = λ d i in' there. own_same (row number labels slots d) (λ j. j < i) (Stands comes after at i) (λ j. (λ lt. (lt, λ e. same), λ s. s.0)) (get_or labels i d) (get_or slots i no_slot) (all.own d i in');
     }
 
+-- and where all labels that are there have their own slots, so has each label of the list
 pub all_own_there : (number : ℕ → ℕ) (labels : List Label) (slots : List Slot) (at : ℕ) (comes after : Bool) → comes ≡ after → AreOwn number labels slots at comes after → HaveOwnSlots number labels slots
 all_own_there number labels slots at comes after same are =
     record {
@@ -203,6 +209,7 @@ longest_same labels b c e p =
           }));
     }
 
+-- the ends of slots from which one was removed are the choice that leaves its place out
 pub left_out_ends : (slots : List Slot) (at k : ℕ) → at < length slots → ends (remove slots at) k ≡ left_out at (ends slots) k
 left_out_ends slots at k lt =
     elim (cases_lt k at) [

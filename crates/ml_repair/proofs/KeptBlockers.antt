@@ -22,9 +22,11 @@ use Rattle.ml_store.specs.declared.moved.Moved.{Moved}
 use Rattle.ml_repair.proofs.Enough.{SmallerLaw, contained_or_not}
 use Rattle.ml_repair.proofs.Present.{chosen_is, length-labels}
 
+-- the law: a label sets the same limit where its end and the limit are written as other equal fractions
 abbrev pub SameLaw : Type 0
 SameLaw = (low high : Label) (u v f g : Fraction) → IsSame u v → IsSame f g → IsLimit low high u f → IsLimit low high v g
 
+-- a label as a rival, with its number and its end
 abbrev pub rival_of : ℕ → Label → Ratio → Rival
 rival_of n a u = record { number = n; label = a; until = u }
 
@@ -232,6 +234,7 @@ module _ (smaller_law : SmallerLaw) (same_law : SameLaw) (rows : List Row) (move
     setter = setter_of slot.blocker among.setter;
   }
 
+  -- the slot that these places leave the label is what all labels that stand before it leave
   pub kept_own : AreLeaving rows moved at comes i slot
   kept_own d =
       let n = length-labels rows in
@@ -243,6 +246,7 @@ module _ (smaller_law : SmallerLaw) (same_law : SameLaw) (rows : List Row) (move
 -- ---- what a repair notes
 
 module _ (at : ℕ) (comes : Bool) where
+  -- at the start no label has another end, so only the edited one is noted, and only if it comes
   pub noted_start : (was : ℕ → Fraction) (changed : List ℕ) → ((p : ℕ) → Contains changed p ↔ ((p ≡ at) × (comes ≡ true))) → AreChanged was was at comes (at + 1) changed
   noted_start was changed just = record {
     stand = λ p there. let h = (just p).0 there in (let e : p ≡ at = h.0 in omega arith, λ e. h.1);
@@ -250,6 +254,7 @@ module _ (at : ℕ) (comes : Bool) where
     others = λ j lt apart none. refl;
   }
 
+  -- one more label is done, which has its end of before: none is noted
   pub noted_still : (was is next : ℕ → Fraction) (i : ℕ) (changed : List ℕ) → AreChanged was is at comes i changed → ((k : ℕ) → k < i → IsSame (is k) (next k)) → IsSame (was i) (next i) → ((a b c : Fraction) → IsSame a b → IsSame b c → IsSame a c) → AreChanged was next at comes (i + 1) changed
   noted_still was is next i changed so_far same here trans = record {
     stand = λ p there. let h = so_far.stand p there in (let lt : p < i = h.0 in omega arith, h.1);
@@ -260,6 +265,7 @@ module _ (at : ℕ) (comes : Bool) where
     ];
   }
 
+  -- several labels are passed over, which have their ends of before: none is noted
   pub noted_skip : (was is : ℕ → Fraction) (i until : ℕ) (changed : List ℕ) → i ≤ until → AreChanged was is at comes i changed → ((j : ℕ) → i ≤ j → IsSame (was j) (is j)) → AreChanged was is at comes until changed
   noted_skip was is i until changed le so_far same = record {
     stand = λ p there. let h = so_far.stand p there in (let lt : p < i = h.0 in omega arith, h.1);
@@ -270,6 +276,7 @@ module _ (at : ℕ) (comes : Bool) where
     ];
   }
 
+  -- one more label is done, whose end may be another one: its place is noted
   pub noted_more : (was is next : ℕ → Fraction) (i : ℕ) (changed more : List ℕ) → at < i → AreChanged was is at comes i changed → ((k : ℕ) → k < i → IsSame (is k) (next k)) → ((p : ℕ) → Contains more p ↔ (Contains changed p ⊎ (p ≡ i))) → ((a b c : Fraction) → IsSame a b → IsSame b c → IsSame a c) → AreChanged was next at comes (i + 1) more
   noted_more was is next i changed more from so_far same just trans = record {
     stand = λ p there. elim ((just p).0 there) [
@@ -283,12 +290,15 @@ module _ (at : ℕ) (comes : Bool) where
     ];
   }
 
+-- a slot that stays has the same end
 pub end_kept : (slots next : List Slot) (k : ℕ) → get_or next k no_slot ≡ get_or slots k no_slot → IsSame (ends slots k) (ends next k)
 end_kept slots next k e = subst (λ (s : Slot). IsSame (ends slots k) (value_of s.until)) (sym e) refl
 
+-- where a slot is the old one, the old end equals whatever the present end equals
 pub end_from : (slots old : List Slot) (k : ℕ) (f : Fraction) → get_or slots k no_slot ≡ get_or old k no_slot → IsSame (ends slots k) f → IsSame (ends old k) f
 end_from slots old k f e same = subst (λ (s : Slot). IsSame (value_of s.until) f) e same
 
+-- a list with one more place at its end has that place and those that it had
 pub pushed_one : (xs : List ℕ) (x : ℕ) (ys : List ℕ) → ys ≡ xs ++ x ∷ [] → (p : ℕ) → Contains ys p ↔ (Contains xs p ⊎ (p ≡ x))
 pushed_one xs x ys is p = (
   λ there. elim (Contains-push_cases xs x p (subst (λ (zs : List ℕ). Contains zs p) is there)) [
@@ -308,6 +318,7 @@ some_there : (rows : List Row) (changed places : List ℕ) (at i : ℕ) (o q : O
 some_there rows changed places at i o None there h = tt
 some_there rows changed places at i o (Some n) there h = (h.0, h.1, there h.0 h.2)
 
+-- the slot that the changed labels and the blocker, if it is given, leave is what all labels that stand before leave
 pub left_own : SmallerLaw → SameLaw → (rows : List Row) (moved : List Moved) (at : ℕ) (comes : Bool) (i : ℕ) (changed : List ℕ) (o : Option ℕ) (slot : Slot) → HaveOwnNumbers rows → i < length rows → IsOwnBefore rows moved at comes changed i →
     ((b : ℕ) → o ≡ Some b → Stands comes true at i b) → IfSome (present_at rows moved i).blocker (λ n. (b : ℕ) × IsStaying rows changed at i n b × (o ≡ Some b)) →
     IsLeftBy rows moved i (λ p. Contains changed p ⊎ (o ≡ Some p)) slot → AreLeaving rows moved at comes i slot
@@ -321,6 +332,7 @@ left_own smaller_law same_law rows moved at comes i changed o slot differ within
     (some_there rows changed left.places at i o (present_at rows moved i).blocker (λ p e. (left.same p).1 (inr e)) has)
     left.ascending left.among
 
+-- so it is for a label without a blocker, among the changed labels alone
 pub left_none : SmallerLaw → SameLaw → (rows : List Row) (moved : List Moved) (at : ℕ) (comes : Bool) (i : ℕ) (changed : List ℕ) (slot : Slot) → HaveOwnNumbers rows → i < length rows → IsOwnBefore rows moved at comes changed i →
     (present_at rows moved i).blocker ≡ None → IsLeftBy rows moved i (λ p. Contains changed p ⊎ (None ≡ Some p)) slot → AreLeaving rows moved at comes i slot
 left_none smaller_law same_law rows moved at comes i changed slot differ within known none left =
@@ -328,6 +340,7 @@ left_none smaller_law same_law rows moved at comes i changed slot differ within 
     (λ b e. absurd (let f : ◌≡◌ {A = Option ℕ} None (Some b) = e in cc))
     (subst (λ (q : Option ℕ). IfSome q (λ n. (b : ℕ) × IsStaying rows changed at i n b × (None ≡ Some b))) (sym none) tt) left
 
+-- so it is for a label whose blocker stays, among the changed labels and the blocker
 pub left_some : SmallerLaw → SameLaw → (rows : List Row) (moved : List Moved) (at : ℕ) (comes : Bool) (i : ℕ) (changed : List ℕ) (n b : ℕ) (slot : Slot) → HaveOwnNumbers rows → i < length rows → IsOwnBefore rows moved at comes changed i →
     (present_at rows moved i).blocker ≡ Some n → IsStaying rows changed at i n b → IsLeftBy rows moved i (λ p. Contains changed p ⊎ (Some b ≡ Some p)) slot → AreLeaving rows moved at comes i slot
 left_some smaller_law same_law rows moved at comes i changed n b slot differ within known some staying left =
@@ -337,6 +350,7 @@ left_some smaller_law same_law rows moved at comes i changed n b slot differ wit
 
 -- ---- given places
 
+-- where no blocker is given, the places are those of the changed labels
 pub given_none : (xs ys : List ℕ) → ys ≡ xs → (p : ℕ) → Contains ys p ↔ (Contains xs p ⊎ (None ≡ Some p))
 given_none xs ys same p = (
   λ there. inl (subst (λ (zs : List ℕ). Contains zs p) same there),
@@ -346,6 +360,7 @@ given_none xs ys same p = (
   ],
 )
 
+-- where the place of a blocker is given, the places are those of the changed labels and that place
 pub given_one : (xs ys zs : List ℕ) (b : ℕ) → ys ≡ xs → zs ≡ ys ++ b ∷ [] → (p : ℕ) → Contains zs p ↔ (Contains xs p ⊎ (Some b ≡ Some p))
 given_one xs ys zs b same pushed p =
     let more = pushed_one xs b zs (pushed ∙ ap (λ (l : List ℕ). l ++ b ∷ []) same) p in (
@@ -353,6 +368,7 @@ given_one xs ys zs b same pushed p =
       λ h. elim h [ inl old ↦ more.1 (inl old) | inr e ↦ more.1 (inr (let f : b ≡ p = cc in sym f)) ],
     )
 
+-- the places of changed labels and of a given blocker are places of the list
 pub given_within : (rows : List Row) (changed : List ℕ) (o : Option ℕ) (places : List ℕ) → ((p : ℕ) → Contains places p ↔ (Contains changed p ⊎ (o ≡ Some p))) → All (λ p. p < length rows) changed → IfSome o (λ b. b < length rows) → All (λ p. p < length rows) places
 given_within rows changed o places same within blocker k d lt =
     let p : ℕ = get_or places k d in
@@ -361,6 +377,7 @@ given_within rows changed o places same within blocker k d lt =
       | inr e ↦ subst (λ (q : Option ℕ). IfSome q (λ b. b < length rows)) e blocker
     ]
 
+-- the places of changed labels are places of the list
 pub changed_within : (rows : List Row) (moved : List Moved) (at : ℕ) (comes : Bool) (changed : List ℕ) (i : ℕ) → i < length rows → IsOwnBefore rows moved at comes changed i → All (λ p. p < length rows) changed
 changed_within rows moved at comes changed i within known k d lt =
     let p : ℕ = get_or changed k d in

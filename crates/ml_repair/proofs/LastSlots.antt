@@ -27,6 +27,7 @@ pub record LastingOf (rows : List Row) (moved : List Moved) (k : ℕ) (out : Lis
 none_in : {A : Type 0} (x : A) → ¬ (Contains [] x)
 none_in x there = let lt = there.1 in omega arith
 
+-- before the first new slot none is left
 pub lasting_none : (rows : List Row) (moved : List Moved) → LastingOf rows moved 0 []
 lasting_none rows moved = record {
   few = omega arith;
@@ -71,6 +72,7 @@ module _ (rows : List Row) (moved : List Moved) (k : ℕ) (m : Moved) (out : Lis
   among_more : (n : ℕ) → Contains (numbers_of (take k moved)) n → Contains (numbers_of (take (k + 1) moved)) n
   among_more n there = rw (next, numbers_push (take k moved) m) (Contains-append_left (numbers_of (take k moved)) (m.number ∷ []) n there)
 
+  -- one more new slot, which is another one than its row has, is left
   pub lasting_more : IsNewIn rows m → LastingOf rows moved (k + 1) (out ++ m ∷ [])
   lasting_more is_new =
       let many = length-append out (m ∷ []) in
@@ -92,6 +94,7 @@ module _ (rows : List Row) (moved : List Moved) (k : ℕ) (m : Moved) (out : Lis
             ∙ sym (ap (slot_for r.number r.slot) next ∙ slot_push r.number r.slot (take k moved) m);
       }
 
+  -- one more new slot, which its row has already, is dropped
   pub lasting_same : ((r : Row) → Contains rows r → r.number ≡ m.number → r.slot ≡ m.slot) → LastingOf rows moved (k + 1) out
   lasting_same own = record {
     few = (let few = so_far.few in omega arith);
@@ -109,6 +112,7 @@ module _ (rows : List Row) (moved : List Moved) (k : ℕ) (m : Moved) (out : Lis
         ];
   }
 
+-- once all new slots are gone through, those that are left make the same of the rows as all of them
 pub lasting_all : (rows : List Row) (moved out : List Moved) (k : ℕ) → length moved ≤ k → LastingOf rows moved k out → moved_rows out rows ≡ moved_rows moved rows
 lasting_all rows moved out k le l = rows_same rows out moved (λ r there. l.same r there ∙ ap (slot_for r.number r.slot) (take_all k moved le))
 

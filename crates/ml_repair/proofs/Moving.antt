@@ -75,15 +75,19 @@ found_nowhere moved n none = (omega arith, λ k lt same. absurd (none k lt same)
 
 -- one more label, which has no new slot so far
 module _ (moved : List Moved) (n : ℕ) (slot : Slot) (none : (k : ℕ) → k < length moved → get_or (numbers_of moved) k 0 ≢ n) where
+  -- the new slots, and that of the label behind them
   abbrev pub more : List Moved
   more = moved ++ (record { number = n; slot = slot }) ∷ []
 
+  -- the numbers with new slots are those so far, and then that of the label
   pub numbers_more : numbers_of more ≡ numbers_of moved ++ n ∷ []
   numbers_more = map-append (λ (x : Moved). x.number) moved ((record { number = n; slot = slot }) ∷ [])
 
+  -- the numbers are low, if that of the label is
   pub low_more : n < 32768 → All (λ x. x < 32768) (numbers_of moved) → All (λ x. x < 32768) (numbers_of more)
   low_more low all = rw numbers_more (All-push (λ x. x < 32768) (numbers_of moved) n all low)
 
+  -- the numbers are different, since that of the label had no new slot
   pub differ_more : AreDifferent (numbers_of moved) → AreDifferent (numbers_of more)
   differ_more differ =
       let many = length-map moved (λ (x : Moved). x.number) in
@@ -99,6 +103,7 @@ module _ (moved : List Moved) (n : ℕ) (slot : Slot) (none : (k : ℕ) → k < 
       let many = length-map moved (λ (x : Moved). x.number) in
       ap (λ ns. get_or ns (length moved) 0) numbers_more ∙ get_or_push (numbers_of moved) n 0 (length moved) many
 
+  -- a column that gets the place of the label's new slot at its number is the column of all of them
   pub column_more : (column : List ℕ) → n < 32768 → IsColumn moved column → IsColumn more (set column n (length moved + 1))
   column_more column low is =
       let long = length-append moved ((record { number = n; slot = slot }) ∷ []) in
@@ -130,6 +135,7 @@ module _ (moved : List Moved) (n : ℕ) (slot : Slot) (none : (k : ℕ) → k < 
             ];
       }
 
+  -- the label's number has the new slot, and each other number has what it had
   pub slots_more : (x : ℕ) (own : Slot) → slot_for x own more ≡ (if x == n then slot else slot_for x own moved)
   slots_more x own =
       slot_push x own moved (record { number = n; slot = slot }) ∙ elim (cases_eq x n) [
@@ -144,6 +150,7 @@ few_moves moved low differ =
     let few = at_most 32768 (numbers_of moved) differ low in
     omega arith
 
+-- a column of zeros is that of no new slots
 pub column_none : (column : List ℕ) → length column ≡ 32768 → ((k : ℕ) → k < 32768 → get_or column k 0 ≡ 0) → IsColumn [] column
 column_none column many zeros = record {
   all_numbers = many;
@@ -166,6 +173,7 @@ module _ (moved : List Moved) (n : ℕ) (at : ℕ) (old : Moved) (slot : Slot) (
       set_again (y ∷ xs) zero x lt e = ap (λ z. z ∷ xs) (sym e)
       set_again (y ∷ xs) (suc i) x lt e = ap (λ zs. y ∷ zs) (set_again xs i x (omega arith) e)
 
+  -- the column still tells where each number's new slot is found
   pub moves_set : (column : List ℕ) → AreMoves moved column → AreMoves (set moved at (record { number = old.number; slot = slot })) column
   moves_set column are =
       let len = length-set moved at (record { number = old.number; slot = slot }) in
@@ -178,6 +186,7 @@ module _ (moved : List Moved) (n : ℕ) (at : ℕ) (old : Moved) (slot : Slot) (
         ];
       }
 
+  -- the number has the later slot, and each other number has what it had
   pub slots_set : AreDifferent (numbers_of moved) → (x : ℕ) (own : Slot) → slot_for x own (set moved at (record { number = old.number; slot = slot })) ≡ (if x == n then slot else slot_for x own moved)
   slots_set differ x own =
       let new : Moved = record { number = old.number; slot = slot } in

@@ -25,11 +25,13 @@ use Rattle.ml_ratio.proofs.lemmas.Lists.{map_insert, map_remove, map_read, diffe
 use Rattle.std.proofs.lemmas.List.Quantifiers.{all_pairs_remove}
 use Rattle.std.proofs.lemmas.List.Sorted.{All-permutation, IsPermutation-insert, IsPermutation-remove}
 
+-- at each place of the list stands a row
 pub row_there : (rows : List Row) (j : ℕ) → j < length rows → (r : Row) × (r ≡ get_or rows j r)
 row_there [] j lt = absurd (omega arith)
 row_there (r ∷ rows) zero lt = (r, refl)
 row_there (r ∷ rows) (suc j) lt = row_there rows j (omega arith)
 
+-- a row that is left was there before one went
 pub left_contains : (gone : Option ℕ) (rows : List Row) (r : Row) → IfSome gone (λ g. g < length rows) → Contains (left_rows gone rows) r → Contains rows r
 left_contains None rows r in' there = there
 left_contains (Some g) rows r in' there =
@@ -58,9 +60,11 @@ row_from (Some row) at gone rows p in' le lt =
       ]
     ]
 
+-- the label at a place is that of the row at the place
 pub label_read : (rows : List Row) (p : ℕ) (r : Row) (d : Label) → p < length rows → r ≡ get_or rows p r → get_or (labels_in rows) p d ≡ r.label
 label_read rows p r d lt read = get_or-map (λ (t : Row). t.label) rows p r d lt ∙ ap (λ (t : Row). t.label) (sym read)
 
+-- the slot at a place is that of the row at the place
 pub slot_read : (rows : List Row) (p : ℕ) (r : Row) (d : Slot) → p < length rows → r ≡ get_or rows p r → get_or (slots_in rows) p d ≡ r.slot
 slot_read rows p r d lt read = get_or-map (λ (t : Row). t.slot) rows p r d lt ∙ ap (λ (t : Row). t.slot) (sym read)
 
@@ -94,6 +98,7 @@ module _ (come : Option (Bor Row)) (at : ℕ) (gone : Option ℕ) (rows : List R
             (last p).1 (inl ((came p).1 (inr (r.number, number, (lt, map_read (λ (t : Row). t.number) (joined_rows come at (left_rows gone rows)) p r 0 lt some.2)))))
       ]
 
+-- the places of the labels found in a band, with that of the one to come, have all that a search in the band finds
 pub near_found : (come : Option (Bor Row)) (at : ℕ) (gone : Option ℕ) (rows : List Row) (a : Label) (k : ℕ) (numbers before middle after : List ℕ) →
     IfSome gone (λ g. g < length rows) → IfSome come (λ row. at ≤ length (left_rows gone rows)) →
     Gathers (IsNumberWith (λ r. IsFoundIn a r.label k) rows) [] numbers → PlacesCame (joined_rows come at (left_rows gone rows)) numbers before middle → Gathers (λ p. IsSome come × (p ≡ at)) middle after →
@@ -108,6 +113,7 @@ near_found come at gone rows a k numbers before middle after in' le found came l
           (λ r read. subst (λ (b : Label). IsFoundIn a b k) (label_read all p r r.label h.0 read) (h.1 r.label));
     }
 
+-- so they have all labels that the label overlaps in one band and that last until a scale
 pub overlapping_found : (come : Option (Bor Row)) (at : ℕ) (gone : Option ℕ) (rows : List Row) (a : Label) (k : ℕ) (scale : Ratio) (numbers middle after : List ℕ) →
     IfSome gone (λ g. g < length rows) → IfSome come (λ row. at ≤ length (left_rows gone rows)) →
     AreOverlapping rows a k scale numbers → PlacesCame (joined_rows come at (left_rows gone rows)) numbers [] middle → Gathers (λ p. IsSome come × (p ≡ at)) middle after →
@@ -128,6 +134,7 @@ overlapping_found come at gone rows a k scale numbers middle after in' le found 
           ));
     }
 
+-- so they have all labels that the label overlaps in any of several bands
 pub across_found : (come : Option (Bor Row)) (at : ℕ) (gone : Option ℕ) (rows : List Row) (a : Label) (k m : ℕ) (numbers before middle after : List ℕ) →
     IfSome gone (λ g. g < length rows) → IfSome come (λ row. at ≤ length (left_rows gone rows)) →
     AreAcross rows a k m numbers → PlacesCame (joined_rows come at (left_rows gone rows)) numbers before middle → Gathers (λ p. IsSome come × (p ≡ at)) middle after →
@@ -195,6 +202,7 @@ ends_from come at gone rows first in' le ends come_ends p k lt last =
 
 -- ---- places of numbers, a number at a time
 
+-- the places of one more number came in
 pub places_more : (rows : List Row) (numbers before places next : List ℕ) (k : ℕ) → k < length numbers → PlacesCame rows (take k numbers) before places → Gathers (IsRowAt rows (get_or numbers k 0)) places next → PlacesCame rows (take (k + 1) numbers) before next
 places_more rows numbers before places next k lt so_far one p =
     let n : ℕ = get_or numbers k 0 in
@@ -215,6 +223,7 @@ places_more rows numbers before places next k lt so_far one p =
       ],
     )
 
+-- once the last number is gone through, the places of all numbers came in
 pub places_all : (rows : List Row) (numbers before places : List ℕ) (k : ℕ) → length numbers ≤ k → PlacesCame rows (take k numbers) before places → PlacesCame rows numbers before places
 places_all rows numbers before places k le so_far = rw (take_all k numbers le) at so_far
 
@@ -233,6 +242,7 @@ left_low (Some g) rows in' all =
     let n : ℕ = get_or (numbers_in rows) g 0 in
     rw (map_remove (λ (r : Row). r.number) rows g) (All-tail (λ n. n < 32768) n (remove (numbers_in rows) g) (All-permutation (λ n. n < 32768) (numbers_in rows) (n ∷ remove (numbers_in rows) g) (IsPermutation-remove (numbers_in rows) g n (omega arith) (get_or_default (numbers_in rows) g 0 n (omega arith))) all))
 
+-- the rows that are left are not too many, and each has a low number of its own
 pub numbered_left : (gone : Option ℕ) (rows : List Row) → IfSome gone (λ g. g < length rows) → length rows ≤ 32768 → HaveOwnNumbers rows → All (λ n. n < 32768) (numbers_in rows) → AreNumbered (left_rows gone rows)
 numbered_left gone rows in' few differ all = record {
   few = (let n = left_most gone rows in' in omega arith);
@@ -240,6 +250,7 @@ numbered_left gone rows in' few differ all = record {
   low = left_low gone rows in' all;
 }
 
+-- the same of these rows and one that comes, if there is room for it, its number is low and none of them has it
 pub numbered_with : (gone : Option ℕ) (rows : List Row) (row : Row) (at : ℕ) → IfSome gone (λ g. g < length rows) → at ≤ length (left_rows gone rows) → length (left_rows gone rows) < 32768 → IsFresh row.number (left_rows gone rows) → row.number < 32768 →
     HaveOwnNumbers rows → All (λ n. n < 32768) (numbers_in rows) → AreNumbered (insert (left_rows gone rows) at row)
 numbered_with gone rows row at in' le few fresh low differ all = record {

@@ -39,6 +39,7 @@ pub record Noted (rows : List Row) (moved : List Moved) (k : ℕ) (out : List Ch
   pub whole : (r : Row) → Contains rows r → (j : ℕ) → j < k → get_or (numbers_of moved) j 0 ≡ r.number → r.slot.until ≢ (slot_for r.number r.slot moved).until → Contains out (stay_change r (slot_for r.number r.slot moved))
   pub own : HaveOwnIds out
 
+-- before the first move no change is noted
 pub noted_none : (rows : List Row) (moved : List Moved) → Noted rows moved 0 []
 noted_none rows moved = record {
   sound = λ c h. absurd (let lt : h.0 < 0 = h.1 in omega arith);
@@ -72,6 +73,7 @@ module _ (rows : List Row) (moved : List Moved) (k : ℕ) (out : List Change) (n
     same_row : (s : Row) → Contains rows s → (j : ℕ) → j ≡ k → get_or (numbers_of moved) j 0 ≡ s.number → s ≡ r
     same_row s in_s j e f = one_number rows s r in_s there differ (sym f ∙ ap (λ i. get_or (numbers_of moved) i 0) e ∙ number_k)
 
+    -- some row has the number: its change was pushed if its end differs, so one more move is noted
     pub noted_more : Noted rows moved (k + 1) after
     noted_more =
         elim pushed [

@@ -27,6 +27,7 @@ use Rattle.ml_repair.proofs.Sizes.{size_once, size_same}
 
 -- ---- lists in strict order of their ids
 
+-- the changes are in byte order of their ids, each id once
 abbrev pub Rise : List Change → Type 0
 Rise changes = IsStrictlySortedBy (slice_cmp nat_cmp) (map (λ (c : Change). c.id) changes)
 
@@ -51,6 +52,7 @@ not_both x y a b =
     let tie = tied_itself nat_list_cmp_total x.id in
     cc
 
+-- changes in order of their ids are one list where they have the same members
 pub same_list : (xs ys : List Change) → Rise xs → Rise ys → ((c : Change) → Contains xs c → Contains ys c) → ((c : Change) → Contains ys c → Contains xs c) → xs ≡ ys
 same_list [] [] p q to from = refl
 same_list [] (y ∷ ys) p q to from = absurd (let h = from y (0, omega arith, refl) in let lt : h.0 < 0 = h.1 in omega arith)
@@ -75,6 +77,7 @@ same_list (x ∷ xs) (y ∷ ys) p q to from =
     ]) in
     ap (λ (c : Change). c ∷ xs) e ∙ ap (λ (cs : List Change). y ∷ cs) rest
 
+-- an edit has one list of changes
 pub one_changes : (labels : List Label) (slots : List Slot) (new_labels : List Label) (new_slots : List Slot) (changes others : List Change) → AreChanges labels slots new_labels new_slots changes → AreChanges labels slots new_labels new_slots others → changes ≡ others
 one_changes labels slots new_labels new_slots changes others a b =
     same_list changes others a.ascending b.ascending
@@ -87,6 +90,7 @@ one_changes labels slots new_labels new_slots changes others a b =
 above : (k at : ℕ) → at < k → (m : ℕ) × (k ≡ m + 1) × (at ≤ m)
 above k at h = (k - 1, omega arith, omega arith)
 
+-- the law: two longest choices of the same labels have the same end at each label
 abbrev pub OneLongest : Type 0
 OneLongest = (labels : List Label) (one other : Choice) → IsLongest labels one → IsLongest labels other → (i : ℕ) → i < length labels → IsSame (one i) (other i)
 
@@ -140,6 +144,7 @@ module _ (law : OneLongest) (labels : List Label) (at : ℕ) (is_place : at < le
         ],
       )
 
+  -- as a label comes or goes, one number of labels is touched, whichever longest choices tell it
   pub touched_once : (comes : Bool) (n m : ℕ) → AreTouched labels at comes n → AreTouched labels at comes m → n ≡ m
   touched_once comes n m s t =
       size_once (IsTouched labels at comes t.before t.after) n m
@@ -162,6 +167,7 @@ touched_by_once law labels id comes n m up (inl a) (inr b) = absurd (b.0 a.0 a.1
 touched_by_once law labels id comes n m up (inr a) (inl b) = absurd (a.0 b.0 b.1)
 touched_by_once law labels id comes n m up (inr a) (inr b) = a.1 ∙ sym b.1
 
+-- an edit has one cost
 pub one_cost : OneLongest → (before after : List Label) (id : List ℕ) (n m : ℕ) → IsLabelList before → IsLabelList after → IsCost before after id n → IsCost before after id m → n ≡ m
 one_cost law before after id n m up down a b =
     let p = touched_by_once law before id false a.gone b.gone up a.touched_gone b.touched_gone in

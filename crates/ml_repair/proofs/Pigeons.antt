@@ -13,6 +13,7 @@ different_tail x xs differ i j d less lt = differ (suc i) (suc j) d (omega arith
 head_apart : (x y : ℕ) (xs : List ℕ) → AreDifferent (x ∷ xs) → Contains xs y → x ≢ y
 head_apart x y xs differ there e = differ 0 (suc there.0) y (omega arith) (let h : there.0 < length xs = there.1 in omega arith) (e ∙ sym there.2)
 
+-- different numbers that all are in another list are at most as many as that list has
 pub no_more : (xs ys : List ℕ) → AreDifferent xs → ((x : ℕ) → Contains xs x → Contains ys x) → length xs ≤ length ys
 no_more [] ys differ all = omega arith
 no_more (x ∷ xs) ys differ all =

@@ -20,6 +20,7 @@ use Rattle.ml_repair.proofs.Present.{length-labels}
 
 -- ---- the search
 
+-- where the label in the middle is before the order, so is each label up to it
 pub before_more : (labels : List Label) (order : Order) (middle : ℕ) → IsLabelList labels → middle < length labels → ((d : Label) → order_cmp (get_or labels middle d).order order ≡ Less) →
     (k : ℕ) (d : Label) → k < middle + 1 → order_cmp (get_or labels k d).order order ≡ Less
 before_more labels order middle up lt here k d in' =
@@ -28,6 +29,7 @@ before_more labels order middle up lt here k d in' =
       | inr more ↦ let e : k ≡ middle = omega arith in ap (λ i. order_cmp (get_or labels i d).order order) e ∙ here d
     ]
 
+-- where the label in the middle is not before the order, no label from it on is
 pub after_more : (labels : List Label) (order : Order) (middle : ℕ) → IsLabelList labels → middle < length labels → ((d : Label) → ¬ (order_cmp (get_or labels middle d).order order ≡ Less)) →
     (k : ℕ) (d : Label) → middle ≤ k → k < length labels → ¬ (order_cmp (get_or labels k d).order order ≡ Less)
 after_more labels order middle up lt here k d le in' less =
@@ -47,11 +49,13 @@ turned one Less e a b = refl
 turned one Equal e a b = absurd (b e)
 turned one Greater e a b = absurd (a e)
 
+-- an order that is not before another one, and has another id, comes after it
 pub order_after : (one other : Order) → ¬ (order_cmp one other ≡ Less) → one.id ≢ other.id → order_cmp other one ≡ Less
 order_after one other above apart = turned (order_cmp one other) (order_cmp other one) (order_total.antisymm one other) above (λ tie. apart (same_id one other tie))
 
 -- ---- one goes
 
+-- the labels stay in priority order with different ids as one goes
 pub list_remove : (labels : List Label) (at : ℕ) → at < length labels → IsLabelList labels → IsLabelList (remove labels at)
 list_remove labels at lt up j i d less in' =
     let n = length-remove labels at lt in
@@ -65,6 +69,7 @@ list_remove labels at lt up j i d less in' =
 
 -- ---- one comes
 
+-- the labels stay in priority order with different ids as one with a new id comes in at its place
 pub list_insert : (labels : List Label) (at : ℕ) (a : Label) → IsPlaceFor labels a.order at → ¬ (HasId labels a.order.id) → IsLabelList labels → IsLabelList (insert labels at a)
 list_insert labels at a place new up j i d less in' =
     let le = place.within in
@@ -103,6 +108,7 @@ list_insert labels at a place new up j i d less in' =
 
 -- ---- the plan's way to say the same
 
+-- the plan's list with a row more is the one into which the row comes at its place
 pub with_row_is : (rows : List Row) (row : Row) (at : ℕ) → IsPlaceFor (labels_in rows) row.label.order at → with_row row rows ≡ insert rows at row
 with_row_is [] row zero place = refl
 with_row_is [] row (suc at) place = absurd (let le = place.within in omega arith)
@@ -131,6 +137,7 @@ keep_all id (r ∷ rows) h =
     differ false e = sym e
     differ true e = absurd (h 0 r (omega arith) ((bytes_eq-Decides r.label.order.id id).0 (sym e)))
 
+-- the plan's list without an id is the one from which the only row with that id is removed
 pub without_is : (id : List ℕ) (rows : List Row) (at : ℕ) → at < length rows → ((d : Row) → (get_or rows at d).label.order.id ≡ id) → ((k : ℕ) (d : Row) → k < length rows → k ≢ at → (get_or rows k d).label.order.id ≢ id) →
     without_id id rows ≡ remove rows at
 without_is id [] at lt here others = absurd (omega arith)

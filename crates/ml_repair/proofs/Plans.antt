@@ -49,6 +49,7 @@ planned_is plan rows = refl
 module _ (rows left all : List Row) (moved : List Moved) (id : List ℕ) (come : Option Row) (are : AreLeft rows left id) (joined : AreJoinedBy left all id come) (edit : LabelEdit) (changes : List Change) (n : ℕ)
     (settled : IsSettled rows) (numbered_all : AreNumbered all) (up_all : IsLabelList (labels_in all)) (slots : AreSettled all moved)
     (made : rows_with edit (moved_rows moved (kept_rows edit rows)) ≡ moved_rows moved all) (last : List Moved) (lasting : IsLastOf last moved (kept_rows edit rows)) where
+  -- the plan, with the lasting new slots alone, makes the same rows as the edit with all new slots
   pub planned : planned_rows (record { edit = edit; moved = last; changes = changes; evaluated = n }) rows ≡ moved_rows moved all
   planned = planned_is (record { edit = edit; moved = last; changes = changes; evaluated = n }) rows ∙ ap (rows_with edit) lasting.same ∙ made
 
@@ -62,6 +63,7 @@ module _ (rows left all : List Row) (moved : List Moved) (id : List ℕ) (come :
         | inr comes ↦ own r t.0 comes there (its ∙ (joined.here t.0 comes).1) ∙ number
       ]
 
+  -- the edit with its lasting new slots, its changes and its cost is the plan for these rows
   pub made_plan : (was is : Option Ranged) (own : List ℕ) (label : Option Label) (steps after : ℕ) → CanBeMade edit rows → edited_id edit ≡ id → ((r s : Row) → come ≡ Some s → Contains rows r → r.label.order.id ≡ id → r.number ≡ s.number) →
       IsStateOf (labels_in rows) (slots_in rows) id was → IsStateOf (labels_in (moved_rows moved all)) (slots_in (moved_rows moved all)) id is →
       IsStrictlySortedBy (slice_cmp nat_cmp) (map (λ change. change.id) changes) → ((c : Change) → Contains changes c ↔ (IsStayChange left moved c ⊎ ((c ≡ edited_change id was is) × (was ≢ is)))) →
@@ -94,15 +96,18 @@ module _ (rows left all : List Row) (moved : List Moved) (id : List ℕ) (come :
 
 -- ---- states of the edited label
 
+-- the label of a row is the one that has its id, with its active range
 pub state_there : (rows : List Row) (r : Row) (id : List ℕ) → Contains rows r → r.label.order.id ≡ id → IsStateOf (labels_in rows) (slots_in rows) id (Some (ranged r))
 state_there rows r id there is = subst (λ (i : List ℕ). IsStateOf (labels_in rows) (slots_in rows) i (Some (ranged r))) is (standing rows r there)
 
+-- among the labels that are left none has the id of the one that went
 pub state_gone : (rows left : List Row) (moved : List Moved) (id : List ℕ) → AreLeft rows left id → IsStateOf (labels_in (moved_rows moved left)) (slots_in (moved_rows moved left)) id None
 state_gone rows left moved id are =
     is_absent (moved_rows moved left) id (λ r there e.
     let s = map_contains (moved_row moved) left r there in
     (are.stayed s.0 s.1).1 (ap (λ (t : Row). t.label.order.id) s.2 ∙ e))
 
+-- before a label with a new id comes, none has the id
 pub state_new : (rows : List Row) (id : List ℕ) → ¬ (HasId (labels_in rows) id) → IsStateOf (labels_in rows) (slots_in rows) id None
 state_new rows id new = is_absent rows id (λ r there e. ((left_all rows id new).stayed r there).1 e)
 
@@ -118,9 +123,11 @@ state_come left at row moved kept =
 
 -- ---- the change of the edited label
 
+-- where the label with the id differs before and after, the change that is given is the one change of it
 pub some_edited : (edited : Change) (id : List ℕ) (was is : Option Ranged) → edited ≡ edited_change id was is → was ≢ is → (c : Change) → (Some edited ≡ Some c) ↔ ((c ≡ edited_change id was is) × (was ≢ is))
 some_edited edited id was is same differ c = (λ e. (let f : edited ≡ c = cc in sym f ∙ same, differ), λ h. ap (λ (x : Change). Some x) (same ∙ sym h.0))
 
+-- where a row comes in place of another, the change between them is that of the edited label; if they agree there is none
 pub between_edited : (old new : Row) (id : List ℕ) (edited : Option Change) → new.label.order.id ≡ id → IsChangeBetween old new edited →
     (c : Change) → (edited ≡ Some c) ↔ ((c ≡ edited_change id (Some (ranged old)) (Some (ranged new))) × (Some (ranged old) ≢ Some (ranged new)))
 between_edited old new id None is h c = (
@@ -139,6 +146,7 @@ both_same left moved changes edited E are is c =
 
 -- ---- costs
 
+-- where a label goes, the cost is the number of labels that are touched as it goes
 pub cost_out : (rows : List Row) (at : ℕ) (id : List ℕ) (n : ℕ) → at < length rows → ((d : Row) → (get_or rows at d).label.order.id ≡ id) → ¬ (HasId (labels_in (remove rows at)) id) → AreTouched (labels_in rows) at false n → IsCost (labels_in rows) (labels_in (remove rows at)) id n
 cost_out rows at id n lt here none touched = record {
   gone = n;
@@ -151,6 +159,7 @@ cost_out rows at id n lt here none touched = record {
 come_in : (rows : List Row) (at : ℕ) (row : Row) → at ≤ length rows → at < length (insert rows at row)
 come_in rows at row le = let n = length-insert rows at row le in omega arith
 
+-- where a label comes, the cost is the number of labels that are touched as it comes
 pub cost_in : (rows : List Row) (at : ℕ) (row : Row) (n : ℕ) → at ≤ length rows → ¬ (HasId (labels_in rows) row.label.order.id) → AreTouched (labels_in (insert rows at row)) at true n → IsCost (labels_in rows) (labels_in (insert rows at row)) row.label.order.id n
 cost_in rows at row n le new touched = record {
   gone = 0;
@@ -160,6 +169,7 @@ cost_in rows at row n le new touched = record {
   both = omega arith;
 }
 
+-- where a label comes in place of another, the cost is the sum of what is touched as the one goes and the other comes
 pub cost_both : (rows : List Row) (at : ℕ) (to : ℕ) (row : Row) (n m : ℕ) → at < length rows → ((d : Row) → (get_or rows at d).label.order.id ≡ row.label.order.id) → to ≤ length (remove rows at) →
     AreTouched (labels_in rows) at false n → AreTouched (labels_in (insert (remove rows at) to row)) to true m → IsCost (labels_in rows) (labels_in (insert (remove rows at) to row)) row.label.order.id (n + m)
 cost_both rows at to row n m lt here le gone come = record {
@@ -170,11 +180,13 @@ cost_both rows at to row n m lt here le gone come = record {
   both = refl;
 }
 
+-- a span from a label's minimum to the end of its slot is the row's active range
 pub span_same : (r : Row) (s : Span) → s.min ≡ r.label.min → s.until ≡ r.slot.until → s ≡ (ranged r).span
 span_same r s e f = λ i. record { min = e i; until = f i }
 
 -- ---- the start
 
+-- as long as there are no new slots, the present slots of settled rows are the longest choice
 pub start_settled : (rows : List Row) (moved : List Moved) → moved ≡ [] → IsSettled rows → AreSettled rows moved
 start_settled rows moved none settled = rw (none, moved_none rows) settled.slots
 
@@ -195,6 +207,7 @@ module _ (rows : List Row) (at : ℕ) (row : Row) (boxed : Box Row Global) (move
   made_in : rows_with (Add boxed) (moved_rows moved (kept_rows (Add boxed) rows)) ≡ moved_rows moved (insert rows at row)
   made_in = ap (λ (r : Row). with_row r (moved_rows moved rows)) is_row ∙ come_is rows at row moved place kept
 
+  -- the new slots and changes found for a label that comes, with the number of labels touched, are the plan that adds it
   pub in_plan : (last : List Moved) → IsLastOf last moved rows → (edited : Change) (label : Label) (steps after : ℕ) → edited ≡ edited_change row.label.order.id None (Some (ranged row)) → IsStrictlySortedBy (slice_cmp nat_cmp) (map (λ change. change.id) changes) →
       ((c : Change) → Contains changes c ↔ (IsStayChange rows moved c ⊎ (Some edited ≡ Some c))) → AreTouched (labels_in (insert rows at row)) at true n → row.label ≡ label → after ≡ steps + n →
       IsPlanFor (record { edit = Add boxed; moved = last; changes = changes; evaluated = n }) rows label.order.id (Some label) steps after
@@ -214,6 +227,7 @@ module _ (rows : List Row) (at : ℕ) (id : List ℕ) (moved : List Moved) (chan
   numbered_out : AreNumbered (remove rows at)
   numbered_out = numbered_left (Some at) rows lt settled.few settled.own_numbers (low_of_rows rows settled.low_numbers)
 
+  -- without the label that goes the labels are in priority order, with different ids
   pub up_out : IsLabelList (labels_in (remove rows at))
   up_out = rw (map_remove (λ (r : Row). r.label) rows at) (list_remove (labels_in rows) at (let many = length-labels rows in omega arith) settled.in_order)
 
@@ -226,6 +240,7 @@ module _ (rows : List Row) (at : ℕ) (id : List ℕ) (moved : List Moved) (chan
   are_out : AreLeft rows (remove rows at) id
   are_out = left_remove rows at id settled.in_order lt here
 
+  -- the new slots and changes found for a label that goes, with the number of labels touched, are the plan that removes it
   pub out_plan : (last : List Moved) → IsLastOf last moved (remove rows at) → (r : Row) (edited : Change) (own : List ℕ) (steps after : ℕ) → Contains rows r → r.label.order.id ≡ id → edited ≡ edited_change id (Some (ranged r)) None → IsStrictlySortedBy (slice_cmp nat_cmp) (map (λ change. change.id) changes) →
       ((c : Change) → Contains changes c ↔ (IsStayChange (remove rows at) moved c ⊎ (Some edited ≡ Some c))) → AreTouched (labels_in rows) at false n → id ≡ own → after ≡ steps + n →
       IsPlanFor (record { edit = Remove id; moved = last; changes = changes; evaluated = n }) rows own None steps after
@@ -277,6 +292,7 @@ module _ (rows : List Row) (at to : ℕ) (row : Row) (boxed : Box Row Global) (m
       let one : r ≡ get_or rows at r = one_id rows r (get_or rows at r) there (Contains-get_or rows at r lt) settled.in_order (id ∙ sym (here r)) in
       ap (λ (t : Row). t.number) one ∙ number r ∙ ap (λ (t : Row). t.number) same
 
+  -- the new slots and changes found where a label takes another's place, with the number of labels touched, are the plan for that
   pub instead_plan : (last : List Moved) → IsLastOf last moved (remove rows at) → (r : Row) (edited : Option Change) (label : Label) (steps after : ℕ) → Contains rows r → r.label.order.id ≡ row.label.order.id → ((d : Row) → (get_or rows at d).number ≡ row.number) → IsChangeBetween r row edited →
       IsStrictlySortedBy (slice_cmp nat_cmp) (map (λ change. change.id) changes) → ((c : Change) → Contains changes c ↔ (IsStayChange (remove rows at) moved c ⊎ (edited ≡ Some c))) →
       AreTouched (labels_in rows) at false n → AreTouched (labels_in (insert (remove rows at) to row)) to true m → row.label ≡ label → after ≡ steps + (n + m) →
@@ -291,17 +307,21 @@ module _ (rows : List Row) (at to : ℕ) (row : Row) (boxed : Box Row Global) (m
 
 -- ---- the label that goes
 
+-- settled rows have labels in priority order, also without the one at a place
 pub up_removed : (rows : List Row) (at : ℕ) → IsSettled rows → at < length rows → IsLabelList (labels_in (remove rows at))
 up_removed rows at settled lt = rw (map_remove (λ (r : Row). r.label) rows at) (list_remove (labels_in rows) at (let many = length-labels rows in omega arith) settled.in_order)
 
+-- once a row is removed, its number is free
 pub number_gone : (rows : List Row) (at : ℕ) (r : Row) → IsSettled rows → at < length rows → r ≡ get_or rows at r → IsFresh r.number (remove rows at)
 number_gone rows at r settled lt read there =
     let many = length-map rows (λ (t : Row). t.number) in
     removed_gone (numbers_in rows) at 0 (omega arith) settled.own_numbers (rw (map_read (λ (t : Row). t.number) rows at r 0 lt read, ← map_remove (λ (t : Row). t.number) rows at) there)
 
+-- each settled row has a number below 32,768
 pub number_low : (rows : List Row) (at : ℕ) (r : Row) → IsSettled rows → at < length rows → r ≡ get_or rows at r → r.number < 32768
 number_low rows at r settled lt read = low_number rows at r (low_of_rows rows settled.low_numbers) lt read
 
+-- where no label has the id of the row that comes, none has the id of the change between it and the old row
 pub between_own : (old new : Row) (edited : Option Change) (labels : List Label) → IsChangeBetween old new edited → ¬ (HasId labels new.label.order.id) → IfSome edited (λ c. ¬ (HasId labels c.id))
 between_own old new None labels h none = tt
 between_own old new (Some c) labels h none = rw h.1 none

@@ -16,9 +16,11 @@ use Rattle.ml_repair.proofs.NearRosters.{row_there}
 use Rattle.ml_ratio.proofs.lemmas.Lists.{same_place, map_read}
 use Rattle.std.proofs.lemmas.Simd.{map-map}
 
+-- there is one present slot for each row
 pub length-present : (rows : List Row) (moved : List Moved) → length (present_slots rows moved) ≡ length rows
 length-present rows moved = length-map (moved_rows moved rows) (λ (r : Row). r.slot) ∙ length-map rows (moved_row moved)
 
+-- there is one label for each row
 pub length-labels : (rows : List Row) → length (labels_in rows) ≡ length rows
 length-labels rows = length-map rows (λ (r : Row). r.label)
 
@@ -29,9 +31,11 @@ present_read rows moved p r lt read =
     get_or-map (λ (t : Row). t.slot) (moved_rows moved rows) p (moved_row moved r) no_slot (omega arith)
     ∙ ap (λ (t : Row). t.slot) (get_or-map (moved_row moved) rows p r (moved_row moved r) lt ∙ ap (moved_row moved) (sym read))
 
+-- rows keep their labels as they get new slots
 pub labels-moved : (rows : List Row) (moved : List Moved) → labels_in (moved_rows moved rows) ≡ labels_in rows
 labels-moved rows moved = map-map (λ (t : Row). t.label) (moved_row moved) rows
 
+-- rows keep their numbers as they get new slots
 pub numbers-moved : (rows : List Row) (moved : List Moved) → numbers_in (moved_rows moved rows) ≡ numbers_in rows
 numbers-moved rows moved = map-map (λ (t : Row). t.number) (moved_row moved) rows
 

@@ -15,6 +15,7 @@ use Rattle.ml_repair.proofs.Sizes.{size_none, size_same, size_more}
 use Rattle.ml_repair.proofs.Unhit.{IsHitBelow, own_unhit}
 use Rattle.ml_repair.proofs.Repairing.{IsTaken, Repairing, IsHitBy, own_before, repairing_more}
 
+-- how many labels are evaluated before a repair goes on to later ones: the edited label, if it comes
 abbrev pub first_count : Bool → ℕ
 first_count true = 1
 first_count false = 0
@@ -153,12 +154,14 @@ module _ (free_law : FreeLaw) (smaller_law : SmallerLaw) (carried_law : CarriedL
 
   -- ---- nothing waits any more
 
+  -- each label that is there after the edit has the slot that those before it leave
   pub repaired_own : (slots : List Slot) (waits : ℕ → Type 0) (n : ℕ) → Repairing number labels old at comes (length labels) slots waits n → AreOwn number labels slots at comes true
   repaired_own slots waits n done = record {
     one_slot = done.one_slot;
     own = λ d k k_in there. done.own d k k_in k_in there;
   }
 
+  -- as many labels were evaluated as the edit touches
   pub repaired_size : (slots : List Slot) (waits : ℕ → Type 0) (n : ℕ) → Repairing number labels old at comes (length labels) slots waits n → IsSize (IsTouched labels at comes (ends old) (ends slots)) n
   repaired_size slots waits n done =
       size_same (IsTaken labels at comes (ends old) (ends slots) (length labels)) (IsTouched labels at comes (ends old) (ends slots)) n

@@ -16,12 +16,14 @@ fresh_left numbers g n lt fresh there = fresh (remove_has numbers g (get_or numb
 length-numbers : (rows : List Row) → length (numbers_in rows) ≡ length rows
 length-numbers rows = length-map rows (λ (r : Row). r.number)
 
+-- a number that no row has is that of no row that is left
 pub left_fresh : (gone : Option ℕ) (rows : List Row) (n : ℕ) → IfSome gone (λ g. g < length rows) → IsFresh n rows → IsFresh n (left_rows gone rows)
 left_fresh None rows n in' fresh there = fresh there
 left_fresh (Some g) rows n in' fresh there =
     let many = length-numbers rows in
     fresh_left (numbers_in rows) g n (omega arith) fresh (rw (← map_remove (λ (r : Row). r.number) rows g) there)
 
+-- the place of a number among the rows that are left follows from its place among all; it has none if its row goes
 pub left_found : (gone : Option ℕ) (rows : List Row) (n at : ℕ) (found : Option ℕ) → IfSome gone (λ g. g < length rows) → HaveOwnNumbers rows → IsRowAt rows n at →
     MatchOption found (gone ≡ Some at) (IsPlaceWithout gone at) → MatchOption found (IsFresh n (left_rows gone rows)) (IsRowAt (left_rows gone rows) n)
 left_found None rows n at None in' differ here h = absurd cc
@@ -48,6 +50,7 @@ left_found (Some g) rows n at (Some p) in' differ here h =
 
 -- ---- one that is to come
 
+-- the place of a number that is not the coming row's follows from its place in the list without that row
 pub joined_found : (row : Row) (at : ℕ) (rows : List Row) (n : ℕ) (place found : Option ℕ) → at ≤ length rows → row.number ≢ n → MatchOption place (IsFresh n rows) (IsRowAt rows n) →
     MatchOption found (place ≡ None) (λ q. (p : ℕ) × (place ≡ Some p) × IsPlaceWithout (Some at) q p) → MatchOption found (IsFresh n (insert rows at row)) (IsRowAt (insert rows at row) n)
 joined_found row at rows n None None le apart was h = λ there.
@@ -74,6 +77,7 @@ joined_found row at rows n (Some p) (Some q) le apart was h =
           (omega arith, ap (λ ns. get_or ns q 0) numbers ∙ ap (λ i. get_or (insert (numbers_in rows) at row.number) i 0) f ∙ get_or-insert_above (numbers_in rows) at row.number 0 p g (omega arith) ∙ was.1)
     ]
 
+-- the row that comes stands at its place, with its number
 pub joined_here : (row : Row) (at : ℕ) (rows : List Row) → at ≤ length rows → IsRowAt (insert rows at row) row.number at
 joined_here row at rows le =
     let many = length-numbers rows in
@@ -84,17 +88,21 @@ joined_here row at rows le =
 pub joined_row_is : (row : Row) (at : ℕ) (rows : List Row) (r d : Row) (place : ℕ) → at ≤ length rows → place ≡ at → get_or (insert rows at row) place d ≡ row
 joined_row_is row at rows r d place le e = ap (λ i. get_or (insert rows at row) i d) e ∙ get_or-insert_at rows at row d le
 
+-- a row behind the one that came stood one place earlier without it
 pub joined_above : (row : Row) (at : ℕ) (rows : List Row) (d : Row) (place : ℕ) → at ≤ length rows → at < place → get_or (insert rows at row) place d ≡ get_or rows (place - 1) d
 joined_above row at rows d place le lt =
     let e : place ≡ place - 1 + 1 = omega arith in
     ap (λ i. get_or (insert rows at row) i d) e ∙ get_or-insert_above rows at row d (place - 1) (omega arith) le
 
+-- at and behind the place of the row that went, each row stood one place later before
 pub left_above : (gone : Option ℕ) (g : ℕ) (rows : List Row) (at : ℕ) (d : Row) → gone ≡ Some g → g < length rows → g ≤ at → get_or (left_rows gone rows) at d ≡ get_or rows (at + 1) d
 left_above out g rows at d is in' le = rw is (get_or-remove_above rows g d at le in')
 
+-- where a row goes, one row less is left
 pub left_length : (gone : Option ℕ) (g : ℕ) (rows : List Row) → gone ≡ Some g → g < length rows → length (left_rows gone rows) + 1 ≡ length rows
 left_length out g rows is in' = rw is (length-remove rows g in')
 
+-- no more rows are left than there were
 pub left_most : (gone : Option ℕ) (rows : List Row) → IfSome gone (λ g. g < length rows) → length (left_rows gone rows) ≤ length rows
 left_most None rows in' = omega arith
 left_most (Some g) rows in' = let n = length-remove rows g in' in omega arith

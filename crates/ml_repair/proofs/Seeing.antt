@@ -31,6 +31,7 @@ use Rattle.ml_ratio.proofs.lemmas.Lists.{contains_map, map_contains, same_place,
 
 -- ---- rows that are shown
 
+-- the row at a place is shown exactly where its label is active at the view's scale and lies in the view
 pub shown_is : (rows : List Row) (view : View) (p : ℕ) (r : Row) → p < length rows → r ≡ get_or rows p r → IsShownIn rows view p ↔ (ActiveUntil r.label (value_of r.slot.until) (value_of view.scale) × IsInView r.label view)
 shown_is rows view p r lt read =
     let many = length-labels rows in
@@ -40,6 +41,7 @@ shown_is rows view p r lt read =
       λ h. (omega arith, λ d. rw (label_read rows p r d lt read, end) h),
     )
 
+-- where the label with the number is shown, its place is what came in
 pub push_here : (rows : List Row) (view : View) (n p : ℕ) (r : Row) (before after : List ℕ) → HaveOwnNumbers rows → IsRowAt rows n p → r ≡ get_or rows p r → ActiveUntil r.label (value_of r.slot.until) (value_of view.scale) × IsInView r.label view → after ≡ before ++ p ∷ [] →
     (q : ℕ) → Contains after q ↔ (Contains before q ⊎ (IsRowAt rows n q × IsShownIn rows view q))
 push_here rows view n p r before after differ here read shown e q =
@@ -59,6 +61,7 @@ push_here rows view n p r before after differ here read shown e q =
       ],
     )
 
+-- where the label with the number is not shown, nothing has to come in
 pub push_hidden : (rows : List Row) (view : View) (n p : ℕ) (r : Row) (before : List ℕ) → HaveOwnNumbers rows → IsRowAt rows n p → r ≡ get_or rows p r → ¬ (ActiveUntil r.label (value_of r.slot.until) (value_of view.scale) × IsInView r.label view) →
     (q : ℕ) → Contains before q ↔ (Contains before q ⊎ (IsRowAt rows n q × IsShownIn rows view q))
 push_hidden rows view n p r before differ here read hidden q = (
@@ -74,6 +77,7 @@ push_hidden rows view n p r before differ here read hidden q = (
   ],
 )
 
+-- where no row has the number, nothing has to come in
 pub push_none : (rows : List Row) (view : View) (n : ℕ) (before : List ℕ) → ¬ (Contains (numbers_in rows) n) → (q : ℕ) → Contains before q ↔ (Contains before q ⊎ (IsRowAt rows n q × IsShownIn rows view q))
 push_none rows view n before fresh q = (
   λ h. inl h,
@@ -88,12 +92,15 @@ push_none rows view n before fresh q = (
 
 -- ---- one number after another
 
+-- the places are those of the labels with these numbers that the view shows
 abbrev pub ShownAmong : List Row → View → List ℕ → List ℕ → Type 0
 ShownAmong rows view numbers places = (p : ℕ) → Contains places p ↔ ((n : ℕ) × Contains numbers n × IsRowAt rows n p × IsShownIn rows view p)
 
+-- of no numbers no label is shown
 pub among_none : (rows : List Row) (view : View) → ShownAmong rows view [] []
 among_none rows view p = (λ h. absurd (let lt : h.0 < 0 = h.1 in omega arith), λ h. absurd (let lt : h.1.0 < 0 = h.1.1 in omega arith))
 
+-- one more number is gone through: the place of its label came in if that is shown
 pub among_more : (rows : List Row) (view : View) (numbers places next : List ℕ) (k : ℕ) → k < length numbers → ShownAmong rows view (take k numbers) places →
     ((q : ℕ) → Contains next q ↔ (Contains places q ⊎ (IsRowAt rows (get_or numbers k 0) q × IsShownIn rows view q))) → ShownAmong rows view (take (k + 1) numbers) next
 among_more rows view numbers places next k lt so_far one p =
@@ -114,6 +121,7 @@ among_more rows view numbers places next k lt so_far one p =
 module _ (rows : List Row) (view : View) (settled : IsSettled rows) (near places sorted : List ℕ)
     (all : (r : Row) → Contains rows r → ActiveUntil r.label (value_of r.slot.until) (value_of view.scale) → IsInView r.label view → Contains near r.number)
     (among : ShownAmong rows view near places) (up : IsStrictlyIncreasing sorted) (same : (p : ℕ) → Contains sorted p ↔ Contains places p) where
+  -- the sorted places are places of the list
   pub sorted_within : All (λ p. p < length rows) sorted
   sorted_within k d lt = let s = (among (get_or sorted k d)).0 ((same (get_or sorted k d)).0 (Contains-get_or sorted k d lt)) in s.2.0
 
@@ -129,6 +137,7 @@ module _ (rows : List Row) (view : View) (settled : IsSettled rows) (near places
       let h = (shown_is rows view p s.0 lt s.1).0 shown in
       (same p).1 ((among p).1 (s.0.number, all s.0 (p, lt, sym s.1) h.0 h.1, (lt, map_read (λ (t : Row). t.number) rows p s.0 0 lt s.1), shown))
 
+  -- the numbers at the sorted places are those of the labels that the view shows
   pub shown_numbers_are : (numbers : List ℕ) → numbers ≡ map (number_at rows) sorted → AreShownNumbers rows view numbers
   shown_numbers_are numbers e = record {
     places = sorted;
@@ -167,6 +176,7 @@ module _ (rows : List Row) (view : View) (settled : IsSettled rows) (near places
       let free = settled.slots.longest.free j i r.label less (omega arith) in
       (rw (a, b, la, lb) at free) (value_of view.scale) view.above one other over
 
+  -- no two labels with different ones of these numbers overlap at the view's scale
   pub shown_apart : (symmetric : (a b : Label) (f : Fraction) → Overlap a b f → Overlap b a f) (numbers : List ℕ) → numbers ≡ map (number_at rows) sorted → AreApart rows view numbers
   shown_apart symmetric numbers e a b in_a in_b at_a at_b apart over =
       let p = shown_row numbers e a in_a at_a in
@@ -187,6 +197,7 @@ turned_boxes : (a b : Label) (p q : BoxPx) (f : Fraction) → BoxesOverlap a p b
 unfolding BoxesOverlap
 turned_boxes a b p q f h = ((h.0.1, h.0.0), (h.1.1, h.1.0))
 
+-- labels that overlap do so the other way round
 pub overlap_turned : (a b : Label) (f : Fraction) → Overlap a b f → Overlap b a f
 unfolding Overlap
 overlap_turned a b f h = let o = h.4 in (o.0, o.1, o.2, o.3, (h.0, h.1, h.2, h.3, turned_boxes a b h.1 o.1 f o.4))
@@ -233,6 +244,7 @@ module _ (rows : List Row) (view : View) (numbers : List ℕ) (differ : HaveOwnN
         λ h. (omega arith, λ d. rw (label_read rows p r d lt read, end) h),
       )
 
+  -- as many labels are near the view as the search for them found numbers
   pub near_count : AreNear (labels_in rows) (slots_in rows) view (length numbers)
   near_count = record {
     places = map (place_in (numbers_in rows)) numbers;

@@ -28,6 +28,7 @@ use Rattle.ml_ratio.proofs.lemmas.Lists.{contains_map, map_contains, insert_has,
 
 -- ---- numbers of rows, and rows with numbers
 
+-- where all numbers in a list of rows are low, each row has a low number
 pub low_rows : (rows : List Row) → All (λ n. n < 32768) (numbers_in rows) → All (λ r. r.number < 32768) rows
 low_rows rows all k d lt =
     let many = length-map rows (λ (r : Row). r.number) in
@@ -35,6 +36,7 @@ low_rows rows all k d lt =
     let e : get_or (numbers_in rows) k 0 ≡ (get_or rows k d).number = get_or-map (λ (r : Row). r.number) rows k d 0 lt in
     omega arith
 
+-- where each row has a low number, all numbers in the list are low
 pub low_of_rows : (rows : List Row) → All (λ r. r.number < 32768) rows → All (λ n. n < 32768) (numbers_in rows)
 low_of_rows rows all k d lt =
     let many = length-map rows (λ (r : Row). r.number) in
@@ -44,11 +46,13 @@ low_of_rows rows all k d lt =
     let e : get_or (numbers_in rows) k d ≡ (get_or rows k s.0).number = get_or-map (λ (r : Row). r.number) rows k s.0 d in' in
     omega arith
 
+-- settled rows are not too many, and each has a low number of its own
 pub numbered : (rows : List Row) → IsSettled rows → AreNumbered rows
 numbered rows s = record { few = s.few; differ = s.own_numbers; low = low_of_rows rows s.low_numbers }
 
 -- ---- rows with their new slots are settled
 
+-- rows in priority order with numbers of their own are settled once they have the present slots of the longest choice
 pub settled_after : (rows : List Row) (moved : List Moved) → AreNumbered rows → IsLabelList (labels_in rows) → AreSettled rows moved → IsSettled (moved_rows moved rows)
 settled_after rows moved are up slots = record {
   few = (let n = length-map rows (moved_row moved) in let f = are.few in omega arith);
@@ -71,6 +75,7 @@ pub record AreJoinedBy (left all : List Row) (id : List ℕ) (come : Option Row)
   pub kept : (r : Row) → Contains left r → Contains all r
   pub here : (r : Row) → come ≡ Some r → Contains all r × (r.label.order.id ≡ id)
 
+-- where no label has the id, all rows are left
 pub left_all : (rows : List Row) (id : List ℕ) → ¬ (HasId (labels_in rows) id) → AreLeft rows rows id
 left_all rows id new = record {
   stays = λ r there apart. there;
@@ -81,6 +86,7 @@ module _ (rows : List Row) (at : ℕ) (id : List ℕ) (up : IsLabelList (labels_
   others : (k : ℕ) (d : Row) → k < length rows → k ≢ at → (get_or rows k d).label.order.id ≢ id
   others k d k_in ne = only_id rows id at k d up lt k_in (here d) ne
 
+  -- once the row with the id is removed, the rows that are left are all others
   pub left_remove : AreLeft rows (remove rows at) id
   left_remove =
       let s = row_there rows at lt in
@@ -102,6 +108,7 @@ module _ (rows : List Row) (at : ℕ) (id : List ℕ) (up : IsLabelList (labels_
             | inr high ↦ others (k + 1) r (omega arith) (λ f. omega arith) (ap (λ (t : Row). t.label.order.id) (sym (get_or-remove_above rows at r k high lt) ∙ there.2) ∙ e)
           ]
 
+  -- the rows without the id are those from which the row at its place is removed
   pub without_remove_is : without_id id rows ≡ remove rows at
   without_remove_is = without_is id rows at lt here others
 
@@ -111,9 +118,11 @@ module _ (rows : List Row) (at : ℕ) (id : List ℕ) (up : IsLabelList (labels_
       let s = map_contains (λ (t : Row). t.label) (remove rows at) has.0 has.1 in
       (left_remove.stayed s.0 s.1).1 (ap (λ (a : Label). a.order.id) s.2 ∙ has.2)
 
+-- where no row comes, there are just the rows that are left
 pub joined_none : (rows : List Row) (id : List ℕ) → AreJoinedBy rows rows id None
 joined_none rows id = record { only = λ r there. inl there; kept = λ r there. there; here = λ r e. absurd cc }
 
+-- where a row comes in at a place, there are the rows that are left, and that row
 pub joined_some : (left : List Row) (at : ℕ) (row : Row) → AreJoinedBy left (insert left at row) row.label.order.id (Some row)
 joined_some left at row =
     record {
@@ -124,10 +133,12 @@ joined_some left at row =
 
 -- ---- edits of rows
 
+-- the label of the row that comes, if one does
 abbrev pub label_of : Option Row → Option Label
 label_of come = option_map (λ r. r.label) come
 
 module _ (rows left all : List Row) (moved : List Moved) (id : List ℕ) (come : Option Row) (are : AreLeft rows left id) (joined : AreJoinedBy left all id come) where
+  -- the rows before, those that are left, and those after with their new slots belong to one edit
   pub edit_is : IsLabelList (labels_in rows) → IsLabelList (labels_in all) → IsEdit rows (moved_rows moved all) left moved id
   edit_is up_before up_after = record {
     up_before = up_before;
@@ -143,6 +154,7 @@ module _ (rows left all : List Row) (moved : List Moved) (id : List ℕ) (come :
         ];
   }
 
+  -- after the edit the labels are those before it but any with the id, and that of the row that comes
   pub edited_is : IsEdited id (label_of come) (labels_in rows) (labels_in (moved_rows moved all))
   edited_is label =
       rw (labels-moved all moved) (
@@ -176,12 +188,14 @@ come_is left at row moved place kept =
 
 -- ---- places of ids
 
+-- a place at which the row has the id is the place of that id
 pub place_of_id : (rows : List Row) (at : ℕ) (id : List ℕ) → at < length rows → ((d : Row) → (get_or rows at d).label.order.id ≡ id) → IsPlaceOf (labels_in rows) id at
 place_of_id rows at id lt here =
     let many = length-labels rows in
     let s = row_there rows at lt in
     (omega arith, λ d. ap (λ (a : Label). a.order.id) (label_read rows at s.0 d lt s.1 ∙ ap (λ (t : Row). t.label) s.1) ∙ here s.0)
 
+-- where no label has an id, the id has no place
 pub no_id : (labels : List Label) (id : List ℕ) → ¬ (HasId labels id) → IsNoId labels id
 no_id labels id none j place =
     none (go labels j place.0 place.1)

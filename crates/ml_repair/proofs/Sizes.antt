@@ -6,6 +6,7 @@ use Rattle.std.proofs.lemmas.List.Quantifiers.{all_pairs_push}
 use Rattle.ml_repair.specs.Size.{IsSize}
 use Rattle.ml_repair.proofs.Pigeons.{as_many}
 
+-- where no place has a property, 0 places have it
 pub size_none : (P : ℕ → Type 0) → ((k : ℕ) → ¬ (P k)) → IsSize P 0
 size_none P none = record {
   places = [];
@@ -14,6 +15,7 @@ size_none P none = record {
   many = refl;
 }
 
+-- where two properties hold of the same places, as many places have the one as the other
 pub size_same : (P Q : ℕ → Type 0) (n : ℕ) → ((k : ℕ) → P k ↔ Q k) → IsSize P n → IsSize Q n
 size_same P Q n same size = record {
   places = size.places;
@@ -22,6 +24,7 @@ size_same P Q n same size = record {
   many = size.many;
 }
 
+-- where a place that does not have a property joins those that do, there is one more of them
 pub size_more : (P : ℕ → Type 0) (x n : ℕ) → ¬ (P x) → IsSize P n → IsSize (λ k. P k ⊎ (k ≡ x)) (n + 1)
 size_more P x n new size = record {
   places = size.places ++ x ∷ [];

@@ -25,6 +25,7 @@ in_order labels up differ j i d below within =
     let above = sorted_far _ (ranks_by order_total (λ (label : Label). label.order)) labels up j i d (omega arith) within in
     (turn ∙ turned_less (order_cmp other one) above (λ tie. apart (same_id one other (turn ∙ tie))), apart)
 
+-- labels with different ids, sorted by a function that compares their orders, are in priority order
 pub sorted_labels : {F : Type 0} {g : Mut F (Bor Label × (Bor Label × Unit {0})) Ordering} {f : F} (labels ordered : List Label) → AllPairs (λ one other. one.order.id ≢ other.order.id) labels
     → IsPermutation labels ordered → IsSortedByClosure g f ordered
     → ((f : F) (a : Bor Label × (Bor Label × Unit {0})) (r : Ordering) (f' : F) → Called g f a r f' → r ≡ order_cmp a.0.now.order a.1.0.now.order) → IsLabelList ordered

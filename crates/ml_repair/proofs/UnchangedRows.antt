@@ -92,6 +92,7 @@ alike r q never = elim (same_or_not a_label.the_row.coded q.label r.label) [
   ]
 ]
 
+-- a row before the edit, if its id has no change, stands after it too, with the same label and end
 pub stays_after : (before after : List Row) (changes : List Change) (row : Row) → AreChanges (labels_in before) (slots_in before) (labels_in after) (slots_in after) changes → Contains before row → ¬ (IsChanged changes row.label.order.id) → StandsAmong after row
 stays_after before after changes row are there same = elim (find after row.label.order.id) [
   | inl other ↦ (
@@ -101,6 +102,7 @@ stays_after before after changes row are there same = elim (find after row.label
   | inr none ↦ absurd (not_different before after changes are row.label.order.id same (Some (ranged row)) None (standing before row there) (is_absent after row.label.order.id none) (none_is (ranged row)))
 ]
 
+-- a row after the edit, if its id has no change, stood before it too, with the same label and end
 pub stays_before : (before after : List Row) (changes : List Change) (row : Row) → AreChanges (labels_in before) (slots_in before) (labels_in after) (slots_in after) changes → Contains after row → ¬ (IsChanged changes row.label.order.id) → StandsAmong before row
 stays_before before after changes row are there same = elim (find before row.label.order.id) [
   | inl other ↦ (
@@ -116,11 +118,14 @@ told_by rows id (Some one) state =
     let s = standing_row rows id one state in
     (s.0, s.1, s.2, ap (λ (x : Ranged). x.span) s.3)
 
+-- a change tells of its id how it stood among the rows before the edit
 pub tells_before : (before after : List Row) (change : Change) → IsChange (labels_in before) (slots_in before) (labels_in after) (slots_in after) change → IsTold before change.id change.before
 tells_before before after change is = subst (IsTold before change.id) (sym is.span_before) (told_by before change.id is.was is.state_before)
 
+-- a change tells of its id how it stands among the rows after the edit
 pub tells_after : (before after : List Row) (change : Change) → IsChange (labels_in before) (slots_in before) (labels_in after) (slots_in after) change → IsTold after change.id change.after
 tells_after before after change is = subst (IsTold after change.id) (sym is.span_after) (told_by after change.id is.is is.state_after)
 
+-- two settled rows with one id are one row
 pub one_an_id : (rows : List Row) (one other : Row) → IsSettled rows → Contains rows one → Contains rows other → one.label.order.id ≡ other.label.order.id → one ≡ other
 one_an_id rows one other settled first second same = one_id rows one other first second settled.in_order same

@@ -28,12 +28,14 @@ pub record SuspectsBelow (rows : List Row) (a : Label) (first band : ℕ) (place
   pub within : (p : ℕ) → Contains places p → p < length rows
   pub whole : (p k : ℕ) → IsFoundAt rows a k p → first ≤ k → k < band → Contains places p
 
+-- before the first band is searched no place is due
 pub suspects_none : (rows : List Row) (a : Label) (first : ℕ) → SuspectsBelow rows a first first []
 suspects_none rows a first = record {
   within = λ p h. absurd (let lt : h.0 < 0 = h.1 in omega arith);
   whole = λ p k f from to. absurd (omega arith);
 }
 
+-- one more band is done, once the places came in that a search in it finds
 pub suspects_more : (rows : List Row) (a : Label) (first band : ℕ) (places more : List ℕ) → SuspectsBelow rows a first band places → AreFound rows a band places more → SuspectsBelow rows a first (band + 1) more
 suspects_more rows a first band places more so_far are = record {
   within = λ p h. elim (are.sound p h) [ inl old ↦ so_far.within p old | inr new ↦ new ];
@@ -43,6 +45,7 @@ suspects_more rows a first band places more so_far are = record {
   ];
 }
 
+-- the law: rivals are kept in one cell of the last band of one of them
 abbrev pub ShareLaw : Type 0
 ShareLaw = (a b : Label) → AreRivals a b → LastCell a b
 
@@ -88,12 +91,14 @@ pub record MeetingBelow (rows : List Row) (a : Label) (first band : ℕ) (places
   pub within : (p : ℕ) → Contains places p → p < length rows
   pub whole : (p k : ℕ) → OverlapsAt rows a k p → first ≤ k → k < band → Contains places p
 
+-- before the first band is searched no label that overlaps is due
 pub meeting_none : (rows : List Row) (a : Label) (first : ℕ) → MeetingBelow rows a first first []
 meeting_none rows a first = record {
   within = λ p h. absurd (let lt : h.0 < 0 = h.1 in omega arith);
   whole = λ p k f from to. absurd (omega arith);
 }
 
+-- some more bands are done, once the places of all labels came in that the label overlaps in them
 pub meeting_more : (rows : List Row) (a : Label) (first band next : ℕ) (places more : List ℕ) → MeetingBelow rows a first band places → AreMet rows a band next places more → MeetingBelow rows a first next more
 meeting_more rows a first band next places more so_far are = record {
   within = λ p h. elim (are.sound p h) [ inl old ↦ so_far.within p old | inr new ↦ new ];
@@ -103,6 +108,7 @@ meeting_more rows a first band next places more so_far are = record {
   ];
 }
 
+-- the law: rivals overlap in some band that meets both selectable ranges
 abbrev pub OverlapLaw : Type 0
 OverlapLaw = (a b : Label) → AreRivals a b → RivalBand a b
 
@@ -179,6 +185,7 @@ woken_all rows i k before after all woken m m_in =
       λ h. w.1 (elim h [ inl was ↦ inl was | inr r ↦ inr (omega arith, r) ]),
     )
 
+-- once all suspects are gone through, the later rivals of the label wait
 pub woken_suspects : (rows : List Row) (i : ℕ) (high : Label) (places : List ℕ) (before after : List Bool) → ((d : Label) → get_or (labels_in rows) i d ≡ high) → AreSuspects rows high places → IsWokenBy (labels_in rows) i (Contains places) before after → AreWoken rows i before after
 woken_suspects rows i high places before after is are woken m m_in =
     let labels = labels_in rows in
@@ -193,6 +200,7 @@ woken_suspects rows i high places before after is are woken m m_in =
 
 -- ---- the same places in another order
 
+-- places that are all below n are so in another order too
 pub same_within : (n : ℕ) (xs ys : List ℕ) → ((p : ℕ) → Contains ys p ↔ Contains xs p) → All (λ p. p < n) xs → All (λ p. p < n) ys
 same_within n xs ys same within k d lt =
     let p : ℕ = get_or ys k d in

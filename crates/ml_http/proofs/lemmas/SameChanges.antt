@@ -13,6 +13,7 @@ use Rattle.ml_repair.specs.Changes.{Ranged, IsStateOf, IsChange, AreChanges}
 abbrev pub SameEnds : List Label → List Slot → List Slot → Type 0
 SameEnds labels slots others = (p : ℕ) → p < length labels → (get_or slots p no_slot).until ≡ (get_or others p no_slot).until
 
+-- where some slots end as others do, the others end as they do
 pub turned : (labels : List Label) (slots others : List Slot) → SameEnds labels slots others → SameEnds labels others slots
 turned labels slots others same p within = sym (same p within)
 
@@ -38,6 +39,7 @@ change_moved labels slots others new_labels new_slots new_others same new_same c
   span_after = is.span_after;
 }
 
+-- changes between labels with their slots are those with other slots of the same ends
 pub changes_moved : (labels : List Label) (slots others : List Slot) (new_labels : List Label) (new_slots new_others : List Slot) → SameEnds labels slots others → SameEnds new_labels new_slots new_others →
     (changes : List Change) → AreChanges labels slots new_labels new_slots changes → AreChanges labels others new_labels new_others changes
 changes_moved labels slots others new_labels new_slots new_others same new_same changes are = record {
