@@ -12,6 +12,8 @@ mod StepLemmas
 mod Utf8Table
 mod PartialLemmas
 mod PutLemmas
+mod Ascending
+mod PlaceLemmas
 mod NumberLemmas
 mod Quiet
 mod LeapLemmas

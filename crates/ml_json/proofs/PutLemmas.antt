@@ -8,7 +8,7 @@ use Rattle.std.specs.Ordering.{nat_cmp, match_ordering}
 use Rattle.std.specs.Cmp.Lexicographic.{slice_cmp}
 use Rattle.ml_json.specs.Tree.{Tree, Pairs, no_pairs, pair, put}
 use Rattle.ml_json.specs.Lent.{lent_of, lent_pair_of, lent_pairs_view, lent_step, lent_pair_step}
-use Rattle.ml_json.specs.State.{entries_view}
+use Rattle.ml_json.specs.Sorted.{entries_view, onto}
 use Rattle.ml_json.specs.declared.lent.Lent.{Lent}
 use Rattle.ml_json.specs.declared.lent.LentPair.{LentPair, out-LentPair, roll-LentPair, fold_out-LentPair, fold-roll-LentPair}
 
@@ -25,21 +25,20 @@ pub entries_put : (es : List (List ℕ × Lent)) (k : List ℕ) (v : Lent) → e
 entries_put [] k v = refl
 entries_put ((l, w) ∷ es) k v = placed k v l w es (slice_cmp nat_cmp k l) refl (entries_put es k v)
 
+-- the key and tree of a pair by its fields
 pub pair_out : (p : LentPair) → lent_pair_of p ≡ ((out-LentPair p).key, lent_of (out-LentPair p).value)
 pair_out p = fold_out-LentPair Tree (List ℕ × Tree) lent_step lent_pair_step p
 
+-- the key and tree of a pair that is made of a key and a value
 pub pair_rolled : (k : List ℕ) (v : Lent) → lent_pair_of (roll-LentPair record { key = k; value = v }) ≡ (k, lent_of v)
 pair_rolled k v = fold-roll-LentPair Tree (List ℕ × Tree) lent_step lent_pair_step record { key = k; value = v }
 
--- the members of pairs in front of others
-abbrev pub onto : List LentPair → Pairs → Pairs
-onto [] r = r
-onto (p ∷ ps) r = pair (lent_pair_of p).0 (lent_pair_of p).1 (onto ps r)
-
+-- a pair more at the end
 pub onto_push : (xs : List LentPair) (x : LentPair) (r : Pairs) → onto (xs ++ x ∷ []) r ≡ onto xs (pair (lent_pair_of x).0 (lent_pair_of x).1 r)
 onto_push [] x r = refl
 onto_push (y ∷ xs) x r = ap (pair (lent_pair_of y).0 (lent_pair_of y).1) (onto_push xs x r)
 
+-- pairs in front of nothing
 pub onto_nothing : (xs : List LentPair) → onto xs no_pairs ≡ lent_pairs_view xs
 onto_nothing [] = refl
 onto_nothing (x ∷ xs) = ap (pair (lent_pair_of x).0 (lent_pair_of x).1) (onto_nothing xs)

@@ -6,13 +6,13 @@ use Rattle.ml_json.specs.Tree.{Tree, list, map, put}
 use Rattle.ml_json.specs.Machine.{snoc, State, open_of}
 use Rattle.ml_json.specs.Grammar.{is_space}
 use Rattle.ml_json.specs.Machine as m
-use Rattle.std.specs.BTreeMap.{BTreeMap}
 use Rattle.ml_json.specs.Lent.{lent_of, lents_view, lent_pairs_view}
-use Rattle.ml_json.specs.State.{entries_view, frames_of, frame_of}
+use Rattle.ml_json.specs.State.{members_view, frames_of, frame_of}
 use Rattle.ml_json.specs.declared.lent.Lent.{Lent, List as json_list, Map as json_map}
 use Rattle.ml_json.specs.declared.lent.LentPair.{LentPair}
 use Rattle.ml_json.specs.declared.state.Frame.{Frame}
 use Rattle.ml_json.specs.declared.state.Frame.TheVariants as frames
+use Rattle.ml_json.specs.declared.state.Members.{Members}
 use Rattle.ml_json.proofs.FrameLemmas.{frames_push, frames_length}
 use Rattle.ml_json.proofs.ViewLemmas.{tree_list, tree_map, trees_push}
 
@@ -48,23 +48,23 @@ list_other old popped items v b e sp n k =
     let c : (b == 93) ≡ false = grind (arith, nat_tests) in
     after_frame (lent_of v) old popped (frames.List items) b e sp ∙ rw (a, c) refl
 
-pub map_comma : (old popped : List Frame) (before after : BTreeMap (List ℕ) Lent) (k : List ℕ) (v : Lent) (b : ℕ) → old ≡ popped ++ frames.Map before k ∷ [] → entries_view after.entries ≡ put k (lent_of v) (entries_view before.entries)
-    → is_space b ≡ false → b ≡ 44 → length old ≤ 64 → (m.after_step (lent_of v) (frames_of old) b ≡ Some (m.key (entries_view after.entries), frames_of popped)) × (open_of (m.key (entries_view after.entries)) (frames_of popped) ≤ 64)
+pub map_comma : (old popped : List Frame) (before after : Members) (k : List ℕ) (v : Lent) (b : ℕ) → old ≡ popped ++ frames.Map before k ∷ [] → members_view after ≡ put k (lent_of v) (members_view before)
+    → is_space b ≡ false → b ≡ 44 → length old ≤ 64 → (m.after_step (lent_of v) (frames_of old) b ≡ Some (m.key (members_view after), frames_of popped)) × (open_of (m.key (members_view after)) (frames_of popped) ≤ 64)
 unfolding open_of
 map_comma old popped before after k v b e f sp is le =
     let h = after_frame (lent_of v) old popped (frames.Map before k) b e sp in
     (h ∙ rw is (ap (λ x. m.to (m.key x) (frames_of popped)) (sym f)), omega (arith, frames_length popped, length_last old popped _ e))
 
-pub map_end : (old popped : List Frame) (before after : BTreeMap (List ℕ) Lent) (pairs : Vec LentPair Global) (k : List ℕ) (v : Lent) (b : ℕ) → old ≡ popped ++ frames.Map before k ∷ [] → entries_view after.entries ≡ put k (lent_of v) (entries_view before.entries)
-    → lent_pairs_view pairs.items ≡ entries_view after.entries
+pub map_end : (old popped : List Frame) (before after : Members) (pairs : Vec LentPair Global) (k : List ℕ) (v : Lent) (b : ℕ) → old ≡ popped ++ frames.Map before k ∷ [] → members_view after ≡ put k (lent_of v) (members_view before)
+    → lent_pairs_view pairs.items ≡ members_view after
     → is_space b ≡ false → b ≡ 125 → length old ≤ 64 → (m.after_step (lent_of v) (frames_of old) b ≡ Some (m.after (lent_of (json_map pairs)), frames_of popped)) × (open_of (m.after (lent_of (json_map pairs))) (frames_of popped) ≤ 64)
 unfolding open_of
 map_end old popped before after pairs k v b e f g sp is le =
     let h = after_frame (lent_of v) old popped (frames.Map before k) b e sp in
-    let q : lent_of (json_map pairs) ≡ map (put k (lent_of v) (entries_view before.entries)) = tree_map pairs ∙ ap (λ x. map x) (g ∙ f) in
+    let q : lent_of (json_map pairs) ≡ map (put k (lent_of v) (members_view before)) = tree_map pairs ∙ ap (λ x. map x) (g ∙ f) in
     (h ∙ rw is (ap (λ t. m.to (m.after t) (frames_of popped)) (sym q)), omega (arith, frames_length popped, length_last old popped _ e))
 
-pub map_other : (old popped : List Frame) (before : BTreeMap (List ℕ) Lent) (k : List ℕ) (v : Lent) (b : ℕ) → old ≡ popped ++ frames.Map before k ∷ [] → is_space b ≡ false → b ≢ 44 → b ≢ 125 → m.after_step (lent_of v) (frames_of old) b ≡ None
+pub map_other : (old popped : List Frame) (before : Members) (k : List ℕ) (v : Lent) (b : ℕ) → old ≡ popped ++ frames.Map before k ∷ [] → is_space b ≡ false → b ≢ 44 → b ≢ 125 → m.after_step (lent_of v) (frames_of old) b ≡ None
 map_other old popped before k v b e sp n q =
     let a : (b == 44) ≡ false = grind (arith, nat_tests) in
     let c : (b == 125) ≡ false = grind (arith, nat_tests) in

@@ -14,5 +14,6 @@ pub mod Fixed
 pub mod Canonical
 pub mod Machine
 pub mod Partial
+pub mod Sorted
 pub mod State
 pub mod Leaps

@@ -1,13 +1,15 @@
 -- The machine's state that the reader's stands for, and what a step of the reader says of the machine's. No public clause speaks of it.
 use Rattle.std.specs.Prelude.{◌≡◌, ℕ, ◌≤◌, List, [], ◌∷◌, Bool, true, false, Option, Some, None, Result, Ok, Err, string_bytes}
-use Rattle.ml_json.specs.Tree.{Pairs, no_pairs, pair}
+use Rattle.ml_json.specs.Tree.{Pairs}
 use Rattle.ml_json.specs.Machine as m
 use Rattle.ml_json.specs.Machine.{State, step, open_of}
 use Rattle.ml_json.specs.Partial.{tail_of, HoldsHigh}
-use Rattle.ml_json.specs.Lent.{lent_of, lents_view}
-use Rattle.ml_json.specs.declared.lent.Lent.{Lent}
+use Rattle.ml_json.specs.Lent.{lent_of, lents_view, lent_pairs_view}
+use Rattle.ml_json.specs.Sorted.{entries_view}
 use Rattle.ml_json.specs.declared.state.Frame.{Frame}
 use Rattle.ml_json.specs.declared.state.Frame.TheVariants as frames
+use Rattle.ml_json.specs.declared.state.Members.{Members}
+use Rattle.ml_json.specs.declared.state.Members.TheVariants as kept
 use Rattle.ml_json.specs.declared.state.Part.{Part}
 use Rattle.ml_json.specs.declared.state.Part.TheVariants as parts
 use Rattle.ml_json.specs.declared.state.Word.{Word}
@@ -19,15 +21,15 @@ use Rattle.ml_json.specs.declared.state.Mode.TheVariants as modes
 use Rattle.ml_json.specs.declared.state.Stop.{Stop}
 use Rattle.ml_json.specs.declared.state.Stop.TheVariants as stops
 
--- the members that a map's entries stand for
-abbrev pub entries_view : List (List ℕ × Lent) → Pairs
-entries_view [] = no_pairs
-entries_view (e ∷ es) = pair e.0 (lent_of e.1) (entries_view es)
+-- the members of a map so far
+abbrev pub members_view : Members → Pairs
+members_view (kept.Few list) = lent_pairs_view list.pairs.items
+members_view (kept.Many tree) = entries_view tree.entries
 
 -- what an open list or map stands for
 abbrev pub frame_of : Frame → m.Frame
 frame_of (frames.List vs) = m.in_list (lents_view vs.items)
-frame_of (frames.Map ps k) = m.at_key (entries_view ps.entries) k
+frame_of (frames.Map ps k) = m.at_key (members_view ps) k
 
 -- frames on top of others; the last one is the innermost
 abbrev pub frames_on : List m.Frame → List Frame → List m.Frame
@@ -65,7 +67,7 @@ word_of words.Fals = m.so_fals
 -- what a string is for
 abbrev pub owner_of : Owner → m.Purpose
 owner_of owners.Value = m.as_value
-owner_of (owners.Key ps) = m.as_key (entries_view ps.entries)
+owner_of (owners.Key ps) = m.as_key (members_view ps)
 
 -- what the next byte may be
 abbrev pub mode_of : Mode → m.Mode
@@ -75,8 +77,8 @@ mode_of modes.MarkOne = m.mark_one
 mode_of modes.Value = m.value
 mode_of modes.First = m.first
 mode_of modes.FirstKey = m.first_key
-mode_of (modes.Key ps) = m.key (entries_view ps.entries)
-mode_of (modes.Colon ps k) = m.colon (entries_view ps.entries) k
+mode_of (modes.Key ps) = m.key (members_view ps)
+mode_of (modes.Colon ps k) = m.colon (members_view ps) k
 mode_of (modes.After v) = m.after (lent_of v)
 mode_of (modes.Text x) = m.text (owner_of x.owner) x.half (string_bytes x.text)
 mode_of (modes.Escape x) = m.escape (owner_of x.owner) x.half (string_bytes x.text)

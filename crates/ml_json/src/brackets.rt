@@ -129,8 +129,8 @@ pub fn after_next<'a>(
                 _ => Err(Stop::NotJson),
             }
         }
-        Some(Frame::Map(mut members, key)) => {
-            put_member(&mut members, key, value)?;
+        Some(Frame::Map(members, key)) => {
+            let members = put_member(alloc, members, key, value)?;
             match byte {
                 b',' => Ok(Mode::Key(members)),
                 b'}' => Ok(Mode::After(Lent::Map(pairs_of(alloc, members)?))),

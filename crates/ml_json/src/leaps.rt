@@ -11,10 +11,10 @@ ghost use Rattle.ml_json.specs.Leaps.{skip_space as spec_skip_space, plain_front
 
 use crate::brackets::{after_next, is_space};
 use crate::lent::{Lent, LentText};
+use crate::members::no_members;
 use crate::state::{Frame, Mode, Part, Stop};
 use crate::tokens::{go_on, may_end};
 use std::alloc::{AllocError, Global};
-use std::collections::BTreeMap;
 use std::mem;
 
 // The bytes without the white space at their front.
@@ -292,7 +292,7 @@ fn leap_key<'a>(
     };
     let key = text_of(text);
     let members = match mem::replace(mode, Mode::Value) {
-        Mode::FirstKey => BTreeMap::new(alloc),
+        Mode::FirstKey => no_members(alloc),
         Mode::Key(members) => members,
         other => {
             *mode = other;

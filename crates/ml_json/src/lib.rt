@@ -10,8 +10,8 @@
 //! - [`laws`]: laws over the definitions alone.
 //!
 //! The reader takes one byte at a time: its [`state`], one [`machine`] step, [`brackets`] of lists and
-//! maps, [`members`] of maps, [`tokens`], [`strings`] with their 16-bit [`units`] and [`utf8`]
-//! characters, of which a [`tail`] may still be to come. Where a whole token of plain bytes lies ahead,
+//! maps, [`members`] of maps, which are kept [`sorted`], [`tokens`], [`strings`] with their 16-bit
+//! [`units`] and [`utf8`] characters, of which a [`tail`] may still be to come. Where a whole token of plain bytes lies ahead,
 //! [`leaps`] takes it at once.
 #![tactic(auto)]
 
@@ -25,6 +25,7 @@ pub mod lent;
 mod machine;
 mod members;
 pub mod reader;
+mod sorted;
 mod state;
 mod strings;
 mod tail;

@@ -1,12 +1,27 @@
 //! The state of the reader between two bytes.
+ghost use Rattle.ml_json.specs.Canonical.{IsAscending};
+ghost use Rattle.ml_json.specs.Lent.{lent_pairs_view};
+ghost use Rattle.ml_json.specs.Sorted.{IsAscending-prop};
 ghost use Rattle.ml_json.specs.Partial.{IsPartial, HoldsHigh, IsSmall};
 
-use crate::lent::{Lent, LentText};
+use crate::lent::{Lent, LentPair, LentText};
 use crate::tail::Tail;
 use std::collections::BTreeMap;
 
-/// The members of a map so far.
-pub type Members<'a> = BTreeMap<LentText<'a>, Lent<'a>>;
+/// Members in byte order of their keys, each key once.
+#[derive(Drop)]
+pub struct Sorted<'a> {
+    pub pairs: Vec<LentPair<'a>>,
+    ghost ascending: { IsAscending (lent_pairs_view pairs.items) } by { IsAscending-prop (lent_pairs_view pairs.items) },
+}
+
+/// The members of a map so far. A few stand in a list, which is the map's own in the end. Many stand in
+/// a tree, since a member that is put in front of many others in a list moves them all.
+#[derive(Drop)]
+pub enum Members<'a> {
+    Few(Sorted<'a>),
+    Many(BTreeMap<LentText<'a>, Lent<'a>>),
+}
 
 /// A list or map that is open, with what has come of it.
 #[derive(Drop)]

@@ -26,14 +26,14 @@ returns-in-Some-List c =
 pub returns-in-44-byte : goal.returns-in-44-byte
 returns-in-44-byte c =
     let sp : is_space c.args.byte ≡ false = cc in
-    map_comma c.args.frames.now.items c.pop.new.self.items c.in-Some-Map.members c.put_member.new.members c.in-Some-Map.key c.args.value c.args.byte
-    (c.in-Some-Map.ensures.items ∙ ap (λ x. c.pop.new.self.items ++ x ∷ []) c.in-Some-Map.field-0-is) c.in_ok-put_member-in-Some-Map.ensures sp c.in-44-byte.is c.requires
+    map_comma c.args.frames.now.items c.pop.new.self.items c.in-Some-Map.members c.in_ok-members-in-Some-Map.members c.in-Some-Map.key c.args.value c.args.byte
+    (c.in-Some-Map.ensures.items ∙ ap (λ x. c.pop.new.self.items ++ x ∷ []) c.in-Some-Map.field-0-is) c.in_ok-members-in-Some-Map.ensures sp c.in-44-byte.is c.requires
 
 pub returns-in-125 : goal.returns-in-125
 returns-in-125 c =
     let sp : is_space c.args.byte ≡ false = cc in
-    map_end c.args.frames.now.items c.pop.new.self.items c.in-Some-Map.members c.put_member.new.members c.in_ok-pairs_of-in-125.field-0 c.in-Some-Map.key c.args.value c.args.byte
-    (c.in-Some-Map.ensures.items ∙ ap (λ x. c.pop.new.self.items ++ x ∷ []) c.in-Some-Map.field-0-is) c.in_ok-put_member-in-Some-Map.ensures c.in_ok-pairs_of-in-125.ensures sp c.in-125.is c.requires
+    map_end c.args.frames.now.items c.pop.new.self.items c.in-Some-Map.members c.in_ok-members-in-Some-Map.members c.in_ok-pairs_of-in-125.field-0 c.in-Some-Map.key c.args.value c.args.byte
+    (c.in-Some-Map.ensures.items ∙ ap (λ x. c.pop.new.self.items ++ x ∷ []) c.in-Some-Map.field-0-is) c.in_ok-members-in-Some-Map.ensures c.in_ok-pairs_of-in-125.ensures sp c.in-125.is c.requires
 
 pub returns : goal.returns
 returns c =

@@ -1,6 +1,6 @@
 use Rattle.std.proofs.Common.{◌≡◌, ◌∷◌, ◌∙◌, List, Some, ap, sym, subst, inl, inr}
 use Rattle.ml_json.specs.Machine as m
-use Rattle.ml_json.specs.State.{mode_of, frames_of, entries_view}
+use Rattle.ml_json.specs.State.{mode_of, frames_of, members_view}
 use Rattle.ml_json.specs.Leaps.{plain_key, Passes, here}
 use Rattle.ml_json.specs.declared.state.Mode.{Mode}
 use Rattle.ml_json.proofs.FrameLemmas.{frames_push}
@@ -19,11 +19,11 @@ pub returns : goal.returns
 returns c =
     let st = frames_of c.args.frames.now.items in
     let n = mode_of c.args.mode.now in
-    let ps = entries_view c.match-replace.members.entries in
+    let ps = members_view c.match-replace.members in
     let was : c.args.mode.now ≡ c.replace.result = sym c.replace.ensures.value in
     let takes : TakesKey n ps = elim c.match-replace.branch [
-      | in-FirstKey w ↦ inl (ap mode_of (was ∙ w.in-FirstKey.is), ap (λ x. entries_view x.entries) w.members-is ∙ ap entries_view w.new-members.ensures.empty)
-      | in-Key w ↦ inr (ap mode_of (was ∙ w.in-Key.is) ∙ ap (λ x. m.key (entries_view x.entries)) (sym w.members-is))
+      | in-FirstKey w ↦ inl (ap mode_of (was ∙ w.in-FirstKey.is), ap members_view w.members-is ∙ w.no_members-members.ensures)
+      | in-Key w ↦ inr (ap mode_of (was ∙ w.in-Key.is) ∙ ap (λ x. m.key (members_view x)) (sym w.members-is))
     ] in
     let cut : plain_key c.args.bytes.now ≡ Some (c.in-Some.text.now, c.in-Some.rest.now) = sym c.in-Some.ensures.cut in
     let key : c.text_of-key.result ≡ c.in-Some.text.now = c.text_of-key.ensures in

@@ -1,10 +1,10 @@
 use Rattle.std.proofs.Common.{◌∙◌, ap, sym, ℕ, List}
 use Rattle.std.proofs.lemmas.Map.Iter.{rest_more, rest_all}
 use Rattle.ml_json.specs.Tree.{pair, Tree}
-use Rattle.ml_json.specs.State.{entries_view}
+use Rattle.ml_json.specs.Sorted.{entries_view, onto}
 use Rattle.ml_json.specs.declared.lent.Lent.{Lent}
-use Rattle.ml_json.proofs.PutLemmas.{onto, onto_push, onto_nothing, pair_rolled}
-use Rattle.ml_json.proofs.members.pairs_of.Goals as goal
+use Rattle.ml_json.proofs.PutLemmas.{onto_push, onto_nothing, pair_rolled}
+use Rattle.ml_json.proofs.sorted.list_of_tree.Goals as goal
 
 pub loop-key-init : goal.loop-key-init
 loop-key-init c =
