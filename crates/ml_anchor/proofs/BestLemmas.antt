@@ -53,6 +53,7 @@ best_takes f n i b h =
 pub wider : (w : Width) (a b x y : ℤ) → FitsSigned w a → FitsSigned w b → a ≡ x → b ≡ y → int_lt (to_z w (of_z w b)) (to_z w (of_z w a)) ≡ true → y <ℤ x
 wider w a b x y fa fb ea eb h = let k : int_lt b a ≡ true = simp to_z-of_z at h in grind (arith, ints)
 
+-- where the loop's test fails, the first pair is no wider than the second
 pub no_wider : (w : Width) (a b x y : ℤ) → FitsSigned w a → FitsSigned w b → a ≡ x → b ≡ y → int_lt (to_z w (of_z w b)) (to_z w (of_z w a)) ≡ false → x ≤ℤ y
 no_wider w a b x y fa fb ea eb h = let k : int_lt b a ≡ false = simp to_z-of_z at h in grind (arith, ints)
 

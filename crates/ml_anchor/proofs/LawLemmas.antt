@@ -20,6 +20,7 @@ use Rattle.ml_anchor.proofs.RankLemmas.{lands, pair_at}
 use Rattle.ml_anchor.proofs.RingLemmas.{bounds_are}
 use Rattle.ml_anchor.proofs.SortLemmas.{sort_of}
 
+-- rings cross a level line at an even number of places
 pub crossings_are_even : (h : ℤ) (rings : List (List Pos)) → All IsRing rings → length (crossings h rings) % 2 ≡ 0
 crossings_are_even = crossings_even
 
@@ -29,6 +30,7 @@ first_pair xs h =
     let p = pair_at xs s.sorted s.moved s.up 0 (omega (arith, length_permutation xs s.sorted s.moved)) in
     (p.0, p.1, p.2)
 
+-- half way up a polygon that is not flat, some stretch lies inside
 pub some_stretch_is_inside : (rings : List (List Pos)) → IsPolygon rings → south (outer rings) <ℤ north (outer rings) → (i : ℕ) × (j : ℕ) × IsInsidePair (crossings (south (outer rings) +ℤ north (outer rings)) rings) i j
 some_stretch_is_inside rings polygon tall = first_pair _ (crossings_two rings polygon tall)
 
@@ -44,6 +46,7 @@ in_order xs i j pair =
     let up : at s.sorted (rank xs i) ≤ℤ at s.sorted (rank xs j) = s.up (rank xs i) (rank xs j) (omega (arith, pair.next)) b.there in
     rw (a.same, b.same) at up
 
+-- the middle of a stretch inside, rounded down, lies between the ends of the stretch
 pub a_middle_is_inside : (xs : List ℤ) (i j : ℕ) → IsInsidePair xs i j → (at xs i ≤ℤ floor (at xs i +ℤ at xs j) (pos 2)) × (floor (at xs i +ℤ at xs j) (pos 2) ≤ℤ at xs j)
 a_middle_is_inside xs i j pair = half_between (at xs i) (at xs j) (in_order xs i j pair)
 
@@ -79,6 +82,7 @@ one_middle xs x y a b =
 same_from : (a b : ℤ) → a ≤ℤ b → b ≤ℤ a → a ≡ b
 same_from a b h k = omega (arith, ints)
 
+-- a polygon has one anchor at most
 pub one_anchor : (rings : List (List Pos)) (p q : Pos) → IsPolygon rings → IsPolygonAnchor rings p → IsPolygonAnchor rings q → (p.x ≡ q.x) × (p.y ≡ q.y)
 one_anchor rings p q polygon a b =
     by_lt_z (south (outer rings)) (north (outer rings)) (λ tall.
@@ -102,6 +106,7 @@ one_greatest f n i k p q =
       | inr (inr g) ↦ absurd (never_less _ _ (p.first k g) (q.greatest i p.there))
     ]
 
+-- a shape of any kind has one anchor of an area at most
 pub one_area_anchor : (shape : Geometry) (p q : Pos) → IsGeometry shape → IsAreaAnchor shape (Some p) → IsAreaAnchor shape (Some q) → IsSamePlace p q
 one_area_anchor (Point place) p q shaped a b = absurd (let f : true ≡ false = a in cc)
 one_area_anchor (MultiPoint places) p q shaped a b = absurd (let f : true ≡ false = a in cc)

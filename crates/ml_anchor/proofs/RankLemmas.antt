@@ -63,6 +63,7 @@ first_pass p (y ∷ ys) down up (suc k) h =
     ] in
     first_pass p ys down (tail_rises y ys up) k n
 
+-- in ascending numbers all others, behind as many as pass, fail a downward test
 pub others_fail : (p : ℤ → Bool) (ys : List ℤ) → IsDownward p → IsRising ys → (k : ℕ) → k < length ys → count_by p ys ≤ k → p (at ys k) ≡ false
 others_fail p [] down up k m h = absurd (omega arith)
 others_fail p (y ∷ ys) down up zero m h =
@@ -119,6 +120,7 @@ pub record Lands (xs ys : List ℤ) (i : ℕ) : Type 0 where
   pub there : rank xs i < length ys
   pub same : at ys (rank xs i) ≡ at xs i
 
+-- each number of a list stands in the sorted list at its rank
 pub lands : (xs ys : List ℤ) → IsPermutation xs ys → IsRising ys → (i : ℕ) → i < length xs → Lands xs ys i
 unfolding rank
 lands xs ys perm up i h =
@@ -189,6 +191,7 @@ pub record PairLands (xs ys : List ℤ) (i j k : ℕ) : Type 0 where
   pub there : 2 * k + 1 < length ys
   pub same_gap : gap xs i j ≡ pair_gap ys k
 
+-- each pair inside stands so in the sorted list, and half the first one's rank counts the pairs before it
 pub pair_lands : (xs ys : List ℤ) → IsPermutation xs ys → IsRising ys → (i j : ℕ) → IsInsidePair xs i j → PairLands xs ys i j (rank xs i / 2)
 pair_lands xs ys perm up i j pair =
     let a = lands xs ys perm up i pair.from_there in

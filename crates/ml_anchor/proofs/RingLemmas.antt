@@ -86,6 +86,7 @@ least_bound (x ∷ xs) =
     let b = fold-int_min_bounds x xs (fold int_min x xs) refl in
     All-cons (λ y. fold int_min x xs ≤ℤ y) x xs b.0 b.1
 
+-- each number is at most the greatest
 pub greatest_bound : (xs : List ℤ) → All (λ x. x ≤ℤ greatest xs) xs
 greatest_bound [] = All-nil (λ x. x ≤ℤ pos 0)
 greatest_bound (x ∷ xs) =
@@ -101,6 +102,7 @@ least_reached (x ∷ xs) h =
       | inr k ↦ (suc k.0, omega (arith, k.1), k.2)
     ]
 
+-- the greatest of some numbers is one of them
 pub greatest_reached : (xs : List ℤ) → 0 < length xs → Contains xs (greatest xs)
 greatest_reached [] h = absurd (omega arith)
 greatest_reached (x ∷ xs) h =

@@ -56,6 +56,7 @@ pub record IsSortOf (xs : List ℤ) : Type 0 where
   pub moved : IsPermutation xs sorted
   pub up : IsRising sorted
 
+-- numbers in any order can be put in ascending order
 pub sort_of : (xs : List ℤ) → IsSortOf xs
 sort_of [] = record { sorted = []; moved = IsPermutation-refl []; up = λ i j h k. absurd (omega arith) }
 sort_of (x ∷ xs) =

@@ -17,6 +17,7 @@ use Rattle.ml_cert.specs.declared.strip.Strip.{Strip}
 -- ---- the spots of labels whose slots are not empty
 
 module _ (labels : List Label) (slots : List Slot) where
+  -- before the first label no spot is listed
   pub listed_none : (spots : List Spot) → AreListed labels slots 0 spots 0
   listed_none spots = record {
     good = λ k d lt. absurd (omega arith);
@@ -58,9 +59,11 @@ module _ (labels : List Label) (slots : List Slot) where
     reads : (k : ℕ) (d : Spot) → k < n → get_or part k d ≡ get_or spots k d
     reads k d lt = ap (λ (xs : List Spot). get_or xs k d) is ∙ get_or-take n spots k d lt
 
+    -- each of the sorted spots is that of a label
     pub arranged_good : All (IsSpotOf labels) sorted
     arranged_good = All-permutation (IsSpotOf labels) part sorted same (λ k d lt. let h = long in rw (reads k d (omega arith)) (listed.good k d (omega arith)))
 
+    -- each label has its spot among the sorted ones, unless its slot is empty
     pub arranged_each : (j : ℕ) → j < length labels → HasSpot sorted j ⊎ IsIdle labels slots j
     arranged_each j lt =
         elim (listed.each j lt) [
@@ -83,9 +86,11 @@ part_length : {X : Type 0} (xs : List X) (a b : ℕ) → a ≤ b → b ≤ lengt
 part_length {X} xs a b le in' = let long = length-drop a xs in let front = length-take (b - a) (drop a xs) in omega arith
 
 module _ (labels : List Label) (spots : List Spot) where
+  -- the spots from one place until another are those of labels, as all spots are
   pub part_good : (from to : ℕ) → from ≤ to → to ≤ length spots → All (IsSpotOf labels) spots → All (IsSpotOf labels) (slice_range spots from to)
   part_good from to le in' all k d lt = let long = part_length spots from to le in' in rw (part_read spots from to k d (omega arith)) (all (from + k) d (omega arith))
 
+  -- spots from south to north, from one place until another, in an area that holds their labels, are a strip
   pub strip_of : (strip : Strip) → strip.from ≤ strip.to → strip.to ≤ length spots → All (IsSpotOf labels) spots → AreRising spots strip.from strip.to → All (λ spot. (d : Label) → IsInArea (get_or labels spot.place d) strip.area) (slice_range spots strip.from strip.to) →
       IsStripIn labels spots strip
   strip_of strip le in' all up held = record {
@@ -100,6 +105,7 @@ module _ (labels : List Label) (spots : List Spot) where
     };
   }
 
+  -- before the first spot there is no strip
   pub cut_none : (strips : List Strip) → AreCut labels spots strips 0 0
   cut_none strips = record {
     few = omega arith;
@@ -107,6 +113,7 @@ module _ (labels : List Label) (spots : List Spot) where
     each = λ m lt. absurd (omega arith);
   }
 
+  -- with the strip that begins where the last one ended, the spots before its end are in the first n + 1 strips
   pub cut_more : (strips : List Strip) (n from : ℕ) (strip : Strip) → n < length strips → strip.from ≡ from → IsStripIn labels spots strip → AreCut labels spots strips n from → AreCut labels spots (set strips n strip) (n + 1) strip.to
   cut_more strips n from strip in' begins is so_far = record {
     few = let long = length-set strips n strip in omega arith;
@@ -142,6 +149,7 @@ module _ (labels : List Label) (spots : List Spot) where
         let back : strip.from + (m - strip.from) ≡ m = omega arith in
         (spot, (m - strip.from, omega arith, part_read spots strip.from strip.to (m - strip.from) spot (omega arith) ∙ (ap (λ (k : ℕ). get_or spots k spot) back ∙ is)), its)
 
+    -- strips that the spots are cut into are a field of the labels: each label has its spot in one, unless its slot is empty
     pub field_of : ((j : ℕ) → j < length labels → HasSpot spots j ⊎ IsIdle labels slots j) → IsFieldOf labels slots spots parts
     field_of each = record {
       good = λ k d lt. let h = parts_long in rw (parts_read k d (omega arith)) (cut.good k d (omega arith));

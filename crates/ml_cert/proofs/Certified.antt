@@ -26,6 +26,7 @@ verdict_best labels slots (Clash i j f) sound h = absurd (h.2.refused ((sound i 
 verdict_best labels slots (Uncovered i) sound h = absurd (uncovered_not labels (ends slots) i (pick labels i h.0.is_label) h.3 (sound i h.0.is_label).covered)
 verdict_best labels slots (BadBlocker i) sound h = absurd (h.4 (sound i h.0.is_label).blocker)
 
+-- the verdict is that the slots are best exactly where they are the longest choice with its blockers
 pub best_exactly : SoundAreBest → (labels : List Label) (slots : List Slot) (v : Verdict) → length slots ≡ length labels → IsVerdict labels slots v → (v ≡ Best) ↔ AreSlots (λ j. j) labels slots
 best_exactly sound labels slots v e h =
     (λ best. (sound labels slots e).0 (rw best at h), λ are. verdict_best labels slots v ((sound labels slots e).1 are) h)

@@ -15,6 +15,7 @@ use Rattle.ml_conflict.specs.Begin.{SetsNoneUpTo}
 use Rattle.ml_cert.specs.Judged.{IsDue, IsClash}
 use Rattle.ml_cert.specs.Known.{Known}
 
+-- an option that the test finds empty is none
 pub is_none_of : (o : Option ℕ) → is_some o ≡ false → o ≡ None
 is_none_of None e = refl
 is_none_of (Some n) e = cc
@@ -51,6 +52,7 @@ pair_of labels slots i j a b s t lt in' same its other good =
     end_there labels c i a u its_label its_end h = rw (its_label a, its_end) at h
 
 module _ (known : Known) {labels : List Label} {c : Choice} {i j : ℕ} {a b : Label} {u v : Fraction} (pair : ArePair labels c i j a b u v) where
+  -- where b allows a the end u, the label at j allows the one at i its end in the choice
   pub allows_at : Allows a b v u → AllowsAt labels c j i
   allows_at h d = rw (pair.its_label d, pair.other_label d, pair.its_end, pair.other_end) h
 

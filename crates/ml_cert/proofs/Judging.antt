@@ -75,10 +75,12 @@ module _ {labels : List Label} {slots : List Slot} {i : ℕ} {a : Label} {s : Sl
   owed : (is_some due ≡ true) ⊎ IsAtMost (value_of a.max) (value_of s.until) → IsBlockerBy (λ j. j) labels (ends slots) i due × IsCovered labels (ends slots) i
   owed = due_blocker labels (ends slots) i a (value_of s.until) judged.its_label its_end due judged.good judged.all
 
+  -- where no blocker is due and the end is below the maximum, the verdict is that the label is not covered
   pub verdict_uncovered : is_some due ≡ false → IsLess (value_of s.until) (value_of a.max) → IsVerdict labels slots (Uncovered i)
   verdict_uncovered none below =
       (judged.question, good_here, judged.all.allowed, uncovered labels (ends slots) i a (value_of s.until) judged.its_label its_end due judged.all none below)
 
+  -- where the slot names the blocker that is due, or none at the maximum, nothing is wrong with it
   pub sound_here : (is_some due ≡ true) ⊎ IsAtMost (value_of a.max) (value_of s.until) → s.blocker ≡ due → IsSound labels slots i
   sound_here either same =
       let given : due ≡ (get_or slots i no_slot).blocker = sym (ap (λ (x : Slot). x.blocker) judged.its_slot ∙ same) in
@@ -89,6 +91,7 @@ module _ {labels : List Label} {slots : List Slot} {i : ℕ} {a : Label} {s : Sl
         blocker = subst (IsBlockerBy (λ j. j) labels (ends slots) i) given (owed either).0;
       }
 
+  -- where the slot names another blocker than the one that is due, the verdict is that its blocker is wrong
   pub verdict_bad_blocker : (is_some due ≡ true) ⊎ IsAtMost (value_of a.max) (value_of s.until) → s.blocker ≢ due → IsVerdict labels slots (BadBlocker i)
   verdict_bad_blocker either differ = (
     judged.question,

@@ -17,6 +17,7 @@ use Rattle.ml_cert.proofs.Dues.{ArePair, aside_of, blocker_of}
 
 -- ---- the label that is asked, and one before it
 
+-- the label that is asked about and one before it, with their ends, are a pair of the choice
 pub asked_pair : (asked : Asked) (j : ℕ) → j < asked.place → ArePair asked.labels.now (ends asked.slots.now) asked.place j asked.low.now (get_or asked.labels.now j asked.low.now) (value_of asked.until) (ends asked.slots.now j)
 asked_pair asked j lt =
     let there = asked.there in
@@ -47,11 +48,13 @@ module _ (low : Label) (labels : List Label) (slots : List Slot) (place : ℕ) (
   read_slot : get_or slots place s ≡ get_or slots place no_slot
   read_slot = get_or_default slots place s no_slot lt
 
+  -- a label that sets no limit up to the bound, as it and its slot are read, sets none by its end in the choice
   pub none_read : (bound : Fraction) → SetsNoneUpTo low (get_or labels place a) (value_of (get_or slots place s).until) bound → SetsNoneUpTo low (get_or labels place low) (ends slots place) bound
   none_read bound none =
       subst (λ (b : Label). SetsNoneUpTo low b (value_of (get_or slots place no_slot).until) bound) read_label
       (subst (λ (t : Slot). SetsNoneUpTo low (get_or labels place a) (value_of t.until) bound) read_slot none)
 
+  -- the limit that a label sets, as it and its slot are read, is the one that it sets by its end in the choice
   pub limit_read : (f : Fraction) → IsLimit low (get_or labels place a) (value_of (get_or slots place s).until) f → IsLimit low (get_or labels place low) (ends slots place) f
   limit_read f limit =
       subst (λ (b : Label). IsLimit low b (value_of (get_or slots place no_slot).until) f) read_label

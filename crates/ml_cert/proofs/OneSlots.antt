@@ -43,6 +43,7 @@ module _ (labels : List Label) (differ : HaveOwnIds labels) (named : IsNoId labe
       let blocker = blocker_same v.blocker a.blocker b.blocker v.write.its_blocker (subst (λ (word : List ℕ). WritesBlocker labels word b.blocker) (sym e2) w.write.its_blocker) in
       (λ t. record { until = until t; blocker = blocker t })
 
+  -- where ids differ and none is a minus, a text writes one list of slots at most
   pub one_slots : (bytes : List ℕ) (slots others : List Slot) → AreSlotLines labels bytes slots → AreSlotLines labels bytes others → slots ≡ others
   one_slots bytes slots others v w =
       let n = v.one_slot in
@@ -52,6 +53,7 @@ module _ (labels : List Label) (differ : HaveOwnIds labels) (named : IsNoId labe
       get_or_default slots k d no_slot lt ∙ slot_same k (entry bytes k).1 (get_or slots k no_slot) (get_or others k no_slot) (v.written k inside) (w.written k inside) ∙ get_or_default others k no_slot d (omega arith))
 
 module _ (labels : List Label) (bytes : List ℕ) where
+  -- a text that gives slots has no faulty line and lacks none
   pub faultless : (slots : List Slot) (k : ℕ) → AreSlotLines labels bytes slots → ¬ (IsSlotsFault labels bytes (BadLine k))
   faultless slots k are (inl fault) =
       let n = are.one_line in
@@ -64,6 +66,7 @@ module _ (labels : List Label) (bytes : List ℕ) where
       let one = good place lt in
       fault.faulty one.0 (subst (λ (p : ℕ). IsSlotLine labels p (entry bytes p).1 one.0) (sym same) one.1)
 
+  -- a text of slots is at fault at one number only, be it that of a faulty line or of the first that is wanting
   pub one_fault : (k j : ℕ) → IsSlotsFault labels bytes (BadLine k) → IsSlotsFault labels bytes (BadLine j) → k ≡ j
   one_fault k j (inl one) (inl two) =
       elim (cases_order one.place two.place) [
@@ -77,11 +80,13 @@ module _ (labels : List Label) (bytes : List ℕ) where
 
   -- ---- what an answer says is all that there is to say
 
+  -- a text that gives slots is read as those, where ids differ and none is a minus, unless memory is wanting
   pub reads_from : (r : Result (List Slot) SlotsFault) → IfOk r (λ slots. AreSlotLines labels bytes slots) → IfErr r (λ fault. IsSlotsFault labels bytes fault) → HaveOwnIds labels → IsNoId labels (codes "-") → (slots : List Slot) → AreSlotLines labels bytes slots → GivesSlots r slots
   reads_from (Ok others) ok err differ named slots are = inl (ap Ok (one_slots labels differ named bytes others slots ok are))
   reads_from (Err (BadLine k)) ok err differ named slots are = absurd (faultless slots k are err)
   reads_from (Err Memory) ok err differ named slots are = inr refl
 
+  -- a text of slots is refused at a number exactly where it is at fault there
   pub refused_from : (r : Result (List Slot) SlotsFault) → IfOk r (λ slots. AreSlotLines labels bytes slots) → IfErr r (λ fault. IsSlotsFault labels bytes fault) → (k : ℕ) → RefusesExactly r (BadLine k) Memory (IsSlotsFault labels bytes (BadLine k))
   refused_from (Ok slots) ok err k = (λ e. absurd (cc e), λ is. absurd (faultless slots k ok is))
   refused_from (Err (BadLine j)) ok err k = (

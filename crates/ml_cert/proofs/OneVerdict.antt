@@ -108,6 +108,7 @@ module _ (labels : List Label) (slots : List Slot) where
       let fs = one_limit i j f g v.0.is_label v.2 again in
       λ t. Clash (is t) (js t) (fs t)
 
+  -- slots have one verdict: two that hold of them name the same fault of the same label
   pub one_verdict : (v w : Verdict) → IsVerdict labels slots v → IsVerdict labels slots w → v ≡ w
   one_verdict Best Best v w = refl
   one_verdict Best (BadEnd k) v w = absurd (not_best k v (wrong_end k w))

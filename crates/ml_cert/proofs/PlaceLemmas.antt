@@ -17,9 +17,11 @@ IsPlaceBefore labels n id j = (j < n) × ((d : Label) → (get_or labels j d).or
 abbrev pub FindsBefore : List Label → BTreeMap (Bor (List ℕ)) ℕ → ℕ → Type 0
 FindsBefore labels places n = (id : List ℕ) → MatchOption (find_place places id) ((j : ℕ) → ¬ (IsPlaceBefore labels n id j)) (IsPlaceBefore labels n id)
 
+-- a map that finds the places of all labels up to the last finds them all
 pub before_all : (labels : List Label) (places : BTreeMap (Bor (List ℕ)) ℕ) → FindsBefore labels places (length labels) → FindsPlaces labels places
 before_all labels places h = h
 
+-- a map in which no id is found finds the places of no labels
 pub before_none : (labels : List Label) (places : BTreeMap (Bor (List ℕ)) ℕ) → ((id : List ℕ) → find_place places id ≡ None) → FindsBefore labels places 0
 before_none labels places h id = rw (h id) (λ j k. absurd (let p = k.0 in omega arith))
 

@@ -36,6 +36,7 @@ module _ (labels : List Label) (bytes rest : List ℕ) (count : ℕ) (slots : Li
     split_more : 0 < length line → entries bytes ≡ so_far.done ++ ((count + 1, line) ∷ written_lines (count + 1 + 1) (lines after))
     split_more some = so_far.split ∙ ap (λ (xs : List (List ℕ)). so_far.done ++ written_lines (count + 1) xs) next ∙ ap (λ (xs : List (ℕ × List ℕ)). so_far.done ++ xs) (written_some (count + 1) line (lines after) some)
 
+    -- a line that is not empty and writes the slot of the label due there adds that slot
     pub read_more : 0 < length line → (slot : Slot) → IsSlotLine labels (length slots) line slot → ReadSoFar labels bytes after (count + 1) (slots ++ slot ∷ [])
     read_more some slot writes =
         record {
@@ -56,6 +57,7 @@ module _ (labels : List Label) (bytes rest : List ℕ) (count : ℕ) (slots : Li
             rw (last, get_or-append_seam so_far.done (count + 1, line) [] no_entry)
             (rw (sym so_far.one_slot, get_or-append_seam slots slot [] no_slot) writes)
 
+    -- a line that is not empty and does not write the slot of the label due there is the first at fault
     pub faulty_line : 0 < length line → ((slot : Slot) → ¬ (IsSlotLine labels (length slots) line slot)) → IsFaultyLine labels bytes (count + 1)
     faulty_line some faulty =
         let e = split_more some in
@@ -74,6 +76,7 @@ module _ (labels : List Label) (bytes rest : List ℕ) (count : ℕ) (slots : Li
     all_done : entries bytes ≡ so_far.done
     all_done = so_far.split ∙ ap (λ (xs : List ℕ). so_far.done ++ written_lines (count + 1) (lines xs)) over ∙ append-nil so_far.done
 
+    -- where no line is left and labels still have no slot, lines are wanting
     pub wanting_lines : length slots < length labels → AreWanting labels bytes (count + 1)
     wanting_lines fewer =
         let e = all_done in

@@ -6,6 +6,7 @@ use Rattle.std.specs.Cmp.{unsigned_Decides}
 use Rattle.std.specs.Cmp.Lexicographic.{pointwise}
 use Rattle.std.specs.Prelude.{MatchBool, nat_eq}
 
+-- where a test decides a fact, the fact holds if it says yes, and does not if it says no
 pub matched : (P : Type 0) (b : Bool) → Decides b P → MatchBool b P (¬ P)
 matched P true d = d.0 refl
 matched P false d = λ p. let e : false ≡ true = d.1 p in cc

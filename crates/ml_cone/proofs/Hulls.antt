@@ -17,6 +17,7 @@ use Rattle.ml_cone.specs.declared.label.Label.{Label}
 
 -- ---- the reach
 
+-- a box that holds another holds all that the other holds
 pub Holds-trans : (a p q : BoxPx) → Holds a p → Holds p q → Holds a q
 Holds-trans a p q h k = record {
   l = let x = h.l in let y = k.l in omega (arith, ints);
@@ -34,9 +35,11 @@ least_is x y = (omega (arith, ints, clamps), omega (arith, ints, clamps))
 greatest_is : (x y : ℤ) → (x ≤ℤ int_max x y) × (y ≤ℤ int_max x y)
 greatest_is x y = (omega (arith, ints, clamps), omega (arith, ints, clamps))
 
+-- the least box that holds two boxes holds the first of them
 pub join_holds_first : (a p : BoxPx) → Holds (join a p) a
 join_holds_first a p = record { l = (least_is a.l p.l).0; b = (least_is a.b p.b).0; r = (greatest_is a.r p.r).0; t = (greatest_is a.t p.t).0 }
 
+-- it holds the second, too
 pub join_holds_second : (a p : BoxPx) → Holds (join a p) p
 join_holds_second a p = record { l = (least_is a.l p.l).1; b = (least_is a.b p.b).1; r = (greatest_is a.r p.r).1; t = (greatest_is a.t p.t).1 }
 
@@ -51,6 +54,7 @@ fold_holds_all w a (p ∷ rest) =
     (Holds-trans (fold (λ all q. join all (w q)) (join a (w p)) rest) (join a (w p)) (w p) (fold_holds_first w (join a (w p)) rest) (join_holds_second a (w p)))
     (fold_holds_all w (join a (w p)) rest)
 
+-- a side over 0 that is joined with one of up to 576 pixels to either hand is still a side over 0, as far at most
 pub stretch_join : (l r k t : ℤ) → IsStretch l r → negsuc 575 ≤ℤ k → t ≤ℤ pos 576 → IsStretch (int_min l k) (int_max r t)
 stretch_join l r k t h low high =
     let h0 = h.from in let h1 = h.left in let h2 = h.right in let h3 = h.until in
@@ -73,6 +77,7 @@ fold_extent c a [] h all = h
 fold_extent c a (p ∷ rest) h all =
     fold_extent c (join a (widened c p)) rest (join_extent c a p h (All-head (λ (q : BoxPx). IsBox q.l q.b q.r q.t) p rest all)) (All-tail (λ (q : BoxPx). IsBox q.l q.b q.r q.t) p rest all)
 
+-- the anchor alone reaches over 0 to each side, by no pixel
 pub no_extent : IsExtent no_reach
 no_extent = record {
   wide = record { from = omega (arith, ints); left = omega (arith, ints); right = omega (arith, ints); until = omega (arith, ints) };
@@ -134,6 +139,7 @@ reach_holds_plain a =
 
 -- ---- columns
 
+-- the side of a cell is above 0
 pub side_pos : (k : ℕ) → 0 < cell_side k
 side_pos k = omega (arith, pow_pos k)
 
@@ -163,6 +169,7 @@ few_floors x l r side pixel h e k =
       stretch_le b (a +ℤ pos 3) (x +ℤ (r *ℤ pos pixel)) (x +ℤ (r *ℤ pos pixel)) side from (omega (arith, ints)) (omega (arith, ints)),
     )
 
+-- a side over 0, up to 576 pixels to either hand, takes one to four columns of each band
 pub few_columns : (x l r : ℤ) (k : ℕ) → IsStretch l r → AreFew (cell_at x l k) (cell_at x r k)
 few_columns x l r k h = few_floors x l r (cell_side k) (2 ^ (k + 1)) (side_pos k) (let e = pixel_is k in omega arith) h
 

@@ -29,6 +29,7 @@ use Rattle.ml_cone.proofs.Hulls.{few_columns, reach_extent, reach_holds, reach_h
 
 -- ---- the hull holds what the label covers
 
+-- a number that is scaled twice is scaled by the product
 pub mul_twice : (c : ℤ) (m n : ℕ) → ((c *ℤ pos m) *ℤ pos n) ≡ (c *ℤ pos (m * n))
 mul_twice c m n =
     let e = ap (λ (t : ℕ). t * n) (product_is c (pos m)).0 in
@@ -40,6 +41,7 @@ pub left_grows : (l : ℤ) (n m : ℕ) → l ≤ℤ pos 0 → n ≤ m → (l *�
 left_grows (pos u) n m h k = let e : u ≡ 0 = omega (arith, ints) in rw e (omega (arith, ints))
 left_grows (negsuc u) n m h k = let e = mul-le (suc u) n (suc u) m (omega arith) k in omega (arith, ints)
 
+-- what lies to the right of the anchor moves right as a pixel grows
 pub right_grows : (r : ℤ) (n m : ℕ) → pos 0 ≤ℤ r → n ≤ m → (r *ℤ pos n) ≤ℤ (r *ℤ pos m)
 right_grows (pos u) n m h k = let e = mul-le u n u m (omega arith) k in omega (arith, ints)
 right_grows (negsuc u) n m h k = absurd (omega (arith, ints))
@@ -130,6 +132,7 @@ scale_band a s below =
     let h : IsLess s (whole (2 ^ 28)) = less_at_most s (value_of a.max) (whole (2 ^ 28)) below top in
     has_band s 27 (omega arith)
 
+-- what holds of all in a list holds of the one at a place
 pub at_place : {X : Type 0} (P : X → Type 0) (xs : List X) (k : ℕ) (x : X) → All P xs → k < length xs → slice_index_or xs k x ≡ x → P x
 at_place P xs k x all h e = subst P e (all k x h)
 
@@ -253,6 +256,7 @@ above_in_band f t k h band =
           (middle f (whole (2 ^ (k + 1))), over, under, record { from = from (middle f (whole (2 ^ (k + 1)))) over; below = omega arith })
     ]
 
+-- a label that ends below its maximum shares a cell in the band of its end with each label that covers it just above
 pub bound_shares : (low high : Label) (u f : Fraction) → IsEnd low f → IsLess f (value_of low.max) → IsAtMost u (value_of high.max) → CoversFrom low high u f → BoundCell low high f
 unfolding CoversFrom
 bound_shares low high u f end below most covers =

@@ -104,6 +104,7 @@ column_about x y l r m t from to first last k j s below own other h0 h1 h2 h3 me
       floor_mono y (x +ℤ ((to -ℤ first) *ℤ pos p)) (cell_side j) (side_pos j) high,
     )
 
+-- the cells of band j in which an area about a label's anchor lies, with a pixel as large as at the upper end of band k
 abbrev pub about : Label → BoxPx → ℕ → ℕ → Cells
 about a area k j = record { band = j; x0 = column_of a.x area.l k j; y0 = column_of a.y area.b k j; x1 = column_of a.x area.r k j; y1 = column_of a.y area.t k j }
 

@@ -9,6 +9,7 @@ use Rattle.ml_cone.specs.declared.slot.Slot.{Slot}
 use Rattle.ml_conflict.specs.Carried.{SetsNoLimit, AreSameRival, AreCarried, AreJoined}
 use Rattle.ml_conflict.proofs.Greedy.{Allows-smaller}
 
+-- two rivals that are equal have one number and label, and one end by value
 pub alike_of : (r s : Rival) → r ≡ s → AreSameRival r s
 alike_of r s e =
     record {
@@ -17,6 +18,7 @@ alike_of r s e =
       until = let n : r.until.num ≡ s.until.num = ap (λ (r : Rival). r.until.num) e in let d : r.until.den ≡ s.until.den = ap (λ (r : Rival). r.until.den) e in rw (n, d) refl;
     }
 
+-- of two rivals with one number, label and end, either may be named first
 pub alike_turned : (r s : Rival) → AreSameRival r s → AreSameRival s r
 alike_turned r s h = let u = h.until in record { number = sym h.number; label = sym h.label; until = omega arith }
 
@@ -111,6 +113,7 @@ module _ (low : Label) (rivals others : ℕ → Rival) (stands stays : ℕ → T
   joined_setter None h = h
   joined_setter (Some n) h = (h.0, joined_first n h.1)
 
+  -- so an own slot among the rivals is one among the others, that is with those that joined them
   pub own_joined : IsOwnSlot rivals stands low slot → IsOwnSlot others stays low slot
   own_joined own =
       record {

@@ -21,6 +21,7 @@ pub within_more : (axis : Axis) (r q : ℕ) (p : BoxPx) → r ≤ q → IsWithin
 within_more Across r q p le within = let l = within.0 in let s = within.1 in (omega (arith, ints), omega (arith, ints))
 within_more Along r q p le within = let b = within.0 in let t = within.1 in (omega (arith, ints), omega (arith, ints))
 
+-- a label that reaches at most so many pixels from its anchor reaches at most more
 pub reaches_more : (axis : Axis) (a : Label) (r q : ℕ) → r ≤ q → Reaches axis a r → Reaches axis a q
 reaches_more axis a r q le reach k d lt = within_more axis r q (widened a (get_or a.boxes k d)) le (reach k d lt)
 
@@ -76,11 +77,13 @@ far_clear axis a b r q reach_a reach_b bound far = (
 pub far_on : (axis : Axis) (a b : Label) (r q : ℕ) → Reaches axis a r → Reaches axis b q → (u : Fraction) (bound : Ratio) → IsFar (anchor_on axis a) (anchor_on axis b) (r + q) bound → SetsNoneUpTo a b u (value_of bound)
 far_on axis a b r q reach_a reach_b u bound far = none_of_clear a b u (value_of bound) (far_clear axis a b r q reach_a reach_b bound far)
 
+-- labels that reach r pixels to the west and east, and are further apart, set each other no limit up to the bound
 pub far_labels : (a b : Label) (r : ℕ) → Reaches Across a r → Reaches Across b r → (u : Fraction) (bound : Ratio) → IsFar a.x b.x (2 * r) bound → SetsNoneUpTo a b u (value_of bound)
 far_labels a b r reach_a reach_b u bound far =
     let twice : 2 * r ≡ r + r = omega arith in
     far_on Across a b r r reach_a reach_b u bound (subst (λ (p : ℕ). IsFar a.x b.x p bound) twice far)
 
+-- labels that are as far apart on an axis as both together reach at the end overlap at no scale below it
 pub distant_labels : (axis : Axis) (a b : Label) (r far : ℕ) (end : Fraction) → Reaches axis a r → Reaches axis b r → 2 * r * end.num ≤ far * end.den → far ≤ unsigned_abs (anchor_on axis a -ℤ anchor_on axis b) → (s : Fraction) → IsLess s end → ¬ (Overlap a b s)
 distant_labels axis a b r far end reach_a reach_b wide apart s less over =
     let g : ℕ = unsigned_abs (anchor_on axis a -ℤ anchor_on axis b) in

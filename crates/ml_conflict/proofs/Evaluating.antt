@@ -19,6 +19,7 @@ pub record Evaluated (low : Label) (rivals : List Rival) (k : ℕ) (u : Fraction
   pub setter : IsSetter (rival_at low rivals) (λ j. j < k) low u b
 
 module _ (low : Label) (rivals : List Rival) where
+  -- before the first rival the label may have its maximum, which no rival sets
   pub evaluated_none : (u : Fraction) → IsSame u (value_of low.max) → Evaluated low rivals 0 u None
   evaluated_none u same =
       let range : IsLess (value_of low.min) (value_of low.max) = low.range in

@@ -94,6 +94,7 @@ module _ (low : Label) (rivals : ℕ → Rival) (n : ℕ) (bound : Fraction) (pl
     order = in_order;
   }
 
+  -- the slot that the rivals at these places leave is the label's own slot among all n
   pub own_of_enough : IsOwnSlot rivals (λ j. j < n) low slot
   own_of_enough =
       elim (cases_lt (slot.until.num * low.max.den) (low.max.num * slot.until.den)) [

@@ -51,15 +51,18 @@ apart_allows low high u start bound from apart s scale a b o =
 
 -- where the overlap begins, below a bound, is the limit; else the bound is allowed
 module _ (low high : Label) (u start bound f : Fraction) (from : (s : Fraction) → IsAtMost start s ↔ (IsAtMost (value_of low.min) s × IsAtMost (value_of high.min) s)) (within : IsAtMost bound (value_of low.max)) (b : Begins (λ s. Overlap low high s) start u bound f) where
+  -- where the overlap begins is an end that the label may have
   pub begins_is_end : IsEnd low f
   begins_is_end =
       let k = (from start).0 (omega arith) in
       (at_most_trans (value_of low.min) start f k.0 b.from, at_most_trans f bound (value_of low.max) b.to within)
 
+  -- the other label allows the end where the overlap begins
   pub begins_allows : Allows low high u f
   unfolding Allows Clear
   begins_allows s scale a c o = b.clear s scale ((from s).1 (a.0, c.0)) a.1 c.1 o
 
+  -- just above where the overlap begins, if that is below the bound, the other label is active and overlaps
   pub begins_covers : IsLess f bound → CoversFrom low high u f
   unfolding CoversFrom Covers
   begins_covers h =
@@ -74,6 +77,7 @@ module _ (low high : Label) (u start bound f : Fraction) (from : (s : Fraction) 
             ((omega arith, r.0), r.1),
       )
 
+  -- so where the overlap begins is the limit below the bound, or else the bound
   pub begins_block : IsBlock low high u bound f
   begins_block =
       record {
@@ -125,6 +129,7 @@ limit_same low high u v f g same_u same_f limit =
           at_most_trans e f g (limit.greatest e e_end (Allows-smaller low high v u e e (omega arith) (omega arith) e_allowed)) (omega arith);
     }
 
+-- the same limit below the bound, for another end of the other label that has its value
 pub block_same : (low high : Label) (u v bound f : Fraction) → IsSame u v → IsBlock low high u bound f → IsBlock low high v bound f
 block_same low high u v bound f same block =
     record {

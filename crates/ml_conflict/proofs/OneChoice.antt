@@ -73,6 +73,7 @@ module _ (number : ℕ → ℕ) (labels : List Label) (b c : Choice) (same : (k 
         | inr (inr more) ↦ absurd (first k more (blocks_back k others))
       ]
 
+-- two lists of slots that are the longest choice with its blockers have the same ends and the same blockers
 pub one_choice : (number : ℕ → ℕ) (labels : List Label) (slots others : List Slot) → AreSlots number labels slots → AreSlots number labels others → slots ≡ others
 one_choice number labels slots others v w =
     let n = v.one_slot in

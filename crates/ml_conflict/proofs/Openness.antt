@@ -45,13 +45,16 @@ unfoldable pub IsOpen : (Fraction → Type 0) → Type 0
 IsOpen K = (o : Interval) × ((s : Fraction) → IsScale s → K s ↔ Holds o s)
 
 module _ (K : Fraction → Type 0) (start u bound : Fraction) (ok : IsAtMost start bound) where
+  -- a set without a scale from `start` on and below u begins at the bound, which stands for nowhere
   pub none_bound : ((s : Fraction) → IsScale s → IsAtMost start s → IsLess s u → ¬ (K s)) → Begins K start u bound bound
   unfolding Clear
   none_bound none = record { from = ok; to = omega arith; clear = λ s scale p q r. none s scale p r; covers = λ h. absurd (omega arith) }
 
+  -- so such a set has a place where it begins
   pub none_begins : ((s : Fraction) → IsScale s → IsAtMost start s → IsLess s u → ¬ (K s)) → (f : Fraction) × Begins K start u bound f
   none_begins none = (bound, none_bound none)
 
+  -- the set of all scales between a lower end and an upper one, or above a lower end alone, has a place where it begins
   pub some_begins : (lo : Fraction) (hi : Option Fraction) → ((s : Fraction) → IsScale s → K s ↔ (IsLess lo s × IsUnder hi s)) → (f : Fraction) × Begins K start u bound f
   unfolding Clear Covers
   some_begins lo hi says =
@@ -97,6 +100,7 @@ module _ (K : Fraction → Type 0) (start u bound : Fraction) (ok : IsAtMost sta
             omega arith)
       ]
 
+-- each open interval of scales has a place where it begins, from any scale on
 pub open_begins : (K : Fraction → Type 0) → IsOpen K → HasBeginning K
 unfolding IsOpen HasBeginning
 open_begins K (None, says) start u bound ok = none_begins K start u bound ok (λ s scale p r k. (says s scale).0 k)
@@ -174,6 +178,7 @@ meet_ends (Some a) b =
     let t = under_both a b in
     (Some t.0, t.1, t.2)
 
+-- the scales that lie in both of two open intervals are an open interval
 pub open_both : (K M : Fraction → Type 0) → IsOpen K → IsOpen M → IsOpen (λ s. K s × M s)
 unfolding IsOpen
 open_both K M (None, k) (o, m) = (None, λ s scale. (λ h. (k s scale).0 h.0, λ h. absurd h))
@@ -193,6 +198,7 @@ open_both K M (Some i, k) (Some j, m) =
       ),
     )
 
+-- a set of the same scales as an open interval is one, too
 pub open_like : (K M : Fraction → Type 0) → ((s : Fraction) → K s ↔ M s) → IsOpen M → IsOpen K
 unfolding IsOpen
 open_like K M same (o, m) = (o, λ s scale. (λ h. (m s scale).0 ((same s).0 h), λ h. (same s).1 ((m s scale).1 h)))
@@ -212,6 +218,7 @@ below_by_distance x u y v s =
     let e = difference_scaled v u s.num in
     (λ h. let k : edge x u s <ℤ edge y v s = h in omega (arith, ints, d, e), λ h. omega (arith, ints, d, e))
 
+-- the scales at which one edge lies below another are an open interval
 pub below_open : (x u y v : ℤ) → IsOpen (IsBelow x u y v)
 unfolding IsOpen
 below_open x u y v = open_like (IsBelow x u y v) (λ s. ((x -ℤ y) *ℤ pos s.den) <ℤ ((v -ℤ u) *ℤ pos s.num)) (below_by_distance x u y v) (half_line (x -ℤ y) (v -ℤ u))
@@ -222,11 +229,13 @@ rectangles_open a p b q =
     (open_both (IsBelow a.x p.l b.x q.r) (IsBelow b.x q.l a.x p.r) (below_open a.x p.l b.x q.r) (below_open b.x q.l a.x p.r))
     (open_both (IsBelow a.y p.b b.y q.t) (IsBelow b.y q.b a.y p.t) (below_open a.y p.b b.y q.t) (below_open b.y q.b a.y p.t))
 
+-- the scales at which two boxes, widened by the margins, overlap are an open interval
 pub boxes_open : (a : Label) (p : BoxPx) (b : Label) (q : BoxPx) → IsOpen (BoxesOverlap a p b q)
 unfolding BoxesOverlap
 boxes_open a p b q =
     rectangles_open a (widened a p) b (widened b q)
 
+-- the scales at which two labels overlap, by any two of their boxes, have a place where they begin
 pub overlap_begins : (a b : Label) → HasBeginning (Overlap a b)
 unfolding Overlap
 overlap_begins a b =

@@ -46,6 +46,7 @@ blocks_limit labels c j i d is_end allowed blocks =
     let b = blocks d in
     limit_of_covers (get_or labels i d) (get_or labels j d) (c j) (c i) is_end allowed (λ _. b.2)
 
+-- a label before it that sets a limit at its end, below its maximum, blocks it
 pub limit_blocks : (labels : List Label) (c : Choice) (j i : ℕ) → j < i → ((d : Label) → IsLess (c i) (value_of (get_or labels i d).max)) → ((d : Label) → IsLimit (get_or labels i d) (get_or labels j d) (c j) (c i)) → Blocks labels c j i
 limit_blocks labels c j i lt below limit d = (lt, below d, covers_of_limit (get_or labels i d) (get_or labels j d) (c j) (c i) (limit d) (below d))
 
@@ -72,6 +73,7 @@ pub empty_allowed : (low high : Label) (u : Fraction) → Allows low high u (val
 unfolding Allows
 empty_allowed low high u s scale a b o = let p = a.0 in let q = a.1 in omega arith
 
+-- each end of the longest choice is the greatest that all labels before it allow
 pub longest_own : (labels : List Label) (c : Choice) → IsLongest labels c → (i : ℕ) → i < length labels → IsOwnEnd labels c i
 longest_own labels c longest i in' =
     record {

@@ -65,6 +65,7 @@ module _ (number : ℕ → ℕ) (labels : List Label) (slots : List Slot) where
           },
         )
 
+    -- in the longest choice with its blockers each label has its own slot among those before it
     pub own_of_slots : HaveOwnSlots number labels slots
     own_of_slots =
         record {

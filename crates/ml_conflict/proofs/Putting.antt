@@ -19,18 +19,22 @@ use Rattle.ml_conflict.specs.declared.strip.Strip.{Strip}
 
 -- ---- where the spots to the south end
 
+-- whether the spot lies to the south of y
 abbrev pub is_south : ℤ → Spot → Bool
 is_south y spot = lt_z spot.y y
 
+-- where the test of whole numbers says less, x is below y
 pub less_of : (x y : ℤ) → lt_z x y ≡ true → x <ℤ y
 less_of x y is = grind (arith, ints)
 
+-- where it does not say less, y is at most x
 pub most_of : (x y : ℤ) → lt_z x y ≡ false → y ≤ℤ x
 most_of x y is = grind (arith, ints)
 
 less_is : (x y : ℤ) → x <ℤ y → lt_z x y ≡ true
 less_is x y less = grind (arith, ints)
 
+-- among spots from south to north, those to the south of y come before all others
 pub south_parted : (spots : List Spot) (y : ℤ) → AllPairs (λ a b. a.y ≤ℤ b.y) spots → IsPartitionedBy (is_south y) spots
 south_parted spots y rising i j d le lt south =
     elim (cases_lt i j) [
@@ -76,6 +80,7 @@ pairs_insert R spots at spot in' pairs before behind i j d less lt =
     ]
 
 module _ (labels : List Label) (spots : List Spot) (area next : Area) (at : ℕ) (spot : Spot) (in' : at ≤ length spots) where
+  -- a spot put behind those to its south and before all others makes a strip, in an area that holds its label as well
   pub put_strip : IsStripOf labels spots area → IsSpotOf labels spot → AllWithin (λ s. s.y <ℤ spot.y) spots 0 at → AllWithin (λ s. spot.y ≤ℤ s.y) spots at (length spots) → ((a : Label) → IsInArea a area → IsInArea a next) → ((d : Label) → IsInArea (get_or labels spot.place d) next) →
       IsStripOf labels (insert spots at spot) next
   put_strip strip is south north stays comes = record {
@@ -87,21 +92,26 @@ module _ (labels : List Label) (spots : List Spot) (area next : Area) (at : ℕ)
       Held : Spot → Type 0
       Held = λ s. (d : Label) → IsInArea (get_or labels s.place d) next
 
+  -- a label that had its spot there still has it when another is put in
   pub put_keeps : (j : ℕ) → HasSpot spots j → HasSpot (insert spots at spot) j
   put_keeps j (s, (k, lt, is), its) = (s, Contains-permutation (spot ∷ spots) (insert spots at spot) s (IsPermutation-insert spots at spot) (k + 1, omega arith, rw add-one is), its)
 
+  -- the label whose spot was put in has it there
   pub put_here : HasSpot (insert spots at spot) spot.place
   put_here = (spot, Contains-permutation (spot ∷ spots) (insert spots at spot) spot (IsPermutation-insert spots at spot) (0, omega arith, refl), refl)
 
 -- ---- a strip changes
 
 module _ (labels : List Label) (strips : List Strip) (home : ℕ) (strip : Strip) (in' : home < length strips) where
+  -- with another strip in place of one, all of them are strips of the labels
   pub strips_set : AreStrips labels strips → IsStripOf labels strip.spots.items strip.area → AreStrips labels (set strips home strip)
   strips_set all one = All-set (λ (s : Strip). IsStripOf labels s.spots.items s.area) strips home strip one all
 
+  -- a label that has its spot in the strip that was set has a place in the strips
   pub place_here : (j : ℕ) → HasSpot strip.spots.items j → HasPlace (set strips home strip) j
   place_here j has = (home, omega arith, omega (arith, length-set strips home strip), λ d. rw (get_or-set_same strips home strip d in') has)
 
+  -- a label that had a place in the strips keeps it where the new strip has all spots of the one that it replaces
   pub places_kept : ((j : ℕ) → HasSpot (get_or strips home strip).spots.items j → HasSpot strip.spots.items j) → (j : ℕ) → HasPlace strips j → HasPlace (set strips home strip) j
   places_kept keeps j (k, from, lt, has) =
       elim (cases_order k home) [

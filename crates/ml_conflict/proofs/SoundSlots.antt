@@ -11,6 +11,7 @@ covered_of : (labels : List Label) (c : Choice) (i : ℕ) (b : Option ℕ) → I
 covered_of labels c i None h = inl h
 covered_of labels c i (Some n) h = inr (h.0, h.2)
 
+-- slots of which nothing is wrong are the longest choice with its blockers
 pub slots_of_sound : (labels : List Label) (slots : List Slot) → length slots ≡ length labels → ((i : ℕ) → i < length labels → IsSound labels slots i) → AreSlots (λ j. j) labels slots
 slots_of_sound labels slots e sound =
     record {
@@ -21,6 +22,7 @@ slots_of_sound labels slots e sound =
       blockers = λ i in'. (sound i in').blocker;
     }
 
+-- nothing is wrong of any slot of the longest choice with its blockers
 pub sound_of_slots : (labels : List Label) (slots : List Slot) → AreSlots (λ j. j) labels slots → (i : ℕ) → i < length labels → IsSound labels slots i
 sound_of_slots labels slots best i in' =
     record {

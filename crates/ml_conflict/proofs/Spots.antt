@@ -23,6 +23,7 @@ pub record AreWritten (labels : List Label) (i : ℕ) (spots : List Spot) : Type
   pub good : (k : ℕ) (d : Spot) → k < i → IsSpotOf labels (get_or spots k d)
   pub its_place : (k : ℕ) (d : Spot) → k < i → (get_or spots k d).place ≡ k
 
+-- before the first label is written, no spot need be that of a label
 pub written_none : (labels : List Label) (spots : List Spot) → AreWritten labels 0 spots
 written_none labels spots = record {
   good = λ k d lt. absurd (omega arith);
@@ -39,6 +40,7 @@ place_more P spots i spot in' before here k d lt =
           subst (λ (m : ℕ). P m (get_or (set spots i spot) m d)) same (subst (P i) (sym (get_or-set_same spots i spot d in')) here)
     ]
 
+-- with the next label's spot written at its place, those of all labels up to it stand there
 pub written_more : (labels : List Label) (i : ℕ) (spots : List Spot) (spot : Spot) → i < length spots → AreWritten labels i spots → IsSpotOf labels spot → spot.place ≡ i → AreWritten labels (i + 1) (set spots i spot)
 written_more labels i spots spot in' so_far is at = record {
   good = place_more (λ k s. IsSpotOf labels s) spots i spot in' so_far.good is;
@@ -55,6 +57,7 @@ not_less y x h =
     absurd (cc))
     (λ most. most)
 
+-- the spots of all labels, sorted from west to east, are a field, where no label reaches further than the field says
 pub field_of : (labels : List Label) (spots sorted : List Spot) (reach : ℕ) → length spots ≡ length labels → AreWritten labels (length labels) spots → All (λ a. Reaches Across a reach) labels → reach ≤ 576 → IsPermutation spots sorted → IsSortedBy (λ p q. is_lt (int_cmp p.x q.x)) sorted → IsFieldOf labels sorted reach
 field_of labels spots sorted reach all written reaches low same up = record {
   good = All-permutation (IsSpotOf labels) spots sorted same (λ k d lt. written.good k d (omega arith));

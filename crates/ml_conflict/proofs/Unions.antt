@@ -12,6 +12,7 @@ module _ {X : Type 0} (P : X → Fraction → Type 0) (xs : List X) (start u bou
   pub loop_none : IsAtMost start bound → Begins (λ s. Any (λ x. P x s) (take 0 xs)) start u bound bound
   loop_none ok = none_bound (λ s. Any (λ x. P x s) (take 0 xs)) start u bound ok (λ s scale p q (k, x, lt, e, h). omega (arith, length-take 0 xs))
 
+  -- where the next part begins, looked for below where those so far begin, is where the union with it begins
   pub loop_more : (ys : List X) (i : ℕ) (d : X) (f g : Fraction) → ys ≡ xs → i < length ys → Begins (λ s. Any (λ x. P x s) (take i xs)) start u bound f → Begins (P (get_or ys i d)) start u f g → Begins (λ s. Any (λ x. P x s) (take (i + 1) xs)) start u bound g
   loop_more ys i d f g same lt one two =
       let in' : i < length xs = rw (← same) lt in
@@ -19,5 +20,6 @@ module _ {X : Type 0} (P : X → Fraction → Type 0) (xs : List X) (start u bou
       begins_union (λ s. Any (λ x. P x s) (take i xs)) (P (get_or xs i d)) (λ s. Any (λ x. P x s) (take (i + 1) xs)) start u bound f g
       (λ s any. any_more_cases (λ x. P x s) xs i d in' any) (λ s k. any_more_left (λ x. P x s) xs i d in' k) (λ s k. any_more_here (λ x. P x s) xs i d in' k) one two'
 
+  -- behind the last part, where those so far begin is where the whole union begins
   pub loop_all : (i : ℕ) (f : Fraction) → length xs ≤ i → Begins (λ s. Any (λ x. P x s) (take i xs)) start u bound f → Begins (λ s. Any (λ x. P x s) xs) start u bound f
   loop_all i f h b = subst (λ (ys : List X). Begins (λ s. Any (λ x. P x s) ys) start u bound f) (take_all i xs h) b

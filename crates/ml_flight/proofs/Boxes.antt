@@ -12,9 +12,11 @@ module _ {X : Type 0} (P : X → Fraction → Type 0) (whole : Stay) (xs : List 
   abbrev pub Pieces : ℕ → List Stay → Type 0
   Pieces i pieces = (s : Fraction) → HaveScale pieces s ↔ (HoldsScale whole s × Any (λ p. P p s) (take i xs))
 
+  -- before the first box there are no pieces
   pub pieces_none : Pieces 0 []
   pieces_none s = (λ h. absurd (any_none (λ a. HoldsScale a s) h), λ h. absurd (any_none (λ p. P p s) h.1))
 
+  -- the stay of the next box within the whole stay comes in as one more piece
   pub pieces_more : (ys : List X) (i : ℕ) (d : X) (pieces : List Stay) (piece : Stay) → ys ≡ xs → i < length ys → Pieces i pieces →
       ((s : Fraction) → HoldsScale piece s ↔ (HoldsScale whole s × P (get_or ys i d) s)) → Pieces (i + 1) (pieces ++ piece ∷ [])
   pieces_more ys i d pieces piece same lt so_far is s =
@@ -30,6 +32,7 @@ module _ {X : Type 0} (P : X → Fraction → Type 0) (whole : Stay) (xs : List 
         ],
       )
 
+  -- a box that has no scale within the whole stay leaves the pieces as they are
   pub pieces_same : (ys : List X) (i : ℕ) (d : X) (pieces : List Stay) → ys ≡ xs → i < length ys → Pieces i pieces →
       ((s : Fraction) → HoldsScale whole s × P (get_or ys i d) s → ⊥) → Pieces (i + 1) pieces
   pieces_same ys i d pieces same lt so_far none s =

@@ -5,13 +5,16 @@ use Rattle.std.specs.List.Sorted.{IsPartitionedBy, IsPartitionPoint}
 use Rattle.std.proofs.lemmas.Bool.{cases_lt}
 use Rattle.std.proofs.lemmas.List.Sums.{sum_by-cons, sum_by-append, count_by-le-length}
 
+-- each test comes out true or false
 pub true_or_false : (b : Bool) → (b ≡ true) ⊎ (b ≡ false)
 true_or_false true = inl refl
 true_or_false false = inr refl
 
+-- with an element in front that passes the test, the count is greater by one
 pub count_yes : {X : Type 0} (p : X → Bool) (x : X) (xs : List X) → p x ≡ true → count_by p (x ∷ xs) ≡ 1 + count_by p xs
 count_yes {X} p x xs e = sum_by-cons (λ (y : X). cond (p y) 1 0) x xs ∙ ap (λ (b : Bool). cond b 1 0 + count_by p xs) e
 
+-- with an element in front that fails the test, the count stays
 pub count_no : {X : Type 0} (p : X → Bool) (x : X) (xs : List X) → p x ≡ false → count_by p (x ∷ xs) ≡ count_by p xs
 count_no {X} p x xs e =
     let whole : count_by p (x ∷ xs) ≡ 0 + count_by p xs = (sum_by-cons (λ (y : X). cond (p y) 1 0) x xs ∙ ap (λ (b : Bool). cond b 1 0 + count_by p xs) e) in
@@ -73,6 +76,7 @@ pub sum_by-plus : {X : Type 0} (f g h : X → ℕ) → ((x : X) → f x + g x �
 sum_by-plus f g h each [] = refl
 sum_by-plus f g h each (x ∷ xs) = omega (arith, sum_by-cons f x xs, sum_by-cons g x xs, sum_by-cons h x xs, each x, sum_by-plus f g h each xs)
 
+-- as many of the mapped values pass as there are elements whose values pass
 pub count_by-map : {X Y : Type 0} (p : Y → Bool) (f : X → Y) (xs : List X) → count_by p (map f xs) ≡ count_by (λ x. p (f x)) xs
 count_by-map p f [] = refl
 count_by-map {X} p f (x ∷ xs) =
@@ -81,6 +85,7 @@ count_by-map {X} p f (x ∷ xs) =
       | inr no' ↦ omega (arith, count_no p (f x) (map f xs) no', count_no (λ (y : X). p (f y)) x xs no', count_by-map p f xs)
     ]
 
+-- how many pass in joined lists is the sum of how many pass in each
 pub count_by-flat_map : {X Y : Type 0} (p : Y → Bool) (f : X → List Y) (xs : List X) → count_by p (flat_map f xs) ≡ sum_by (λ x. count_by p (f x)) xs
 count_by-flat_map p f [] = refl
 count_by-flat_map {X} {Y} p f (x ∷ xs) =

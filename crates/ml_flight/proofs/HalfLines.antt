@@ -36,6 +36,7 @@ difference_scaled x y n =
     let e : up (x -ℤ y) + down x + up y ≡ down (x -ℤ y) + up x + down y = omega (arith, ints) in
     omega (arith, ints, ap (λ (t : ℕ). t * n) e)
 
+-- a sum times a natural number, for `omega`
 pub sum_scaled : (x y : ℤ) (n : ℕ) → up ((x +ℤ y) *ℤ pos n) + down x * n + down y * n ≡ down ((x +ℤ y) *ℤ pos n) + up x * n + up y * n
 sum_scaled x y n =
     let e : up (x +ℤ y) + down x + down y ≡ down (x +ℤ y) + up x + up y = omega (arith, ints) in

@@ -9,6 +9,7 @@ use Rattle.ml_flight.specs.Peak.{HasCount, none, counted, passed}
 abbrev pub Tells : {X : Type 0} → (X → Type 0) → (X → ℕ) → X → Type 0
 Tells P f x = (P x × (f x ≡ 1)) ⊎ (¬ (P x) × (f x ≡ 0))
 
+-- a number of elements with the property can only be the sum of the terms
 pub count_is : {X : Type 0} (P : X → Type 0) (f : X → ℕ) (xs : List X) → All (Tells P f) xs → (n : ℕ) → HasCount P xs n → n ≡ sum_by f xs
 count_is P f [] all n none = refl
 count_is P f (x ∷ xs) all (suc n) (counted p rest) =
@@ -22,6 +23,7 @@ count_is P f (x ∷ xs) all n (passed q rest) =
       | inr fails ↦ (let zero' = fails.1 in omega (arith, sum_by-cons f x xs, count_is P f xs (All-tail (Tells P f) x xs all) n rest))
     ]
 
+-- where a term tells of each element whether it has the property, as many have it as the terms add up to
 pub has_count : {X : Type 0} (P : X → Type 0) (f : X → ℕ) (xs : List X) → All (Tells P f) xs → HasCount P xs (sum_by f xs)
 has_count P f [] all = none
 has_count {X} P f (x ∷ xs) all =
@@ -35,6 +37,7 @@ has_count {X} P f (x ∷ xs) all =
           subst (λ (n : ℕ). HasCount P (x ∷ xs) n) (sym e) (passed fails.0 rest)
     ]
 
+-- no more elements have the property than there are
 pub count_low : {X : Type 0} (P : X → Type 0) (xs : List X) (n : ℕ) → HasCount P xs n → n ≤ length xs
 count_low P [] n none = omega arith
 count_low P (x ∷ xs) (suc n) (counted p rest) = omega (arith, count_low P xs n rest)

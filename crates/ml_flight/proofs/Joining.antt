@@ -29,6 +29,7 @@ pub record Joining (pieces : List Stay) (i : ℕ) (done : List Stay) (current : 
   pub last : All (λ a. IsApart a current) done
   pub begins : (k : ℕ) (d : Stay) → i ≤ k → k < length pieces → BeginsBy current (get_or pieces k d)
 
+-- at first no stay is done, and the current one is the first piece, which begins no later than any
 pub join_none : (pieces : List Stay) (first d : Stay) → 0 < length pieces → first ≡ get_or pieces 0 d → AllPairs BeginsBy pieces → Joining pieces 0 [] first
 join_none pieces first d some is sorted = record {
   done_sound = λ s any. absurd (any_none (λ a. HoldsScale a s) any);
@@ -100,5 +101,6 @@ join_scales pieces i done current so_far all s = (
   ],
 )
 
+-- no two of the stays that are done and the current one join
 pub join_apart : (pieces : List Stay) (i : ℕ) (done : List Stay) (current : Stay) → Joining pieces i done current → AreApart (done ++ current ∷ [])
 join_apart pieces i done current so_far = all_pairs_push IsApart done current so_far.apart (λ k e in'. so_far.last k e in')

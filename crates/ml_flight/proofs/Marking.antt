@@ -22,6 +22,7 @@ contained_flat {X} f (x ∷ xs) y h =
       | inr there ↦ any_there (λ (z : X). Contains (f z) y) x xs (contained_flat f xs y there)
     ]
 
+-- each element of a mapped list is the value of some element of the list
 pub contained_map : {X Y : Type 0} (f : X → Y) (xs : List X) (y : Y) → Contains (map f xs) y → Any (λ x. f x ≡ y) xs
 contained_map f [] y (k, lt, e) = absurd (omega arith)
 contained_map {X} f (x ∷ xs) y (zero, lt, e) = any_here (λ (z : X). f z ≡ y) x xs e
@@ -101,6 +102,7 @@ just_after all m =
 pub mark_of_from : (all : List (List Stay)) (i j : ℕ) (stays : List Stay) (d : Stay) → i < length all → stays ≡ get_or all i stays → j < length stays → IsMark all (value_of (get_or stays j d).from)
 mark_of_from all i j stays d lt e lt' = inr (i, stays, lt, sym e, any_of (IsEndOf (value_of (get_or stays j d).from)) stays j d lt' (inl refl))
 
+-- the upper end of a stay of some label is a mark, too
 pub mark_of_to : (all : List (List Stay)) (i j : ℕ) (stays : List Stay) (d : Stay) → i < length all → stays ≡ get_or all i stays → j < length stays → IsMark all (value_of (get_or stays j d).to)
 mark_of_to all i j stays d lt e lt' = inr (i, stays, lt, sym e, any_of (IsEndOf (value_of (get_or stays j d).to)) stays j d lt' (inr refl))
 

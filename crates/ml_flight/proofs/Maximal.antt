@@ -75,6 +75,7 @@ module _ (stays : List Stay) (apart : AreApart stays) where
             absurd (omega arith)
       ]
 
+  -- stays that ascend and do not join are the maximal intervals of any set that has just what they hold
   pub apart_maximal : (S : Fraction → Type 0) → ((s : Fraction) → S s ↔ HaveScale stays s) → AreMaximal S stays
   apart_maximal S same = record {
     ascending = λ j k d less lt. let b : Stay = get_or stays k d in before_most b.from_in (value_of b.from) (value_of (get_or stays j d).to) (apart j k d less lt);

@@ -190,6 +190,7 @@ maximal_same S stays others are those =
 
 -- ---- one timeline, one peak
 
+-- labels with their slots have one list of stays each in a window
 pub one_timeline : (labels : List Label) (slots : List Slot) (at : Window) (all others : List (List Stay)) → AreTimelines labels slots at all → AreTimelines labels slots at others → all ≡ others
 one_timeline labels slots at all others are those =
     let n = are.one_each in
@@ -201,6 +202,7 @@ one_timeline labels slots at all others are those =
     ∙ maximal_same (IsShownAt (get_or labels k e) (span_of (get_or labels k e) (get_or slots k no_slot)) at) (get_or all k []) (get_or others k []) (are.stays k e in') (those.stays k e in')
     ∙ get_or_default others k [] d (omega arith))
 
+-- stays have one peak: one count, at one place
 pub one_peak : (all : List (List Stay)) (peak other : Peak) → IsPeak all peak → IsPeak all other → peak ≡ other
 one_peak all p q one two =
     let low = two.greatest (value_of p.mark) p.after p.count one.place one.count in

@@ -20,10 +20,12 @@ abbrev pub IsOpen : Fraction → Bool → Stay → Type 0
 IsOpen m true stay = IsAtMost (value_of stay.from) m × IsLess m (value_of stay.to)
 IsOpen m false stay = HoldsScale stay m
 
+-- a stay is open at a place where its beginning does not lie after the place and its end lies above the mark
 pub open_of_place : (m : Fraction) (after : Bool) (stay : Stay) → UpTo m after (begin_of stay) → IsLess m (value_of stay.to) → IsOpen m after stay
 open_of_place m true stay h k = (h, k)
 open_of_place m false stay h k = (begun_of_place m (value_of stay.from) stay.from_in h, k)
 
+-- where a stay is open, its beginning does not lie after the place, and its end lies above the mark
 pub place_of_open : (m : Fraction) (after : Bool) (stay : Stay) → IsOpen m after stay → UpTo m after (begin_of stay) × IsLess m (value_of stay.to)
 place_of_open m true stay h = h
 place_of_open m false stay h = (place_of_begun m (value_of stay.from) stay.from_in h.0, h.1)
@@ -57,11 +59,13 @@ not_true : (b : Bool) → not b ≡ true → b ≡ false
 not_true true h = absurd (cc)
 not_true false h = refl
 
+-- a stay that passes the test is open at the place
 pub is_open_holds : (m : Fraction) (after : Bool) (stay : Stay) → is_open m after stay ≡ true → IsOpen m after stay
 is_open_holds m after stay h =
     let two = both_true (up_to m after (begin_of stay)) (not (is_ended m stay.to)) h in
     open_of_place m after stay (up_to_holds m after (begin_of stay) two.0) (not_ended_holds m stay (not_true (is_ended m stay.to) two.1))
 
+-- a stay that is open at the place passes the test
 pub is_open_test : (m : Fraction) (after : Bool) (stay : Stay) → IsOpen m after stay → is_open m after stay ≡ true
 is_open_test m after stay h =
     let two = place_of_open m after stay h in
@@ -79,6 +83,7 @@ balance_one m after stay =
 abbrev pub opens : Fraction → Bool → List (List Stay) → ℕ
 opens m after all = sum_by (λ stays. count_by (is_open m after) stays) all
 
+-- the stays that are open at a place, and those that have ended by its mark, are together all that have begun by it
 pub balance : (m : Fraction) (after : Bool) (all : List (List Stay)) → opens m after all + ended (ends_of all) m ≡ count_by (up_to m after) (begins_of all)
 balance m after all =
     let to = λ (stay : Stay). stay.to in
@@ -96,9 +101,11 @@ balance m after all =
 abbrev pub is_below : Fraction → Place → Bool
 is_below m p = nat_lt (p.mark.num * m.den) (m.num * p.mark.den)
 
+-- a place that passes the test has a mark below m
 pub below_holds : (m : Fraction) (p : Place) → is_below m p ≡ true → IsLess (value_of p.mark) m
 below_holds m p h = grind (arith, nat_tests)
 
+-- a place that has a mark below m passes the test
 pub below_test : (m : Fraction) (p : Place) → IsLess (value_of p.mark) m → is_below m p ≡ true
 below_test m p h = grind (arith, nat_tests)
 
@@ -129,6 +136,7 @@ not_two_open m false a b apart one two =
     let up : IsAtMost m (value_of a.to) = (let h : IsLess m (value_of a.to) = one.1 in omega arith) in
     not_both b.from_in (value_of b.from) (value_of a.to) apart (from_up b.from_in (value_of b.from) m (value_of a.to) two.0 up)
 
+-- of stays that do not join at most one is open at a place, so their number tells whether one is
 pub one_or_none : (m : Fraction) (after : Bool) (stays : List Stay) → AreApart stays → Tells (λ l. Any (IsOpen m after) l) (λ l. count_by (is_open m after) l) stays
 one_or_none m after [] apart = inr (any_none (IsOpen m after), refl)
 one_or_none m after (x ∷ xs) apart =

@@ -83,6 +83,7 @@ module _ (all : List (List Stay)) (begins : List Place) (ends : List Ratio) (apa
   pub has_opens : (m : Fraction) (after : Bool) → HasCount (λ l. Any (IsOpen m after) l) all (opens m after all)
   has_opens m after = has_count (λ l. Any (IsOpen m after) l) (λ l. count_by (is_open m after) l) all (tells m after)
 
+  -- the number of labels that are open at a place is the number of stays that are
   pub opens_only : (m : Fraction) (after : Bool) (n : ℕ) → HasCount (λ l. Any (IsOpen m after) l) all n → n ≡ opens m after all
   opens_only m after n h = count_is (λ l. Any (IsOpen m after) l) (λ l. count_by (is_open m after) l) all (tells m after) n h
 
@@ -97,6 +98,7 @@ module _ (all : List (List Stay)) (begins : List Place) (ends : List Ratio) (apa
       let p : Place = get_or begins k d in
       omega (arith, own_begun k d lt, sorted_balance (value_of p.mark) p.after)
 
+  -- at no beginning are more stays open than there are labels
   pub few_open : (k : ℕ) (d : Place) → k < length begins → open_at begins ends k d ≤ length all
   few_open k d lt =
       let p : Place = get_or begins k d in
@@ -235,6 +237,7 @@ module _ (all : List (List Stay)) (begins : List Place) (ends : List Ratio) (apa
             (let c = r.count d in omega arith)
       ]
 
+  -- what the sweep finds highest among the sorted beginnings is the peak of the stays
   pub is_peak : (peak : Peak) → IsHighest begins ends (length begins) peak → IsPeak all peak
   is_peak peak highest = record {
     place = place_of peak highest;

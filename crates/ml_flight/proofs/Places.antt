@@ -16,6 +16,7 @@ use Rattle.ml_flight.specs.declared.place.Place.{Place}
 abbrev pub place_cmp : Place → Place → Ordering
 place_cmp p q = ordering_then (nat_cmp (p.mark.num * q.mark.den) (q.mark.num * p.mark.den)) (bool_cmp p.after q.after)
 
+-- places are in a total order
 pub place_total : IsTotalOrder place_cmp
 place_total = then_total (on_total (λ (p : Place). p.mark) ratio_total) (on_total (λ (p : Place). p.after) bool_cmp_total)
 
@@ -28,10 +29,12 @@ abbrev pub UpTo : Fraction → Bool → Place → Type 0
 UpTo m true p = IsAtMost (value_of p.mark) m
 UpTo m false p = MatchBool p.after (IsLess (value_of p.mark) m) (IsAtMost (value_of p.mark) m)
 
+-- whether p does not lie after that place, as a test
 abbrev pub up_to : Fraction → Bool → Place → Bool
 up_to m true p = nat_le (p.mark.num * m.den) (m.num * p.mark.den)
 up_to m false p = if p.after then nat_lt (p.mark.num * m.den) (m.num * p.mark.den) else nat_le (p.mark.num * m.den) (m.num * p.mark.den)
 
+-- a place that passes the test does not lie after that one
 pub up_to_holds : (m : Fraction) (after : Bool) (p : Place) → up_to m after p ≡ true → UpTo m after p
 up_to_holds m true p h = grind (arith, nat_tests)
 up_to_holds m false p h = go p.after h
@@ -40,6 +43,7 @@ up_to_holds m false p h = go p.after h
     go true k = grind (arith, nat_tests)
     go false k = grind (arith, nat_tests)
 
+-- a place that does not lie after that one passes the test
 pub up_to_test : (m : Fraction) (after : Bool) (p : Place) → UpTo m after p → up_to m after p ≡ true
 up_to_test m true p h = grind (arith, nat_tests)
 up_to_test m false p h = go p.after h
@@ -48,6 +52,7 @@ up_to_test m false p h = go p.after h
     go true k = grind (arith, nat_tests)
     go false k = grind (arith, nat_tests)
 
+-- a place whose mark is below m lies neither after m nor after what is just after m
 pub up_to_above : (m : Fraction) (after : Bool) (p : Place) → IsLess (value_of p.mark) m → UpTo m after p
 up_to_above m true p h = omega arith
 up_to_above m false p h = go p.after
@@ -69,6 +74,7 @@ at_one true false f g m k same h = absurd (cc)
 at_one false true f g m k same h = at_most_trans f g m (omega arith) (omega arith)
 at_one false false f g m k same h = at_most_trans f g m (omega arith) h
 
+-- a place that does not lie after one at m has a mark of at most m
 pub up_to_at_most : (m : Fraction) (after : Bool) (p : Place) → UpTo m after p → IsAtMost (value_of p.mark) m
 up_to_at_most m true p h = h
 up_to_at_most m false p h = go p.after h
@@ -94,10 +100,12 @@ up_to_back p q m after order h =
 pub marks_rise : (p q : Place) → IsNotAfter p q → IsAtMost (value_of p.mark) (value_of q.mark)
 marks_rise p q order = up_to_back p q (value_of q.mark) true order (let h : IsAtMost (value_of q.mark) (value_of q.mark) = omega arith in h)
 
+-- a stay from f on has begun at m where its place, just after f if f is not counted in, is no later than m
 pub begun_of_place : (m f : Fraction) (b : Bool) → MatchBool (not b) (IsLess f m) (IsAtMost f m) → MatchBool b (IsAtMost f m) (IsLess f m)
 begun_of_place m f true h = h
 begun_of_place m f false h = h
 
+-- the place of a stay from f on that has begun at m, just after f if f is not counted in, is no later than m
 pub place_of_begun : (m f : Fraction) (b : Bool) → MatchBool b (IsAtMost f m) (IsLess f m) → MatchBool (not b) (IsLess f m) (IsAtMost f m)
 place_of_begun m f true h = h
 place_of_begun m f false h = h

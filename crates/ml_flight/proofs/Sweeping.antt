@@ -11,9 +11,11 @@ use Rattle.ml_flight.specs.Sweep.{is_ended, open_at, IsStart, IsHighest}
 use Rattle.ml_flight.specs.declared.place.Peak.{Peak}
 use Rattle.ml_flight.specs.declared.place.Place.{Place}
 
+-- an end that passes the test is at most m
 pub ended_at_most : (m : Fraction) (e : Ratio) → is_ended m e ≡ true → IsAtMost (value_of e) m
 ended_at_most m e h = grind (arith, nat_tests)
 
+-- an end of at most m passes the test
 pub at_most_ended : (m : Fraction) (e : Ratio) → IsAtMost (value_of e) m → is_ended m e ≡ true
 at_most_ended m e h = grind (arith, nat_tests)
 
@@ -25,9 +27,11 @@ ends_parted ends m order i j d le lt h =
       | inr more ↦ let e : i ≡ j = omega arith in rw e h
     ]
 
+-- of no places the peak is just after 0, where no stay is open
 pub highest_none : (begins : List Place) (ends : List Ratio) (best : Peak) → IsStart best → IsHighest begins ends 0 best
 highest_none begins ends best start = record { greatest = λ j d lt. absurd (omega arith); reached = inl start }
 
+-- the next place has no more open stays than the peak, which stays
 pub highest_keep : (begins : List Place) (ends : List Ratio) (k : ℕ) (best : Peak) → IsHighest begins ends k best → ((d : Place) → open_at begins ends k d ≤ best.count) → IsHighest begins ends (k + 1) best
 highest_keep begins ends k best so_far no_more = record {
   greatest = λ j d lt. elim (cases_lt j k) [
@@ -40,6 +44,7 @@ highest_keep begins ends k best so_far no_more = record {
   ];
 }
 
+-- the next place has more open stays than the peak, and becomes the peak
 pub highest_take : (begins : List Place) (ends : List Ratio) (k : ℕ) (best next : Peak) → IsHighest begins ends k best → best.count < next.count → ((d : Place) → next.count ≡ open_at begins ends k d) →
     ((d : Place) → next.mark ≡ (get_or begins k d).mark) → ((d : Place) → next.after ≡ (get_or begins k d).after) → IsHighest begins ends (k + 1) next
 highest_take begins ends k best next so_far more count mark after = record {

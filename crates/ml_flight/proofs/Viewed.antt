@@ -114,6 +114,7 @@ module _ (labels : List Label) (slots : List Slot) (at : Window) (all : List (Li
         (shown_by_view a span at view same).1 (((lines.stays i d lt).maximal k stay lt').within (value_of view.scale) within),
   )
 
+  -- a view through the window shows exactly the labels of which a stay holds its scale
   pub stays_tell : (i : ℕ) → i < length labels → Contains places i ↔ HaveScale (get_or all i []) (value_of view.scale)
   stays_tell i lt = (
     λ (k, lt', e).
@@ -124,6 +125,7 @@ module _ (labels : List Label) (slots : List Slot) (at : Window) (all : List (Li
         (found.0, found.1, get_or_default places found.0 i 0 found.1 ∙ found.2),
   )
 
+  -- no view through the window shows more labels than the most that have a stay at one scale
   pub no_more : (most : ℕ) → IsMost all most → length places ≤ most
   unfolding Held Ascending
   no_more most is_most =

@@ -9,10 +9,12 @@ use Rattle.ml_flight.specs.Shown.{BoxInWindow, IsInWindow, IsShownAt, IsShownBy}
 use Rattle.ml_flight.specs.Window.{IsViewThrough}
 use Rattle.ml_flight.specs.declared.window.Window.{Window}
 
+-- a label that is in the view is in its window at the view's scale
 pub in_view_in_window : (a : Label) (at : Window) (view : View) → IsViewThrough at view → IsInView a view → IsInWindow a at (value_of view.scale)
 unfolding BoxInView IsInView BoxInWindow IsInWindow
 in_view_in_window a at view same (k, p, lt, e, h) = (k, p, lt, e, rw (same.cx_is, same.cy_is, same.w_is, same.h_is) h)
 
+-- a label that is in the window at the view's scale is in the view
 pub in_window_in_view : (a : Label) (at : Window) (view : View) → IsViewThrough at view → IsInWindow a at (value_of view.scale) → IsInView a view
 unfolding BoxInView IsInView BoxInWindow IsInWindow
 in_window_in_view a at view same (k, p, lt, e, h) = (k, p, lt, e, rw (← same.cx_is, ← same.cy_is, ← same.w_is, ← same.h_is) h)

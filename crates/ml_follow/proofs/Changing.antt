@@ -55,6 +55,7 @@ module _ (labels : List Label) (slots : List Slot) (ordered : IsLabelList labels
   absent_or_there : (id : List ℕ) (a : Ranged) → IsNoId labels id → HasRanged labels slots id a → ⊥
   absent_or_there id a absent x = absent x.place (x.is_place, its_id id a x)
 
+  -- an id has one label with one active range, or none: two answers for one id are the same
   pub same_state : (id : List ℕ) (was is : Option Ranged) → IsStateOf labels slots id was → IsStateOf labels slots id is → was ≡ is
   same_state id None None x y = refl
   same_state id None (Some b) x y = absurd (absent_or_there id b x y)
@@ -74,6 +75,7 @@ module _ (old new : Listed) (listed : IsListed old) (listed_too : IsListed new) 
       let P : List ℕ → Type 0 = λ i. IsStateOf new.labels.now new.slots.now i h.is in
       same_state new.labels.now new.slots.now listed_too.ordered id h.is is (subst P same h.state_after) after
 
+  -- an id that has the same label and active range in both lists has no change
   pub no_change : was ≡ is → IsChangeOf old new id None
   no_change same c = ((λ e. absurd cc), (λ h. absurd (h.0.differ (was_only c h.0 h.1 ∙ same ∙ sym (is_only c h.0 h.1)))))
 
@@ -91,6 +93,7 @@ module _ (old new : Listed) (listed : IsListed old) (listed_too : IsListed new) 
         let afters : c.after ≡ other.after = span_after ∙ ap (option_map (λ (one : Ranged). one.span)) (sym (is_only other h same)) ∙ sym h.span_after in
         (λ i. record { id = ids i; before = befores i; after = afters i })
 
+    -- an id whose label or active range differs has one change, that from the old active range to the new one
     pub one_change : IsChangeOf old new id (Some c)
     one_change other = (
       (λ e. let same : c ≡ other = cc in (subst (IsChangeIn old new) same changes, sym (ap (λ (x : Change). x.id) same) ∙ own)),
@@ -100,12 +103,14 @@ module _ (old new : Listed) (listed : IsListed old) (listed_too : IsListed new) 
 -- ---- the changes of many ids
 
 module _ (old new : Listed) where
+  -- where a condition holds of no id, there are no changes among those that it holds of
   pub none_among : (P : List ℕ → Type 0) → ((id : List ℕ) → ¬ (P id)) → AreChangesAmong old new P []
   none_among P none = record {
     are = (λ c. ((λ h. let lt = h.1 in absurd (omega arith)), (λ h. absurd (none c.id h.1))));
     own = (λ i j d below within. absurd (omega (arith, within)));
   }
 
+  -- two conditions that hold of the same ids have the same changes
   pub same_among : (P Q : List ℕ → Type 0) (some : List Change) → ((id : List ℕ) → P id → Q id) → ((id : List ℕ) → Q id → P id) → AreChangesAmong old new P some → AreChangesAmong old new Q some
   same_among P Q some forth back at = record {
     are = (λ c. ((λ h. let x = (at.are c).0 h in (x.0, forth c.id x.1)), (λ h. (at.are c).1 (h.0, back c.id h.1))));
@@ -142,6 +147,7 @@ module _ (old new : Listed) where
         let own : x.id ≡ id = ((of x).0 refl).1 in
         unknown (subst P (same ∙ own) ((at.are (get_or before k d)).0 (Contains-get_or before k d lt)).1)))
 
+    -- with one more id, which was not among the others, its change comes in behind theirs
     pub more_among : (before after : List Change) → ¬ (P id) → AreChangesAmong old new P before → IsTakenIn old new id before after → AreChangesAmong old new (λ x. P x ⊎ (x ≡ id)) after
     more_among before after unknown at taken = record {
       are = more_are taken.0 before after at taken.1 taken.2;
@@ -153,16 +159,19 @@ module _ (old new : Listed) where
 no_ids : (id : List ℕ) → ¬ (HasId [] id)
 no_ids id h = let lt : h.0 < 0 = h.1.0 in omega (arith, lt)
 
+-- an id of the labels so far is one of those with a further label behind them
 pub has_front : (labels : List Label) (a : Label) (id : List ℕ) → HasId labels id → HasId (labels ++ a ∷ []) id
 has_front labels a id h =
     let n = length-append labels (a ∷ []) in
     (h.0, (omega (arith, h.1.0), λ d. ap (λ (l : Label). l.order.id) (get_or-append labels (a ∷ []) d h.0 h.1.0) ∙ h.1.1 d))
 
+-- the id of the label that comes in behind is one of the longer list
 pub has_last : (labels : List Label) (a : Label) (id : List ℕ) → id ≡ a.order.id → HasId (labels ++ a ∷ []) id
 has_last labels a id same =
     let n = length-append labels (a ∷ []) in
     (length labels, (omega arith, λ d. ap (λ (l : Label). l.order.id) (get_or_push labels a d (length labels) refl) ∙ sym same))
 
+-- an id of the longer list is that of a label before the last, or the last one's
 pub has_cases : (labels : List Label) (a : Label) (id : List ℕ) → HasId (labels ++ a ∷ []) id → HasId labels id ⊎ (id ≡ a.order.id)
 has_cases labels a id h = elim (cases_lt h.0 (length labels)) [
   | inl less ↦ inl (h.0, (less, λ d. ap (λ (l : Label). l.order.id) (sym (get_or-append labels (a ∷ []) d h.0 less)) ∙ h.1.1 d))
@@ -183,9 +192,11 @@ new_id labels k a ordered lt is h =
 -- ---- the changes of the new list's ids
 
 module _ (old new : Listed) (listed : IsListed new) where
+  -- before the first label of the new list no id has been asked for, so there are no changes
   pub new_start : AreChangesAmong old new (HasId (take 0 new.labels.now)) []
   new_start = none_among old new (HasId []) no_ids
 
+  -- no label before the next one of the new list has its id, so its change comes in behind theirs
   pub new_step : (k : ℕ) (a : Label) (before after : List Change) → k < length new.labels.now → get_or new.labels.now k a ≡ a → AreChangesAmong old new (HasId (take k new.labels.now)) before → IsTakenIn old new a.order.id before after → AreChangesAmong old new (HasId (take (k + 1) new.labels.now)) after
   new_step k a before after lt is at taken =
       let labels = new.labels.now in
@@ -200,6 +211,7 @@ module _ (old new : Listed) (listed : IsListed new) where
 -- ---- the changes of all ids
 
 module _ (old new : Listed) (listed : IsListed old) where
+  -- before the first label of the old list, the changes are those of the new list's ids
   pub all_start : (some : List Change) → AreChangesAmong old new (HasId new.labels.now) some → AreChangesAmong old new (λ id. HasId new.labels.now id ⊎ HasId (take 0 old.labels.now) id) some
   all_start some at = same_among old new (HasId new.labels.now) (λ id. HasId new.labels.now id ⊎ HasId [] id) some (λ id h. inl h) (λ id h. elim h [ inl known ↦ known | inr none ↦ absurd (no_ids id none) ]) at
 
@@ -221,6 +233,7 @@ module _ (old new : Listed) (listed : IsListed old) where
         let P : List Label → Type 0 = λ ls. AreChangesAmong old new (λ id. HasId new.labels.now id ⊎ HasId ls id) after in
         subst P (sym (take_more old.labels.now k a lt ∙ ap (λ (l : Label). take k old.labels.now ++ l ∷ []) is)) h
 
+    -- the change of the next old label comes in only where the new list lacks its id, so that none comes in twice
     pub all_step : (before after : List Change) → AreChangesAmong old new (λ id. HasId new.labels.now id ⊎ HasId (take k old.labels.now) id) before → IsTakenIfGone old new a.order.id before after → AreChangesAmong old new (λ id. HasId new.labels.now id ⊎ HasId (take (k + 1) old.labels.now) id) after
     all_step before after at taken = elim taken [
       | inl known ↦
@@ -240,6 +253,7 @@ changed_id old new id None None before after differ = absurd (differ refl)
 changed_id old new id (Some a) is before after differ = inr (before.place, (before.is_place, λ d. ap (λ (u : Unplaced). u.id) (before.its_label d) ∙ before.its_id))
 changed_id old new id None (Some b) before after differ = inl (after.place, (after.is_place, λ d. ap (λ (u : Unplaced). u.id) (after.its_label d) ∙ after.its_id))
 
+-- the changes of the ids of both lists, sorted by id, are all changes from the old state to the new one
 pub all_changes : (old new : Listed) (some sorted : List Change) → AreChangesAmong old new (λ id. HasId new.labels.now id ⊎ HasId old.labels.now id) some → ((c : Change) → Contains sorted c ↔ Contains some c) → IsStrictlySortedBy (slice_cmp nat_cmp) (map (λ (c : Change). c.id) sorted) → AreChanges old.labels.now old.slots.now new.labels.now new.slots.now sorted
 all_changes old new some sorted at same ascending = record {
   ascending = ascending;

@@ -31,6 +31,7 @@ front_of done more some =
     let e : length (done ++ more) - 1 ≡ length done + (length more - 1) = omega arith in
     ap (λ (k : ℕ). take k (done ++ more)) e ∙ take-append-add done more (length more - 1)
 
+-- before the first line nothing is read, and the whole file is to come
 pub file_start : (bytes : List ℕ) → FileSoFar bytes bytes 0 [] None
 file_start bytes = record { done = []; split = refl; many = refl; low = omega arith; read = read_none }
 
@@ -38,6 +39,7 @@ module _ (bytes rest line after : List ℕ) (number : ℕ) (states : List State)
   split_here : parts 10 bytes ≡ so_far.done ++ line ∷ parts 10 after
   split_here = so_far.split ∙ ap (λ (ps : List (List ℕ)). so_far.done ++ ps) next
 
+  -- with one more line taken, the lines up to it write what came of them, and the file goes on behind it
   pub file_more : (new : List State) (stands : Option Opened) → IsTaken line states last new stands → FileSoFar bytes after (number + 1) new stands
   file_more new stands taken =
       let m = so_far.many in
@@ -60,6 +62,7 @@ module _ (bytes rest line after : List ℕ) (number : ℕ) (states : List State)
       ∙ front_of so_far.done (line ∷ parts 10 after) more
       ∙ ap (λ (ls : List (List ℕ)). so_far.done ++ ls) (front_of (line ∷ []) (parts 10 after) some)
 
+  -- what is wrong with the next line is what is wrong with the file, under the number of that line
   pub file_fault : (fault : StateFault) → IsLineFault line last (number + 1) fault → IsStatesFault bytes fault
   file_fault Memory h = tt
   file_fault (BadState k) h =
@@ -94,12 +97,14 @@ module _ (bytes rest : List ℕ) (number : ℕ) (states : List State) (last : Op
   written_all : (l : Option Opened) → IsReadTo so_far.done states l → WriteUpTo (ended_lines bytes) states (unfinished l)
   written_all l read = subst (λ (ls : List (List ℕ)). WriteUpTo ls states (unfinished l)) (sym all_lines) read.written
 
+  -- a file that ends behind an LF and has no state unfinished writes the states that were read
   pub file_all : rest ≡ [] → last ≡ None → AreStates bytes states
   file_all none whole =
       let u : WriteUpTo so_far.done states None = subst (λ (l : Option Opened). WriteUpTo so_far.done states (unfinished l)) whole so_far.read.written in
       let same : so_far.done ≡ u.front = u.lines_are ∙ ap (λ (ls : List (List ℕ)). u.front ++ ls) u.begun ∙ append-nil u.front in
       record { ended = rest_is ∙ none; written = rw (all_lines ∙ same) u.whole }
 
+  -- a file that ends without LF, or within a state, is cut short at the number behind that of its last whole line
   pub file_cut : ((rest ≢ []) ⊎ (last ≢ None)) → IsStatesFault bytes (BadState (number + 1))
   file_cut cut = inr (record {
     number = ap (λ (n : ℕ). n + 1) (sym so_far.many ∙ ap length (sym all_lines));

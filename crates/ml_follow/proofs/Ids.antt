@@ -13,9 +13,11 @@ use Rattle.ml_cone.specs.declared.label.Label.{Label}
 use Rattle.ml_follow.specs.Reading.{HasIds}
 use Rattle.ml_follow.proofs.Changing.{has_front, has_last, has_cases}
 
+-- an id that the set has is that of a label that has come
 pub known_id : (labels : List Label) (taken : BTreeSet (List ℕ)) (id : List ℕ) (b : Bool) → HasIds labels taken → b ≡ contains_by (slice_cmp nat_cmp id) taken → b ≡ true → (j : ℕ) × IsPlaceOf labels id j
 known_id labels taken id b has e t = let h = has id in rw (sym e ∙ t) at h
 
+-- an id that the set lacks is that of no label so far
 pub new_id : (labels : List Label) (taken : BTreeSet (List ℕ)) (id : List ℕ) (b : Bool) → HasIds labels taken → b ≡ contains_by (slice_cmp nat_cmp id) taken → b ≡ false → IsNoId labels id
 new_id labels taken id b has e t = let h = has id in rw (sym e ∙ t) at h
 
@@ -30,6 +32,7 @@ module _ (labels : List Label) (label : Label) where
   by_old true id other h = has_front labels label id h
   by_old false id other h = still_new id h other
 
+  -- with the id of the next label put in, the set has the ids of all labels up to that one
   pub ids_more : (old new : BTreeSet (List ℕ)) → HasIds labels old → Updates (slice_cmp nat_cmp) old new label.order.id true → HasIds (labels ++ label ∷ []) new
   ids_more old new has updates id =
       let e : contains_by (slice_cmp nat_cmp id) new ≡ cond (bytes_eq id label.order.id) true (contains_by (slice_cmp nat_cmp id) old) =

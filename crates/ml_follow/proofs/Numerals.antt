@@ -24,17 +24,20 @@ digits_model = numerals_by_value (λ ds. all_ascii_digits ds ≡ true) tells_all
 three : (a b : ℕ) (t : Bool) (most : ℕ) → 0 < a → a ≤ most → t ≡ true → (nat_lt 0 a && (nat_le a most && t)) ≡ true
 three a b t most p q r = grind (arith, nat_tests)
 
+-- a number that has no more digits than are allowed is read back from its decimal text
 pub up_to_back : (most n : ℕ) → 0 < most → n < 10 ^ most → n < 2 ^ 64 → number_up_to most (decimal n) ≡ Some n
 up_to_back most n some low fits =
     let test : are_up_to most (decimal n) ≡ true = three (length (decimal n)) 0 (all_ascii_digits (decimal n)) most (decimal_nonempty n fits) (length-decimal-le most n some low fits) (digits_decimal digits_model n fits) in
     up_to_some most (decimal n) test ∙ ap Some (digits_value-decimal digits_model n fits)
 
+-- a number of at most ten digits is read back by the reader of numerals, which takes no sign
 pub numeral_back : (n : ℕ) → n < 10 ^ 10 → numeral (decimal n) ≡ Some n
 numeral_back n low =
     let fits : n < 2 ^ 64 = omega arith in
     let test : is_numeral (decimal n) ≡ true = three (length (decimal n)) 0 (all_ascii_digits (decimal n)) 10 (decimal_nonempty n fits) (length-decimal-le 10 n (omega arith) low fits) (digits_decimal digits_model n fits) in
     numeral_some (decimal n) test ∙ ap Some (digits_value-decimal digits_model n fits)
 
+-- a number of at most ten digits is read back with its sign
 pub whole_back : (z : ℤ) → IsSmall z → whole_number (signed_decimal z) ≡ Some z
 whole_back (pos n) h =
     whole_plain (decimal n) (λ rest e. let at = subst (Within 48 57) e (decimal_within n (omega arith)) in omega (arith, at.0))
@@ -49,6 +52,7 @@ slash_at xs ys none =
     (λ k lt. rw (get_or-append xs (47 ∷ ys) 0 k lt) (none k 0 lt))
     (λ lt. rw (get_or-append_seam xs 47 ys 0) refl)
 
+-- the text of a fraction in lowest terms reads as that fraction
 pub ratio_back : (r : Ratio) → ReadsRatio (ratio_text r) (Some r)
 ratio_back r =
     let low = r.low_num in

@@ -144,6 +144,7 @@ module _ (spelling : OneSpelling) (lists : OneList) where
       let whole : WriteUpTo (take (length lines) lines) two.states two.last = subst (λ (ls : List (List ℕ)). WriteUpTo ls two.states two.last) (sym (take_all (length lines) lines (omega arith))) two.before in
       not_before lines one.place (length lines) one.states two.states one.last two.last one.is_there one.is_there one.before whole one.faulty
 
+  -- a file is at fault at one number only, be it that of a bad line or that behind a file cut short
   pub one_fault : (bytes : List ℕ) (k j : ℕ) → IsStatesFault bytes (BadState k) → IsStatesFault bytes (BadState j) → k ≡ j
   one_fault bytes k j (inl one) (inl two) =
       elim (cases_order one.place two.place) [

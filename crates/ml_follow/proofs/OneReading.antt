@@ -37,6 +37,7 @@ equal_ratio a b e = ratio_exact a b (same_cmp (a.num * b.den) (b.num * a.den) e)
     same_cmp : (p q : ℕ) → p ≡ q → nat_cmp p q ≡ Equal
     same_cmp p q e = grind (arith, nat_tests)
 
+-- the first line of a state tells one revision and one number of labels
 pub head_same : (line : List ℕ) (r n s m : ℕ) → ReadsHead line r n → ReadsHead line s m → (r ≡ s) × (n ≡ m)
 head_same line r n s m one two =
     let e : one.word ∷ one.rev_word ∷ one.count_word ∷ [] ≡ two.word ∷ two.rev_word ∷ two.count_word ∷ [] = sym one.words ∙ two.words in
@@ -137,6 +138,7 @@ module _ (spelling : OneSpelling) (lists : OneList) where
       same_slots (a ∷ labels) slots rest e f all =
           same_lists slots rest f (λ k d lt. get_or_default slots k d no_slot lt ∙ all k a (omega arith) ∙ sym (get_or_default rest k d no_slot (omega arith)))
 
+  -- two states that one list of lines begins with are the same, and so are the lines behind them
   pub state_same : (front rest other more : List (List ℕ)) (a b : State) → front ++ rest ≡ other ++ more → WriteState front a → WriteState other b → (a ≡ b) × (rest ≡ more)
   state_same front rest other more a b same v w =
       let e : v.head ∷ (v.rows ++ rest) ≡ w.head ∷ (w.rows ++ more) = ap (λ (ls : List (List ℕ)). ls ++ rest) (sym v.lines_are) ∙ same ∙ ap (λ (ls : List (List ℕ)). ls ++ more) w.lines_are in
@@ -166,6 +168,7 @@ module _ (spelling : OneSpelling) (lists : OneList) where
       let rest = states_same w.1 states others (subst (λ (ls : List (List ℕ)). WriteStates ls states) same.1 v.4) w.4 in
       ap (λ (s : State). s ∷ states) same.0 ∙ ap (λ (ss : List State). b ∷ ss) rest
 
+  -- a file writes one list of states at most
   pub one_reading : (bytes : List ℕ) (states others : List State) → AreStates bytes states → AreStates bytes others → states ≡ others
   one_reading bytes states others v w = states_same (ended_lines bytes) states others v.written w.written
 
@@ -286,12 +289,14 @@ module _ (spelling : OneSpelling) (lists : OneList) where
       ∙ ap (λ (ls : List (List ℕ)). ls ++ line ∷ tail) u.lines_are ∙ append_assoc u.front u.back (line ∷ tail) in
       due_line states fault.states lines u.front u.back line tail fault.last is are.written u.whole u.begun fault.faulty
 
+  -- a file that writes states has no line at fault and is not cut short
   pub no_fault : (bytes : List ℕ) (states : List State) (k : ℕ) → AreStates bytes states → ¬ (IsStatesFault bytes (BadState k))
   no_fault bytes states k are fault = elim fault [
     | inl faulty ↦ faulty_line bytes k states are faulty
     | inr cut ↦ cut_short bytes k states are cut
   ]
 
+  -- a file that writes states is read as those, unless memory is wanting
   pub reads_from : (bytes : List ℕ) (r : Result (List State) StateFault) → IfOk r (λ states. AreStates bytes states) → IfErr r (λ fault. IsStatesFault bytes fault) → (states : List State) → AreStates bytes states → GivesStates r states
   reads_from bytes (Ok others) ok err states are = inl (ap Ok (one_reading bytes others states ok are))
   reads_from bytes (Err (BadState k)) ok err states are = absurd (no_fault bytes states k are err)

@@ -21,10 +21,12 @@ use Rattle.ml_follow.specs.declared.state.State.{State}
 
 -- ---- the lines of labels
 
+-- before the first line of a label there are no labels and no slots
 pub no_rows : (count : ℕ) (labels : List Label) (slots : List Slot) → labels ≡ [] → slots ≡ [] → WriteRows [] count labels slots
 no_rows count labels slots e f = rw (e, f) (record { one_label = refl; one_slot = refl; written = λ i d lt. absurd (omega arith); differ = λ i j d less lt. absurd (omega arith) })
 
 module _ (rows : List (List ℕ)) (count : ℕ) (labels : List Label) (slots : List Slot) (line : List ℕ) (label : Label) (slot : Slot) (w : WriteRows rows count labels slots) (row : ReadsRow line (length labels) count label slot) (new : IsNoId labels label.order.id) where
+  -- the line of the next label, whose id is new, adds that label and its slot
   pub rows_more : WriteRows (rows ++ line ∷ []) count (labels ++ label ∷ []) (slots ++ slot ∷ [])
   rows_more =
       let a = length-append rows (line ∷ []) in
@@ -98,6 +100,7 @@ rows_placed rows count (a ∷ labels) slots e w k d lt =
     let row = w.written k a (omega arith) in
     rw (get_or_default slots k d no_slot lt) (blocker_placed count row.blocker (a ∷ labels) (get_or slots k no_slot).blocker (sym e) row.write.its_slot.blocker_is)
 
+-- a state that has as many labels as its first line says can be offered: its ids differ, and its blockers are places in it
 pub state_good : (lines : List (List ℕ)) (count : ℕ) (state : State) → Begin lines count state → length state.labels ≡ count → IsGood state
 state_good lines count state b whole =
     let low = b.its_head.write.low_count in
@@ -211,10 +214,12 @@ closed_read lines states opened after (Some next) g o all closed =
       wanting = subst IsWanting same (o, closed.2);
     }
 
+-- with one more line taken, the lines write the states after it and what stands of the next one
 pub read_more : (lines : List (List ℕ)) (states : List State) (last : Option Opened) (line : List ℕ) (after : List State) (next : Option Opened) → IsReadTo lines states last → IsTaken line states last after next → IsReadTo (lines ++ line ∷ []) after next
 read_more lines states last line after next read taken =
     closed_read (lines ++ line ∷ []) states taken.opened after next (grown_lines lines states last line taken.opened read.written taken.grown) (grown_opened line last taken.opened read.wanting taken.grown) read.good taken.closed
 
+-- before the first line there is no state and no beginning of one
 pub read_none : IsReadTo [] [] None
 read_none = record {
   written = record { front = []; back = []; lines_are = refl; whole = refl; begun = refl };

@@ -355,6 +355,7 @@ module _ (visible : VisibleIds) where
       its_rows = the_rows;
     })
 
+    -- the text of a state is a file of one state, which has the same revision and slots, and labels that are alike
     pub text_reads_back : (state : State) × AreStates (state_text rev labels slots) (state ∷ []) × IsStateWith rev labels slots state
     text_reads_back =
         let lines = lines_of (state_text rev labels slots) (head_text rev (length labels) ∷ row_texts labels slots) all_parts in (

@@ -75,6 +75,7 @@ module _ (spelling : OneSpelling) (lists : OneList) (id x y min max margin : Lis
         low_margin = low_is;
       }
 
+  -- the label that the values make is the one that the words write; where they make none, the words write none
   pub label_from : (o : Option Label) → IsLabelOf order xv yv bs pieces minv maxv mv o → IsLabelAnswer id x y min max margin boxes place o
   label_from None h = λ label w. h (parts_of_label label w)
   label_from (Some label) h =
@@ -117,6 +118,7 @@ row_from line id x y min max margin until blocker boxes place count None text wo
 row_from line id x y min max margin until blocker boxes place count (Some row) text words h =
     record { is_text = text; id = id; x = x; y = y; min = min; max = max; margin = margin; until = until; blocker = blocker; boxes = boxes; words = words; write = h }
 
+-- the same where memory may run out: if an answer for words came, it is the answer for the line that they make
 pub row_result : {E : Type 0} (line id x y min max margin until blocker : List ℕ) (boxes : List (List ℕ)) (place count : ℕ) (r : Result (Option (Label × Slot)) E) → IsUtf8 line → parts 32 line ≡ id ∷ x ∷ y ∷ min ∷ max ∷ margin ∷ until ∷ blocker ∷ boxes → IfOk r (IsRowWritten id x y min max margin until blocker boxes place count) → IfOk r (IsRowAnswer line place count)
 row_result line id x y min max margin until blocker boxes place count (Ok answer) text words h = row_from line id x y min max margin until blocker boxes place count answer text words h
 row_result line id x y min max margin until blocker boxes place count (Err e) text words h = tt
@@ -133,12 +135,14 @@ eight_parts (a ∷ b ∷ c ∷ e ∷ f ∷ []) d k = absurd (omega arith)
 eight_parts (a ∷ b ∷ c ∷ e ∷ f ∷ g ∷ []) d k = absurd (omega arith)
 eight_parts (a ∷ b ∷ c ∷ e ∷ f ∷ g ∷ h ∷ []) d k = absurd (omega arith)
 
+-- the first eight of many words, each by its place, and those that are cut out behind them are all words
 pub eight_taken : (items : List (Bor (List ℕ))) (d : Bor (List ℕ)) → 8 ≤ length items → map (λ part. part.now) items ≡ (get_or items 0 d).now ∷ (get_or items 1 d).now ∷ (get_or items 2 d).now ∷ (get_or items 3 d).now ∷ (get_or items 4 d).now ∷ (get_or items 5 d).now ∷ (get_or items 6 d).now ∷ (get_or items 7 d).now ∷ map (λ part. part.now) (take (length items - 8) (drop 8 items))
 eight_taken items d k =
     let all : take (length items - 8) (drop 8 items) ≡ drop 8 items = take_all (length items - 8) (drop 8 items) (omega (arith, length-drop 8 items)) in
     eight_parts items d k
     ∙ ap (λ (t : List (Bor (List ℕ))). (get_or items 0 d).now ∷ (get_or items 1 d).now ∷ (get_or items 2 d).now ∷ (get_or items 3 d).now ∷ (get_or items 4 d).now ∷ (get_or items 5 d).now ∷ (get_or items 6 d).now ∷ (get_or items 7 d).now ∷ map (λ part. part.now) t) (sym all)
 
+-- a line of fewer than eight words is that of no label
 pub too_few : (line : List ℕ) (items : List (Bor (List ℕ))) (place count : ℕ) → parts 32 line ≡ map (λ part. part.now) items → length items < 8 → (label : Label) (slot : Slot) → ¬ (ReadsRow line place count label slot)
 too_few line items place count split few label slot row =
     let many : length (parts 32 line) ≡ length items = ap length split ∙ length-map items (λ (part : Bor (List ℕ)). part.now) in
@@ -162,5 +166,6 @@ longer_from spelling line old label slot (Ok None) row h =
     let ids = same_id spelling line (length old.state.labels) old.count label other slot its row next.row in
     next.new h.0 (subst (λ (id : List ℕ). IsPlaceOf old.state.labels id h.0) ids h.1)
 
+-- a line that is no label's at the next place is not that of the next label of the state
 pub no_next : (line : List ℕ) (old : Opened) → ((label : Label) (slot : Slot) → ¬ (ReadsRow line (length old.state.labels) old.count label slot)) → (label : Label) (slot : Slot) → ¬ (IsNextRow line (unfinished_of old) label slot)
 no_next line old none label slot next = none label slot next.row

@@ -106,6 +106,7 @@ sound_alike labels others slots h i lt sound = record {
 abbrev pub SoundSlots : Type 0
 SoundSlots = (labels : List Label) (slots : List Slot) → length slots ≡ length labels → ((i : ℕ) → i < length labels → IsSound labels slots i) ↔ AreSlots (λ j. j) labels slots
 
+-- slots that are the longest choice of some labels, with its blockers, are that of labels that are alike one by one
 pub best_alike : SoundSlots → (labels others : List Label) (slots : List Slot) → AreAllAlike labels others → AreSlots (λ j. j) labels slots → AreSlots (λ j. j) others slots
 best_alike law labels others slots h are =
     let n = h.one_each in

@@ -9,6 +9,7 @@ use Rattle.ml_cone.specs.declared.slot.Slot.{Slot}
 use Rattle.ml_watch.specs.Line.{id_text}
 use Rattle.ml_follow.specs.StateText.{joined, box_text, blocker_text, place_words, end_words, row_words, row_line, row_lines, head_line, begun_text}
 
+-- of four words joined by commas, each but the last has a comma behind it
 pub four_joined : (l b r t : List ℕ) → joined 44 (l ∷ b ∷ r ∷ t ∷ []) ≡ l ++ (44 ∷ (b ++ (44 ∷ (r ++ (44 ∷ t)))))
 four_joined l b r t = rw (append-nil t) refl
 
@@ -41,6 +42,7 @@ few_behind label slot =
     ∙ ap (λ (t : List ℕ). flat_map (λ (word : List ℕ). 32 ∷ word) (signed_decimal label.x ∷ signed_decimal label.y ∷ ratio_text label.min ∷ ratio_text label.max ∷ []) ++ t) (end_behind (decimal label.margin) (ratio_text slot.until) (blocker_text slot.blocker))
     ∙ sym (words_behind (signed_decimal label.x ∷ signed_decimal label.y ∷ ratio_text label.min ∷ ratio_text label.max ∷ []) (decimal label.margin ∷ ratio_text slot.until ∷ blocker_text slot.blocker ∷ []))
 
+-- the id, the other words, the boxes behind blanks and LF, as they are written, are the line of the label and its slot
 pub row_made : (label : Label) (slot : Slot) → ((id_text label.order.id ++ row_words label slot) ++ flat_map (λ (p : BoxPx). 32 ∷ box_text p) label.boxes) ++ codes "\n" ≡ row_line label slot
 row_made label slot =
     let boxes = flat_map (λ (p : BoxPx). 32 ∷ box_text p) label.boxes in
@@ -59,6 +61,7 @@ rows_push (a ∷ labels) (s ∷ slots) label slot e =
     ap (λ (t : List ℕ). row_line a s ++ t) (rows_push labels slots label slot (omega arith))
     ∙ sym (append_assoc (row_line a s) (row_lines labels slots) (row_line label slot))
 
+-- with a label's line written behind it, the text of the first labels is that of one label more
 pub begun_push : (rev count : ℕ) (labels : List Label) (slots : List Slot) (label : Label) (slot : Slot) (old new : List ℕ) → new ≡ old ++ row_line label slot → length slots ≡ length labels → old ≡ begun_text rev count labels slots → new ≡ begun_text rev count (labels ++ label ∷ []) (slots ++ slot ∷ [])
 begun_push rev count labels slots label slot old new e long begun =
     e ∙ ap (λ (t : List ℕ). t ++ row_line label slot) begun ∙ append_assoc (head_line rev count) (row_lines labels slots) (row_line label slot) ∙ ap (λ (t : List ℕ). head_line rev count ++ t) (sym (rows_push labels slots label slot long))

@@ -28,6 +28,7 @@ use Rattle.ml_gaps.proofs.Swept.{from_above}
 not_less : (m n : ℕ) → is_lt (nat_cmp m n) ≡ false → n ≤ m
 not_less m n h = grind (arith, nat_tests)
 
+-- of pieces that are sorted, each begins no later than those behind it
 pub sorted_pieces : (pieces : List Piece) → IsSortedBy (λ p q. is_lt (ratio_cmp p.from q.from)) pieces → AllPairs (λ p q. IsAtMost (value_of p.from) (value_of q.from)) pieces
 sorted_pieces pieces sorted i j d less lt =
     let p : Piece = get_or pieces i d in
@@ -48,6 +49,7 @@ begin_within a pieces within k d lt =
 clear_like : (a : Label) (K M : Fraction → Type 0) → ((s : Fraction) → M s → K s) → (f u : Fraction) → IsClearGap a K f u → IsClearGap a M f u
 clear_like a K M into f u gap = record { is_gap = gap.is_gap; clear = λ s active m. gap.clear s active (into s m) }
 
+-- the longest range that one set leaves clear is that for a set of the same fractions
 pub longest_like : (a : Label) (K M : Fraction → Type 0) → ((s : Fraction) → K s ↔ M s) → (f u : Fraction) → IsLongestOf a K f u → IsLongestOf a M f u
 longest_like a K M same f u best = record {
   is_clear = clear_like a K M (λ s m. (same s).1 m) f u best.is_clear;
@@ -57,12 +59,14 @@ longest_like a K M same f u best = record {
 
 -- ---- what the labels before block
 
+-- before the first label there are no pieces, and nothing blocks
 pub blocked_none : (a : Label) (labels : List Label) (gaps : List Gap) (pieces : List Piece) → pieces ≡ [] → (s : Fraction) → HaveScale pieces s ↔ IsBlockedBy a labels gaps 0 s
 blocked_none a labels gaps pieces empty s = (
   λ h. absurd (any_none (λ p. HoldsScale p s) (subst (λ (l : List Piece). HaveScale l s) empty h)),
   λ (j, b, g, lt, e, e', blocked). absurd (omega arith),
 )
 
+-- with the pieces at which the next label blocks, they hold all scales at which one of the labels up to it does
 pub blocked_more : (a : Label) (labels : List Label) (gaps : List Gap) (j most : ℕ) (old new : List Piece) (b : Label) (g : Gap) → b ≡ get_or labels j b → g ≡ get_or gaps j g → j < length labels → j < length gaps →
     AddsPieces (IsBlocked a b g) (IsPairPiece a b g) most old new → ((s : Fraction) → HaveScale old s ↔ IsBlockedBy a labels gaps j s) → (s : Fraction) → HaveScale new s ↔ IsBlockedBy a labels gaps (j + 1) s
 blocked_more a labels gaps j most old new b g at at' lt lt' adds so_far s = (forth, back)
@@ -134,6 +138,7 @@ module _ (labels : List Label) (gaps : List Gap) (i : ℕ) (a : Label) (own : (d
         free s blocked.0 active blocked.2 blocked.3;
   }
 
+  -- the longest range that is clear of what the labels before block is the longest free gap
   pub longest_free : (f u : Fraction) → IsLongestOf a (IsBlockedBy a labels gaps i) f u → IsLongestFree labels gaps i f u
   longest_free f u best = record {
     is_free = clear_free f u best.is_clear;
@@ -148,6 +153,7 @@ pub record Chosen (labels : List Label) (i : ℕ) (gaps : List Gap) : Type 0 whe
   pub one_each : length gaps ≡ i
   pub longest : (k : ℕ) (e : Gap) → k < i → IsLongestFree labels gaps k (value_of (get_or gaps k e).from) (value_of (get_or gaps k e).until)
 
+-- before the first label there is no gap
 pub chosen_none : (labels : List Label) (gaps : List Gap) → gaps ≡ [] → Chosen labels 0 gaps
 chosen_none labels gaps empty = record { one_each = rw empty refl; longest = λ k e lt. absurd (omega arith) }
 
@@ -164,6 +170,7 @@ longest_other labels gaps others k same f u best = record {
   first = λ g v gap e. best.first g v (free_other labels others gaps k (λ j e' less. sym (same j e' less)) g v gap) e;
 }
 
+-- with the longest free gap of the next label behind the others, the labels up to it have theirs
 pub chosen_more : (labels : List Label) (i : ℕ) (gaps : List Gap) (gap : Gap) → Chosen labels i gaps → IsLongestFree labels gaps i (value_of gap.from) (value_of gap.until) → Chosen labels (i + 1) (gaps ++ gap ∷ [])
 chosen_more labels i gaps gap so_far best = record {
   one_each = (let one = so_far.one_each in omega (arith, length-append gaps (gap ∷ [])));
@@ -184,6 +191,7 @@ chosen_more labels i gaps gap so_far best = record {
     kept : (j : ℕ) (e : Gap) → j < i → get_or gaps j e ≡ get_or (gaps ++ gap ∷ []) j e
     kept j e less = sym (get_or-append gaps (gap ∷ []) e j (let one = so_far.one_each in omega arith))
 
+-- once all labels have their longest free gaps, these are the gaps of the list
 pub chosen_all : (labels : List Label) (i : ℕ) (gaps : List Gap) → i ≡ length labels → Chosen labels i gaps → AreGaps labels gaps
 chosen_all labels i gaps e so_far = record {
   one_each = so_far.one_each ∙ e;

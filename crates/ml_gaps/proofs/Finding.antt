@@ -12,6 +12,7 @@ pub record FoundBelow (P : ℕ → Type 0) (i : ℕ) (places : List ℕ) : Type 
   pub below : (k : ℕ) → k < length places → slice_index places k < i
   pub whole : (j : ℕ) → j < i → P j → (k : ℕ) × (k < length places) × (slice_index places k ≡ j)
 
+-- below 0 there is no place to find
 pub found_none : (P : ℕ → Type 0) → FoundBelow P 0 []
 found_none P = record {
   ascending = λ k m less lt. absurd (omega arith);
@@ -20,6 +21,7 @@ found_none P = record {
   whole = λ j lt is. absurd (omega arith);
 }
 
+-- a place that lacks the property leaves the places found as they are
 pub found_skip : (P : ℕ → Type 0) (i : ℕ) (places : List ℕ) → FoundBelow P i places → ¬ (P i) → FoundBelow P (i + 1) places
 found_skip P i places so_far fails = record {
   ascending = so_far.ascending;
@@ -31,6 +33,7 @@ found_skip P i places so_far fails = record {
   ];
 }
 
+-- a place that has the property comes behind the places found
 pub found_more : (P : ℕ → Type 0) (i : ℕ) (places : List ℕ) → FoundBelow P i places → P i → FoundBelow P (i + 1) (places ++ i ∷ [])
 found_more P i places so_far here =
     let n : length (places ++ i ∷ []) ≡ length places + 1 = length-append places (i ∷ []) in

@@ -10,6 +10,7 @@ pub empty_length : (f u : Fraction) → IsAtMost u f → (length_of f u).num ≡
 unfolding length_of
 empty_length f u h = omega arith
 
+-- a range that ends above where it begins has a length above 0
 pub some_length : (f u : Fraction) → IsLess f u → 0 < (length_of f u).num
 unfolding length_of
 some_length f u h = omega arith

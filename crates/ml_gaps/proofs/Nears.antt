@@ -22,6 +22,7 @@ rounded_up n d some =
     let r = mod-lt (n + (d - 1)) some in
     omega arith
 
+-- a quotient rounded up is at most m where the numerator is at most m and the denominator above 0
 pub rounded_low : (n d m : ℕ) → 0 < d → n ≤ m → (n + (d - 1)) / d ≤ m
 rounded_low n d m some le =
     let q = (n + (d - 1)) / d in
@@ -45,6 +46,7 @@ pub apart_within : (a b : Label) (u v : Fraction) (p q m : ℕ) → u.num ≤ p 
 apart_within a b u v p q m one other (inl is) apart s first second over = apart s (subst (λ (k : ℕ). s.num * 1 ≤ k * s.den) (sym is) (below_last u s p one first)) over
 apart_within a b u v p q m one other (inr is) apart s first second over = apart s (subst (λ (k : ℕ). s.num * 1 ≤ k * s.den) (sym is) (below_last v s q other second)) over
 
+-- where the answer is yes, the labels are apart up to m
 pub apart_of : (a b : Label) (m : ℕ) (is : Bool) → is ≡ true → MatchBool is (AreApart a b m 1) (AreNear a b m 1) → AreApart a b m 1
 apart_of a b m true e h = h
 apart_of a b m false e h = absurd (cc)
@@ -55,6 +57,7 @@ wide_enough r last until le = let m = mul-le (2 * r) until.num (2 * r) (last * u
 
 -- ---- one label more
 
+-- before the first gap there is no site and no number
 pub nears_none : (labels : List Label) (gaps : List Gap) (nears : List Near) → gaps ≡ [] → nears ≡ [] → AreNears labels gaps nears
 nears_none labels gaps nears e f =
     let n = ap length e in
@@ -79,6 +82,7 @@ module _ (labels : List Label) (gaps : List Gap) (nears : List Near) (i : ℕ) (
             rw (get_or_push gaps gap g k (omega arith), get_or_push nears near f k (omega arith)) (subst (λ (c : Label). IsNearOf c (value_of gap.until) near) (its k b same) is)
       ]
 
+  -- with the next gap come its label's site and a number that is at least its end
   pub nears_more : IsNearOf a (value_of gap.until) near → AreNears labels (gaps ++ gap ∷ []) (nears ++ near ∷ [])
   nears_more is =
       let n = so_far.one_each in

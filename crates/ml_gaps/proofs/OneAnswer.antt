@@ -77,6 +77,7 @@ first_same labels gaps others are those (suc n) i e less lt =
     one_gap labels gaps others i (λ j u before. first_same labels gaps others are those n j u (omega arith) (omega arith)) (pick labels i lt) (get_or gaps i e) (get_or others i e)
     (are.longest i e lt) (those.longest i e lt)
 
+-- labels have one list of gaps in which each is the longest free one and begins first of those as long
 pub one_answer : (labels : List Label) (gaps others : List Gap) → AreGaps labels gaps → AreGaps labels others → gaps ≡ others
 one_answer labels gaps others are those =
     let n = are.one_each in

@@ -98,6 +98,7 @@ one_piece a b same =
     (λ h. ((same (value_of a.from)).1 (subst (λ (r : Ratio). IsFrom b.from_in (value_of r) (value_of a.from)) from h, subst (λ (r : Ratio). IsLess (value_of a.from) (value_of r)) to some)).0) in
     piece_same a b from begin to
 
+-- sets have one list of pieces, in order
 pub one_cutting : {X : Type 0} (S : X → Fraction → Type 0) (xs : List X) (ps qs : List Piece) → ArePiecesOf S xs ps → ArePiecesOf S xs qs → ps ≡ qs
 one_cutting S [] [] [] none none = refl
 one_cutting S [] (a ∷ ps) qs wrong those = elim wrong [ ]

@@ -13,18 +13,21 @@ use Rattle.ml_gaps.specs.Piece.{HoldsScale, HaveScale}
 use Rattle.ml_gaps.specs.declared.piece.Piece.{Piece}
 use Rattle.ml_ratio.proofs.lemmas.Anys.{any_none, any_here, any_there, any_cases, any_left, any_right, any_either}
 
+-- the pieces of some sets, and behind them those of others, are the pieces of all of them
 pub pieces_both : {X : Type 0} (S : X → Fraction → Type 0) (xs ys : List X) (ps qs : List Piece) → ArePiecesOf S xs ps → ArePiecesOf S ys qs → ArePiecesOf S (xs ++ ys) (ps ++ qs)
 pieces_both S [] ys [] qs none those = those
 pieces_both S [] ys (a ∷ ps) qs wrong those = elim wrong [ ]
 pieces_both S (x ∷ xs) ys (a ∷ ps) qs (piece holds rest) those = piece holds (pieces_both S xs ys ps qs rest those)
 pieces_both S (x ∷ xs) ys ps qs (passed empty rest) those = passed empty (pieces_both S xs ys ps qs rest those)
 
+-- sets with the same fractions have the same pieces
 pub pieces_like : {X : Type 0} (S T : X → Fraction → Type 0) (xs : List X) (ps : List Piece) → ((x : X) (s : Fraction) → S x s ↔ T x s) → ArePiecesOf S xs ps → ArePiecesOf T xs ps
 pieces_like S T [] [] same none = none
 pieces_like S T [] (a ∷ ps) same wrong = elim wrong [ ]
 pieces_like S T (x ∷ xs) (a ∷ ps) same (piece holds rest) = piece (λ s. (λ h. (same x s).0 ((holds s).0 h), λ h. (holds s).1 ((same x s).1 h))) (pieces_like S T xs ps same rest)
 pieces_like S T (x ∷ xs) ps same (passed empty rest) = passed (λ s h. empty s ((same x s).1 h)) (pieces_like S T xs ps same rest)
 
+-- the pieces of the sets that things have by way of a map are those of the mapped things
 pub pieces_map : {X Y : Type 0} (S : Y → Fraction → Type 0) (f : X → Y) (xs : List X) (ps : List Piece) → ArePiecesOf (λ x. S (f x)) xs ps → ArePiecesOf S (map f xs) ps
 pieces_map S f [] [] none = none
 pieces_map S f [] (a ∷ ps) wrong = elim wrong [ ]
@@ -60,6 +63,7 @@ pieces_have {X} S (x ∷ xs) ps (passed empty rest) s =
       ],
     )
 
+-- there are no more pieces than sets
 pub pieces_few : {X : Type 0} (S : X → Fraction → Type 0) (xs : List X) (ps : List Piece) → ArePiecesOf S xs ps → length ps ≤ length xs
 pieces_few S [] [] none = omega arith
 pieces_few S [] (a ∷ ps) wrong = elim wrong [ ]
@@ -78,12 +82,15 @@ pieces_each S (x ∷ xs) ps (passed empty rest) =
 
 -- ---- pieces that are appended
 
+-- where there is no set, no piece is appended
 pub none_added : {X : Type 0} (S : X → Fraction → Type 0) (old : List Piece) → AddsPiecesOf S [] old old
 none_added S old = record { added = []; appended = sym (append-nil old); in_order = none }
 
+-- where none of the sets has a fraction, no piece is appended
 pub nothing_added : {X : Type 0} (S : X → Fraction → Type 0) (xs : List X) (old : List Piece) → ((s : Fraction) → ¬ (Any (λ x. S x s) xs)) → AddsPiecesOf S xs old old
 nothing_added S xs old empty = record { added = []; appended = sym (append-nil old); in_order = pieces_none S xs empty }
 
+-- the pieces of some sets, and then those of others, were appended: those of all of them
 pub both_added : {X : Type 0} (S : X → Fraction → Type 0) (xs ys : List X) (old mid new : List Piece) → AddsPiecesOf S xs old mid → AddsPiecesOf S ys mid new → AddsPiecesOf S (xs ++ ys) old new
 both_added S xs ys old mid new one two = record {
   added = one.added ++ two.added;
@@ -91,15 +98,19 @@ both_added S xs ys old mid new one two = record {
   in_order = pieces_both S xs ys one.added two.added one.in_order two.in_order;
 }
 
+-- a further set that has a fraction adds one piece, which is the set
 pub one_added : {X : Type 0} (S : X → Fraction → Type 0) (xs : List X) (x : X) (old mid new : List Piece) (a : Piece) → AddsPiecesOf S xs old mid → new ≡ mid ++ a ∷ [] → ((s : Fraction) → HoldsScale a s ↔ S x s) → AddsPiecesOf S (xs ++ x ∷ []) old new
 one_added S xs x old mid new a adds is holds = both_added S xs (x ∷ []) old mid new adds (record { added = a ∷ []; appended = is; in_order = piece holds none })
 
+-- a further set that has no fraction adds no piece
 pub one_passed : {X : Type 0} (S : X → Fraction → Type 0) (xs : List X) (x : X) (old mid new : List Piece) → AddsPiecesOf S xs old mid → new ≡ mid → ((s : Fraction) → ¬ (S x s)) → AddsPiecesOf S (xs ++ x ∷ []) old new
 one_passed S xs x old mid new adds is empty = both_added S xs (x ∷ []) old mid new adds (record { added = []; appended = is ∙ sym (append-nil mid); in_order = passed empty none })
 
+-- what was appended for things by way of a map was appended for the mapped things
 pub map_added : {X Y : Type 0} (S : Y → Fraction → Type 0) (f : X → Y) (xs : List X) (old new : List Piece) → AddsPiecesOf (λ x. S (f x)) xs old new → AddsPiecesOf S (map f xs) old new
 map_added S f xs old new adds = record { added = adds.added; appended = adds.appended; in_order = pieces_map S f xs adds.added adds.in_order }
 
+-- what was appended for some sets was appended for sets with the same fractions
 pub like_added : {X : Type 0} (S T : X → Fraction → Type 0) (xs : List X) (old new : List Piece) → ((x : X) (s : Fraction) → S x s ↔ T x s) → AddsPiecesOf S xs old new → AddsPiecesOf T xs old new
 like_added S T xs old new same adds = record { added = adds.added; appended = adds.appended; in_order = pieces_like S T xs adds.added same adds.in_order }
 
@@ -120,6 +131,7 @@ any_with P p (q ∷ others) =
       ],
     )
 
+-- some pair of boxes has a property where some box of the one list has it with some box of the other
 pub any_pair : (P : BoxPx × BoxPx → Type 0) (boxes others : List BoxPx) → Any P (pairs_from boxes others) ↔ Any (λ p. Any (λ q. P (p, q)) others) boxes
 any_pair P [] others = (λ h. absurd (any_none P h), λ h. absurd (any_none (λ p. Any (λ q. P (p, q)) others) h))
 any_pair P (p ∷ boxes) others =
@@ -139,6 +151,7 @@ length_with : (p : BoxPx) (others : List BoxPx) → length (pairs_with others p)
 length_with p [] = refl
 length_with p (q ∷ others) = ap suc (length_with p others)
 
+-- there are as many pairs as boxes of the one list times boxes of the other
 pub length_pairs : (boxes others : List BoxPx) → length (pairs_from boxes others) ≡ length boxes * length others
 length_pairs [] others = omega arith
 length_pairs (p ∷ boxes) others =

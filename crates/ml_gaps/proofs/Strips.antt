@@ -105,6 +105,7 @@ module _ (a : Label) (labels : List Label) (gaps : List Gap) (strips : List Stri
 
 -- ---- the strips, one label after another
 
+-- before the first gap there are no strips
 pub strips_none : (axis : Axis) (a : Label) (labels : List Label) (gaps : List Gap) (strips : List Strip) → gaps ≡ [] → strips ≡ [] → AreStrips axis a labels gaps strips
 strips_none axis a labels gaps strips e f =
     let n = ap length e in
@@ -115,6 +116,7 @@ strips_none axis a labels gaps strips e f =
     }
 
 module _ (axis : Axis) (a : Label) (labels : List Label) (gaps : List Gap) (strips : List Strip) (so_far : AreStrips axis a labels gaps strips) (gap : Gap) where
+  -- the gaps with this one behind them
   abbrev pub more : List Gap
   more = gaps ++ gap ∷ []
 

@@ -22,6 +22,7 @@ from_least : (b : Bool) (f s : Fraction) → MatchBool b (IsAtMost f s) (IsLess 
 from_least true f s h = h
 from_least false f s h = omega arith
 
+-- what lies above a piece's lower end lies from there on, whether that end is counted in or not
 pub from_above : (b : Bool) (f s : Fraction) → IsLess f s → MatchBool b (IsAtMost f s) (IsLess f s)
 from_above true f s h = omega arith
 from_above false f s h = h
@@ -64,6 +65,7 @@ pub record Swept (a : Label) (pieces : List Piece) (i : ℕ) (reach : Ratio) (be
   pub start : IsAtMost (value_of best.from) (value_of a.min) ⊎ IsLess (value_of best.from) (value_of best.until)
   pub others : (f u : Fraction) → IsClearGap a (HaveScale pieces) f u → IsLess f u → IsAtMost (value_of reach) f ⊎ IsNoBetter f u best
 
+-- before the first piece the best gap is the empty one at the label's minimum, and all lies ahead
 pub swept_none : (a : Label) (pieces : List Piece) (reach : Ratio) (best : Gap) → reach ≡ a.min → best.from ≡ a.min → best.until ≡ a.min → Swept a pieces 0 reach best
 swept_none a pieces reach best is from until = record {
   low = rw is (omega arith);
@@ -86,6 +88,7 @@ Outcome best reach u next =
     (IsLess (gap_length best) (length_of (value_of reach) (value_of u)) × (next ≡ record { from = reach; until = u }))
     ⊎ (IsAtMost (length_of (value_of reach) (value_of u)) (gap_length best) × (next ≡ best))
 
+-- the range becomes the best gap where it is longer, and else the best gap stays
 pub outcome : (best : Gap) (reach u : Ratio) (next : Gap) → (IsLess (gap_length best) (length_of (value_of reach) (value_of u)) → (next.from ≡ reach) × (next.until ≡ u)) →
     (IsAtMost (length_of (value_of reach) (value_of u)) (gap_length best) → next ≡ best) → Outcome best reach u next
 outcome best reach u next longer kept =
@@ -126,14 +129,17 @@ module _ (a : Label) (pieces : List Piece) (i : ℕ) (reach : Ratio) (best : Gap
         ];
   }
 
+  -- the gap that comes of it is clear of all pieces
   pub next_clear : (next : Gap) → Outcome best reach u next → IsClearGap a (HaveScale pieces) (value_of next.from) (value_of next.until)
   next_clear next (inl (longer, e)) = subst (λ (g : Gap). IsClearGap a (HaveScale pieces) (value_of g.from) (value_of g.until)) (sym e) (here_clear (has_room longer))
   next_clear next (inr (most, e)) = subst (λ (g : Gap). IsClearGap a (HaveScale pieces) (value_of g.from) (value_of g.until)) (sym e) so_far.clear
 
+  -- the gap that comes of it begins no later than at `reach`
   pub next_behind : (next : Gap) → Outcome best reach u next → IsAtMost (value_of next.from) (value_of reach)
   next_behind next (inl (longer, e)) = subst (λ (g : Gap). IsAtMost (value_of g.from) (value_of reach)) (sym e) (let h : IsAtMost (value_of reach) (value_of reach) = omega arith in h)
   next_behind next (inr (most, e)) = subst (λ (g : Gap). IsAtMost (value_of g.from) (value_of reach)) (sym e) so_far.behind
 
+  -- the gap that comes of it begins no later than the label's minimum, or is longer than 0
   pub next_start : (next : Gap) → Outcome best reach u next → IsAtMost (value_of next.from) (value_of a.min) ⊎ IsLess (value_of next.from) (value_of next.until)
   next_start next (inl (longer, e)) = subst (λ (g : Gap). IsAtMost (value_of g.from) (value_of a.min) ⊎ IsLess (value_of g.from) (value_of g.until)) (sym e) (inr (has_room longer))
   next_start next (inr (most, e)) = subst (λ (g : Gap). IsAtMost (value_of g.from) (value_of a.min) ⊎ IsLess (value_of g.from) (value_of g.until)) (sym e) so_far.start

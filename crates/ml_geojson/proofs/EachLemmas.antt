@@ -15,6 +15,7 @@ abbrev pub behind : {X : Type 0} → List X → Reading (List X) → Reading (Li
 behind xs reading = then_made (λ ys. xs ++ ys) reading
 
 module _ {X : Type 0} where
+  -- what is read behind no values is just what is read
   pub behind_none : (reading : Reading (List X)) → reading ≡ behind [] reading
   behind_none (Ok ys) = refl
   behind_none (Err fault) = refl
@@ -66,6 +67,7 @@ module _ {A B : Type 0} (view : A → B) where
   filled_seen [] = refl
   filled_seen (y ∷ x) = refl
 
+  -- it is the same whether a further part, unless it is empty, comes in before or after the parts are seen so
   pub filled_view : (xs : List (List A)) (x : List A) → map (map view) (xs ++ filled (x ∷ [])) ≡ map (map view) xs ++ filled (map view x ∷ [])
   filled_view xs x = map-append (map view) xs (filled (x ∷ [])) ∙ ap (λ ys. map (map view) xs ++ ys) (filled_seen x)
 

@@ -119,9 +119,11 @@ module _ {X Y : Type 0} (IsAnswer : Result X GeoFault → Reading Y → Type 0) 
     | inr e ↦ inr (subst (λ (f : Result Lent JsonFault). IsAnswerTo IsAnswer read f answer) e from)
   ]
 
+  -- where the bytes cease to be JSON at a byte, the answer says so, or that memory is wanting
   pub not_json_due : (at : ℕ) → IsNotJson bytes at → IsDue answer (NotJson at)
   not_json_due at fact = text_due (json.NotJson at) ((reads.not_json at).1 fact)
 
+  -- where the bytes open a 65th list or map at a byte, the answer says so, or that memory is wanting
   pub deep_due : (at : ℕ) → IsDeep bytes at → IsDue answer (Deep at)
   deep_due at fact = text_due (json.Deep at) ((reads.deep at).1 fact)
 
@@ -132,6 +134,7 @@ module _ {X Y : Type 0} (IsAnswer : Result X GeoFault → Reading Y → Type 0) 
   on_tree P tree (Err (json.Deep at)) same h due memory = absurd same
   on_tree P tree (Err json.Memory) same h due memory = subst P (sym h) memory
 
+  -- the same of bytes that are the text of the tree
   pub by_tree : (P : Result X GeoFault → Type 0) (tree : Tree) → IsText bytes tree → (IsAnswer answer (read tree) → P answer) → P (Err Memory) → P answer
   by_tree P tree text due memory = on_tree P tree found (reads.text tree text) from due memory
 
@@ -147,24 +150,31 @@ module _ (bytes : List ℕ) (found : Result Lent JsonFault) (reads : ReadsText b
   pub map_reads : (features : List Feature) → IsMap bytes features → GivesMap answer features
   map_reads features is = by_tree AreRead collection bytes found reads answer from (λ a. GivesMap a features) is.tree is.text (λ h. map_given answer features (collection is.tree) is.parts is.reads is.made h) tt
 
+  -- a map file is refused as no JSON at a byte exactly where its bytes cease to be JSON there
   pub map_not_json : (at : ℕ) → RefusesExactly answer (NotJson at) Memory (IsNotJson bytes at)
   map_not_json at = exactly answer (IsMapFault bytes) (NotJson at) cause (not_json_due AreRead collection bytes found reads answer from at)
 
+  -- a map file is refused as too deep at a byte exactly where it opens a 65th list or map there
   pub map_deep : (at : ℕ) → RefusesExactly answer (Deep at) Memory (IsDeep bytes at)
   map_deep at = exactly answer (IsMapFault bytes) (Deep at) cause (deep_due AreRead collection bytes found reads answer from at)
 
+  -- a map file is refused as no collection exactly where it is neither a collection of features nor a feature
   pub map_not_collection : RefusesExactly answer NotCollection Memory (IsMapFault bytes NotCollection)
   map_not_collection = exactly answer (IsMapFault bytes) NotCollection cause (of_tree NotCollection)
 
+  -- a map file is refused for item k as no feature exactly where this is its first fault
   pub map_not_feature : (k : ℕ) → RefusesExactly answer (NotFeature k) Memory (IsMapFault bytes (NotFeature k))
   map_not_feature k = exactly answer (IsMapFault bytes) (NotFeature k) cause (of_tree (NotFeature k))
 
+  -- a map file is refused for the geometry of feature k exactly where this is its first fault
   pub map_bad_geometry : (k : ℕ) → RefusesExactly answer (BadGeometry k) Memory (IsMapFault bytes (BadGeometry k))
   map_bad_geometry k = exactly answer (IsMapFault bytes) (BadGeometry k) cause (of_tree (BadGeometry k))
 
+  -- a map file is refused for a position of feature k outside of the world exactly where this is its first fault
   pub map_out_of_range : (k : ℕ) → RefusesExactly answer (OutOfRange k) Memory (IsMapFault bytes (OutOfRange k))
   map_out_of_range k = exactly answer (IsMapFault bytes) (OutOfRange k) cause (of_tree (OutOfRange k))
 
+  -- a map file is refused for a short ring of feature k exactly where this is its first fault
   pub map_short_ring : (k : ℕ) → RefusesExactly answer (ShortRing k) Memory (IsMapFault bytes (ShortRing k))
   map_short_ring k = exactly answer (IsMapFault bytes) (ShortRing k) cause (of_tree (ShortRing k))
 
@@ -179,23 +189,30 @@ module _ (bytes : List ℕ) (found : Result Lent JsonFault) (reads : ReadsText b
   pub feature_reads : (one : Feature) → IsFeature bytes one → GivesFeature answer one
   feature_reads one is = by_tree IsRead (feature 0) bytes found reads answer from (λ a. GivesFeature a one) is.tree is.text (λ h. feature_given answer one (feature 0 is.tree) is.parts is.reads is.named is.made h) tt
 
+  -- the text of one feature is refused as no JSON at a byte exactly where its bytes cease to be JSON there
   pub feature_not_json : (at : ℕ) → RefusesExactly answer (NotJson at) Memory (IsNotJson bytes at)
   feature_not_json at = exactly answer (IsFeatureFault bytes) (NotJson at) cause (not_json_due IsRead (feature 0) bytes found reads answer from at)
 
+  -- the text of one feature is refused as too deep at a byte exactly where it opens a 65th list or map there
   pub feature_deep : (at : ℕ) → RefusesExactly answer (Deep at) Memory (IsDeep bytes at)
   feature_deep at = exactly answer (IsFeatureFault bytes) (Deep at) cause (deep_due IsRead (feature 0) bytes found reads answer from at)
 
+  -- the text of one feature is refused as no feature exactly where it is none
   pub feature_not_feature : (k : ℕ) → RefusesExactly answer (NotFeature k) Memory (IsFeatureFault bytes (NotFeature k))
   feature_not_feature k = exactly answer (IsFeatureFault bytes) (NotFeature k) cause (of_tree_1 (NotFeature k))
 
+  -- the text of one feature is refused for its geometry exactly where this is its first fault
   pub feature_bad_geometry : (k : ℕ) → RefusesExactly answer (BadGeometry k) Memory (IsFeatureFault bytes (BadGeometry k))
   feature_bad_geometry k = exactly answer (IsFeatureFault bytes) (BadGeometry k) cause (of_tree_1 (BadGeometry k))
 
+  -- the text of one feature is refused for a position outside of the world exactly where this is its first fault
   pub feature_out_of_range : (k : ℕ) → RefusesExactly answer (OutOfRange k) Memory (IsFeatureFault bytes (OutOfRange k))
   feature_out_of_range k = exactly answer (IsFeatureFault bytes) (OutOfRange k) cause (of_tree_1 (OutOfRange k))
 
+  -- the text of one feature is refused for a short ring exactly where this is its first fault
   pub feature_short_ring : (k : ℕ) → RefusesExactly answer (ShortRing k) Memory (IsFeatureFault bytes (ShortRing k))
   feature_short_ring k = exactly answer (IsFeatureFault bytes) (ShortRing k) cause (of_tree_1 (ShortRing k))
 
+  -- the text of one feature is refused for want of an id exactly where it is a feature without one
   pub feature_no_id : RefusesExactly answer NoId Memory (HasNoId bytes)
   feature_no_id = exactly answer (IsFeatureFault bytes) NoId cause of_no_id

@@ -28,6 +28,7 @@ read_refused tree NoId h = absurd (subst Kept h (kept_feature 0 tree))
 read_refused tree Memory h = tt
 
 module _ (bytes : List ℕ) (tree : Tree) (text : IsText bytes tree) where
+  -- why a tree is refused as one feature is why its bytes are no feature with an id
   pub feature_refused : (fault : GeoFault) → IsRead (Err fault) (feature 0 tree) → IsFeatureFault bytes fault
   feature_refused (NotJson at) h = absurd (subst Kept h (kept_feature 0 tree))
   feature_refused (Deep at) h = absurd (subst Kept h (kept_feature 0 tree))
@@ -39,6 +40,7 @@ module _ (bytes : List ℕ) (tree : Tree) (text : IsText bytes tree) where
   feature_refused NoId h = record { tree = tree; text = text; parts = h.0; reads = h.1; unnamed = h.2 }
   feature_refused Memory h = tt
 
+  -- why a tree is refused as a map file is why its bytes are none
   pub map_refused : (fault : GeoFault) → Refuses fault (collection tree) → IsMapFault bytes fault
   map_refused (NotJson at) h = absurd (subst KeptMap h (kept_collection tree))
   map_refused (Deep at) h = absurd (subst KeptMap h (kept_collection tree))
@@ -56,17 +58,20 @@ module _ (bytes : List ℕ) (tree : Tree) (text : IsText bytes tree) where
   map_answered (Ok features) h = tt
   map_answered (Err fault) h = map_refused bytes tree text fault h
 
+  -- an answer's refusal, where one feature is asked for, is why the bytes are none with an id
   pub feature_answered : (answer : Result Feature GeoFault) → IsRead answer (feature 0 tree) → IfErr answer (IsFeatureFault bytes)
   feature_answered (Ok one) h = tt
   feature_answered (Err fault) h = feature_refused bytes tree text fault h
 
 -- the refusal of the text
 module _ (bytes : List ℕ) (result : Result Lent JsonFault) (not_json : (at : ℕ) → RefusesExactly result (json.NotJson at) json.Memory (IsNotJson bytes at)) (deep : (at : ℕ) → RefusesExactly result (json.Deep at) json.Memory (IsDeep bytes at)) where
+  -- why the text is no JSON, or is too deep, is why the bytes are no map file
   pub text_refused_map : (fault : JsonFault) → result ≡ Err fault → IsMapFault bytes (fault_of fault)
   text_refused_map (json.NotJson at) e = (not_json at).0 e
   text_refused_map (json.Deep at) e = (deep at).0 e
   text_refused_map json.Memory e = tt
 
+  -- why the text is no JSON, or is too deep, is why the bytes are no feature with an id
   pub text_refused_feature : (fault : JsonFault) → result ≡ Err fault → IsFeatureFault bytes (fault_of fault)
   text_refused_feature (json.NotJson at) e = (not_json at).0 e
   text_refused_feature (json.Deep at) e = (deep at).0 e

@@ -41,9 +41,11 @@ pub record FreshSoFar (taken : List ℕ → Bool) (k : ℕ) (id : List ℕ) : Ty
   pub needed : (n : ℕ) → n < signs → taken (marked n k) ≡ true
 
 module _ (taken : List ℕ → Bool) (k : ℕ) (id : List ℕ) where
+  -- the search begins with a number sign and the place, and no further signs
   pub fresh_start : id ≡ numbered k → FreshSoFar taken k id
   fresh_start e = record { signs = 0; written = e; needed = λ n h. absurd (omega arith) }
 
+  -- where the id is taken, the search goes on with one more number sign before it
   pub fresh_more : (next : List ℕ) → next ≡ codes "#" ++ id → taken id ≡ true → FreshSoFar taken k id → FreshSoFar taken k next
   fresh_more next e known so_far = record {
     signs = suc so_far.signs;
@@ -55,5 +57,6 @@ module _ (taken : List ℕ → Bool) (k : ℕ) (id : List ℕ) where
         ];
   }
 
+  -- where the id is not taken, the search ends: it is the fresh one
   pub fresh_end : FreshSoFar taken k id → taken id ≡ false → IsFresh taken k id
   fresh_end so_far new = record { signs = so_far.signs; written = so_far.written; new = new; fewest = so_far.needed }

@@ -12,6 +12,7 @@ use Rattle.ml_geojson.specs.declared.kind.Kind.{Kind}
 use Rattle.ml_geojson.specs.declared.kind.Kind.TheVariants.{Point, MultiPoint, LineString, MultiLineString, Polygon, MultiPolygon}
 use Rattle.ml_geojson.specs.declared.fault.GeoFault.TheVariants.{NotJson, Deep, NotCollection, NotFeature, BadGeometry, OutOfRange, ShortRing, NoId, Memory}
 
+-- what is read is a value, or is refused for its kind, its geometry, a position or a ring
 abbrev pub Kept : {X : Type 0} → Reading X → Type 0
 Kept (Ok x) = Unit {0}
 Kept (Err (NotFeature k)) = Unit {0}
@@ -109,6 +110,7 @@ module _ (k : ℕ) where
   kept_geometry (Some (str s)) = tt
   kept_geometry (Some (list ts)) = tt
 
+  -- a feature's reading is refused for nothing else
   pub kept_feature : (t : Tree) → Kept (feature k t)
   kept_feature (map ps) =
       kept_cond (is_text (codes "Feature") (member (codes "type") ps)) (then_made (parts_with ps) (geometry k (member (codes "geometry") ps))) (Err (NotFeature k))
@@ -158,6 +160,7 @@ kept_listed (Some (map ps)) = tt
 kept_collected : (ps : Pairs) → KeptMap (collected ps)
 kept_collected ps = kept_map_cond (is_text (codes "FeatureCollection") (member (codes "type") ps)) (listed (member (codes "features") ps)) (Err NotCollection) (kept_listed (member (codes "features") ps)) tt
 
+-- a map file's reading is refused for nothing else, but for being no collection
 pub kept_collection : (t : Tree) → KeptMap (collection t)
 kept_collection (map ps) =
     kept_map_cond (is_text (codes "Feature") (member (codes "type") ps)) (features 0 (more (map ps) none)) (collected ps)

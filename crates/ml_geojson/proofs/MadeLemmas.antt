@@ -58,9 +58,11 @@ has_ids_more old new texts id has takes text =
     turned false true = refl
     turned false false = refl
 
+-- an empty set has the ids of no features
 pub no_ids : (set : BTreeSet (List ℕ)) → set.keys ≡ [] → HasIds [] set
 no_ids set e text = rw e refl
 
+-- of no parts no features are made
 pub made_none : AreMadeOf [] []
 made_none = record { one_each = refl; made = λ k p f lt. absurd (omega arith); named = λ k p f lt. absurd (omega arith) }
 
@@ -107,6 +109,7 @@ module _ (taken other : List ℕ → Bool) (same : (text : List ℕ) → taken t
     fewest = λ n h. sym (same (marked n k)) ∙ fresh.fewest n h;
   }
 
+  -- a feature that gets an id where some ids are taken gets it where just the same ones are
   pub id_by : (own : Option (List ℕ)) → IsIdOf taken k own id → IsIdOf other k own id
   id_by None fresh = fresh_by fresh
   id_by (Some own) h = record { new = λ e. h.new (same own ∙ e); known = λ e. fresh_by (h.known (same own ∙ e)) }
@@ -126,6 +129,7 @@ pub record ReadSoFar (all left : Reading (List Parts)) (k : ℕ) (read : List Fe
   pub known : HasIds (ids read) taken
 
 module _ (items : List Lent) (k : ℕ) (all : Reading (List Parts)) where
+  -- at first no feature is read, and all items are left
   pub so_far_start : (taken : BTreeSet (List ℕ)) → taken.keys ≡ [] → all ≡ features 0 (lents_view items) → ReadSoFar all (features 0 (lents_view items)) 0 [] taken
   so_far_start taken empty e = record { parts = []; reads = e ∙ behind_none (features 0 (lents_view items)); count = refl; made = made_none; known = no_ids taken empty }
 
@@ -135,6 +139,7 @@ module _ (items : List Lent) (k : ℕ) (all : Reading (List Parts)) where
         let further : suc k ≡ k + 1 = omega arith in
         so_far.reads ∙ ap (λ (xs : List Lent). behind so_far.parts (features k (lents_view xs))) (drop-cons items k item less ∙ ap (λ (x : Lent). x ∷ drop (suc k) items) there ∙ ap (λ (n : ℕ). item ∷ drop n items) further)
 
+    -- a feature that was read and added is one of those read, and the items behind it are left
     pub so_far_more : (p : Parts) (new : List Feature) (known : BTreeSet (List ℕ)) → feature k (lent_of item) ≡ Ok p → IsAdded old new p → HasIds (ids new) known → ReadSoFar all (features (k + 1) (lents_view (drop (k + 1) items))) (k + 1) new known
     so_far_more p new known reads added has = record {
       parts = so_far.parts ++ p ∷ [];
@@ -144,5 +149,6 @@ module _ (items : List Lent) (k : ℕ) (all : Reading (List Parts)) where
       known = has;
     }
 
+    -- the fault of the next feature is that of the whole list
     pub so_far_stops : (fault : GeoFault) → feature k (lent_of item) ≡ Err fault → all ≡ Err fault
     so_far_stops fault e = left ∙ features_stop k (lent_of item) (lents_view (drop (k + 1) items)) so_far.parts fault e

@@ -84,6 +84,7 @@ module _ (laws : JsonLaws) where
       let rest = props_flat props (λ k d lt. h (suc k) d (omega arith)) in
       record { numbers = (one.numbers, rest.numbers); shallow = max-le one.shallow rest.shallow }
 
+  -- the tree of a feature is at most 6 deep
   pub feature_flat : (f : Feature) → IsFlat 6 (feature_tree f)
   feature_flat f =
       let shape = geometry_flat f.geometry in
@@ -92,11 +93,13 @@ module _ (laws : JsonLaws) where
       max-le (omega arith) (max-le (omega arith) (max-le shape.shallow (max-le (let k = props.shallow in omega arith) (omega arith)))) in
       record { numbers = (tt, (tt, (shape.numbers, (props.numbers, tt)))); shallow = omega arith }
 
+  -- the tree of a collection of features is at most 8 deep
   pub collection_flat : (fs : List Feature) → IsFlat 8 (collection_tree fs)
   collection_flat fs =
       let all : IsFlat 7 (list_tree feature_tree fs) = subst (λ (gs : List Feature). IsFlat 7 (list_tree feature_tree gs)) (map-id fs) (list_flat feature_tree (λ (f : Feature). f) 6 feature_flat fs) in
       let inner : max 0 (max (nesting (list_tree feature_tree fs)) 0) ≤ 7 = max-le (omega arith) (max-le all.shallow (omega arith)) in
       record { numbers = (tt, (all.numbers, tt)); shallow = omega arith }
 
+-- a tree that is at most 64 deep, whose numbers are numbers, can be printed
 pub printable : (n : ℕ) (tree : Tree) → n ≤ 64 → IsFlat n tree → IsPrintable tree
 printable n tree low flat = record { numbers = flat.numbers; shallow = (let k = flat.shallow in omega arith) }

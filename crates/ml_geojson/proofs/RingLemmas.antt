@@ -52,6 +52,7 @@ module _ {X Y : Type 0} (f : X → Y) (reading : Reading X) where
   refused Memory h = tt
 
 module _ (k : ℕ) where
+  -- a ring of one, two or three positions is refused as too short
   pub short : (ring : List Pos) → 0 < length ring → length ring < 4 → long_ring k (places_of ring) ≡ Err (ShortRing k)
   short [] some few = absurd (omega arith)
   short (a ∷ []) some few = refl
@@ -59,6 +60,7 @@ module _ (k : ℕ) where
   short (a ∷ b ∷ c ∷ []) some few = refl
   short (a ∷ b ∷ c ∷ d ∷ ring) some few = absurd (omega arith)
 
+  -- a ring of four positions or more, or of none, is read as it is
   pub long : (ring : List Pos) → (0 < length ring → 4 ≤ length ring) → long_ring k (places_of ring) ≡ Ok (places_of ring)
   long [] many = refl
   long (a ∷ []) many = absurd (let h : 4 ≤ 1 = many (omega arith) in omega arith)

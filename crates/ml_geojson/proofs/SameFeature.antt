@@ -101,5 +101,6 @@ same_parts f g id geometry properties i =
       ascending = is_prop→PathP (λ j. AreAscending (properties j)) (λ j. hlevel props) f.ascending g.ascending i;
     }
 
+-- two features of the same id, shape and properties are one
 pub same_is_one : (one other : Feature) → one.id ≡ other.id → some_shape_of one.geometry ≡ some_shape_of other.geometry → one.props ≡ other.props → one ≡ other
 same_is_one one other id shape properties = same_parts one other id (same_some one.geometry other.geometry shape) properties

@@ -13,6 +13,7 @@ use Rattle.ml_geojson.specs.Shape.{Place}
 use Rattle.ml_geojson.specs.Text.{list_tree, place_tree, line_tree, lines_tree, scalar_tree, prop_pairs}
 
 module _ {X : Type 0} (f g : X → Tree) (h : (x : X) → settled (f x) ≡ g x) where
+  -- items whose trees settle each to another tree settle to those, one by one
   pub each_settled : (xs : List X) → items_settled (trees_of (mapped f xs)) ≡ trees_of (mapped g xs)
   each_settled [] = refl
   each_settled (x ∷ xs) = ap (λ (t : Tree). more t (items_settled (trees_of (mapped f xs)))) (h x) ∙ ap (more (g x)) (each_settled xs)
@@ -30,9 +31,11 @@ lines_settled parts = list_settled line_tree line_tree line_settled parts
 pub places_stay : (places : List Place) → items_settled (trees_of (mapped place_tree places)) ≡ trees_of (mapped place_tree places)
 places_stay places = each_settled place_tree place_tree (λ place. refl) places
 
+-- lines or rings, as items, stay as they are
 pub lines_stay : (parts : List (List Place)) → items_settled (trees_of (mapped line_tree parts)) ≡ trees_of (mapped line_tree parts)
 lines_stay parts = each_settled line_tree line_tree line_settled parts
 
+-- polygons, as items, stay as they are
 pub polygons_stay : (parts : List (List (List Place))) → items_settled (trees_of (mapped lines_tree parts)) ≡ trees_of (mapped lines_tree parts)
 polygons_stay parts = each_settled lines_tree lines_tree lines_settled parts
 

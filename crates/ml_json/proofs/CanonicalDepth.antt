@@ -24,6 +24,7 @@ stays_take limit x bs zero h = stays_here limit x bs h
 stays_take limit x [] (suc k) h = h
 stays_take limit x (b ∷ bs) (suc k) h = stays_take limit (see x.0 x.1 b) bs k h.1
 
+-- bytes that never go beyond depth 64 open no 65th list or map before any place
 pub shallow_if_stays : (bs : List ℕ) (at : ℕ) → Stays 64 (outside, 0) bs → IsShallow bs at
 shallow_if_stays bs at h k le = stays_take 64 (outside, 0) bs k h
 
@@ -66,12 +67,15 @@ text_stays : (limit d : ℕ) (s r : List ℕ) → d ≤ limit → Stays limit (o
 text_stays limit d [] r le g = (le, g)
 text_stays limit d (b ∷ s) r le g = byte_stays limit d b (bytes_on s (34 ∷ r)) le (text_stays limit d s r le g)
 
+-- a closing bracket takes back the level that the opening one added
 pub closed : (d : ℕ) → d ≡ d + 1 - 1
 closed d = omega arith
 
+-- the first of two depths is at most the greater one
 pub max_left : (a b : ℕ) → a ≤ max a b
 max_left a b = omega arith
 
+-- and so is the second of them
 pub max_right : (a b : ℕ) → b ≤ max a b
 max_right a b = omega arith
 
@@ -108,11 +112,13 @@ unsigned_calm : (s : List ℕ) → Unsigned s → AllCalm s
 unsigned_calm s (w, t, e, wh, (f, x, eq, fr, ex)) =
     subst AllCalm (sym (e ∙ ap (λ y. w ++ y) eq)) (joined_calm w (f ++ x) (whole_calm wh) (joined_calm f x (fraction_calm fr) (exponent_calm ex)))
 
+-- no byte of a number counts for the depth
 pub number_calm : {s : List ℕ} → IsNumber s → AllCalm s
 number_calm (plain_number {s} u) = unsigned_calm s u
 number_calm (minus_number {s} u) = ((λ d. refl), unsigned_calm s u)
 
 mutual
+  -- the text of a tree that has room at its depth never goes beyond 64, if what follows does not
   pub spell_stays : (v : Tree) (d : ℕ) (r : List ℕ) → Good v → d + nesting v ≤ 64 → Stays 64 (outside, d) r → Stays 64 (outside, d) (tree_on v r)
   spell_stays null d r h le g = calm_stays 64 d (110 ∷ 117 ∷ 108 ∷ 108 ∷ []) r ((λ _. refl), ((λ _. refl), ((λ _. refl), ((λ _. refl), tt)))) (omega arith) g
   spell_stays (flag true) d r h le g = calm_stays 64 d (116 ∷ 114 ∷ 117 ∷ 101 ∷ []) r ((λ _. refl), ((λ _. refl), ((λ _. refl), ((λ _. refl), tt)))) (omega arith) g
@@ -122,14 +128,17 @@ mutual
   spell_stays (list vs) d r h le g = ((omega arith), items_stay vs d r h (omega arith) g)
   spell_stays (map ps) d r h le g = ((omega arith), members_stay ps d r h (omega arith) g)
 
+  -- nor does the text of a list's items, one level deeper behind the opening bracket
   pub items_stay : (vs : Trees) (d : ℕ) (r : List ℕ) → AllGood vs → d + 1 + items_nesting vs ≤ 64 → Stays 64 (outside, d) r → Stays 64 (outside, d + 1) (items_on vs r)
   items_stay none d r h le g = ((omega arith), subst (λ n. Stays 64 (outside, n) r) (closed d) g)
   items_stay (more v vs) d r h le g = spell_stays v (d + 1) (rest_on vs r) h.0 (omega (arith, max_left (nesting v) (items_nesting vs))) (rest_stays vs d r h.1 (omega (arith, max_right (nesting v) (items_nesting vs))) g)
 
+  -- nor does the text behind one of its items
   pub rest_stays : (vs : Trees) (d : ℕ) (r : List ℕ) → AllGood vs → d + 1 + items_nesting vs ≤ 64 → Stays 64 (outside, d) r → Stays 64 (outside, d + 1) (rest_on vs r)
   rest_stays none d r h le g = ((omega arith), subst (λ n. Stays 64 (outside, n) r) (closed d) g)
   rest_stays (more v vs) d r h le g = ((omega arith), spell_stays v (d + 1) (rest_on vs r) h.0 (omega (arith, max_left (nesting v) (items_nesting vs))) (rest_stays vs d r h.1 (omega (arith, max_right (nesting v) (items_nesting vs))) g))
 
+  -- nor does the text of a map's members, one level deeper behind the opening brace
   pub members_stay : (ps : Pairs) (d : ℕ) (r : List ℕ) → AllGoodPairs ps → d + 1 + pairs_nesting ps ≤ 64 → Stays 64 (outside, d) r → Stays 64 (outside, d + 1) (members_on ps r)
   members_stay no_pairs d r h le g = ((omega arith), subst (λ n. Stays 64 (outside, n) r) (closed d) g)
   members_stay (pair k v ps) d r h le g =
@@ -137,6 +146,7 @@ mutual
       ((omega arith), spell_stays v (d + 1) (more_on ps r) h.1 (omega (arith, max_left (nesting v) (pairs_nesting ps))) (more_stays ps d r h.2 (omega (arith, max_right (nesting v) (pairs_nesting ps))) g)) in
       ((omega arith), text_stays 64 (d + 1) k (58 ∷ tree_on v (more_on ps r)) (omega arith) w)
 
+  -- nor does the text behind one of its members
   pub more_stays : (ps : Pairs) (d : ℕ) (r : List ℕ) → AllGoodPairs ps → d + 1 + pairs_nesting ps ≤ 64 → Stays 64 (outside, d) r → Stays 64 (outside, d + 1) (more_on ps r)
   more_stays no_pairs d r h le g = ((omega arith), subst (λ n. Stays 64 (outside, n) r) (closed d) g)
   more_stays (pair k v ps) d r h le g =

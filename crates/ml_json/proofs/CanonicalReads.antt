@@ -18,15 +18,18 @@ abbrev mutual
   Good (list vs) = AllGood vs
   Good (map ps) = AllGoodPairs ps
 
+  -- the same of every item
   pub AllGood : Trees → Type 0
   AllGood none = Unit {0}
   AllGood (more v vs) = Good v × AllGood vs
 
+  -- the same of every member, whose key is text too
   pub AllGoodPairs : Pairs → Type 0
   AllGoodPairs no_pairs = Unit {0}
   AllGoodPairs (pair k v ps) = IsUtf8 k × Good v × AllGoodPairs ps
 
 mutual
+  -- a tree is good if its numbers are numbers and its strings and keys are UTF-8
   pub good : (v : Tree) → HasNumbers v → HasUtf8 v → Good v
   good null h u = tt
   good (flag b) h u = tt
@@ -80,6 +83,7 @@ mutual
   members_stay (pair k v ps) h = ap (λ w. pair k w (members_settled ps)) (orderly_settled v h.0) ∙ ap (pair k v) (members_stay ps h.1)
 
 mutual
+  -- the grammar reads a good tree's canonical text as the settled tree, and leaves what follows
   pub value_spelled : (v : Tree) (r : List ℕ) → Good v → Value (settled v) (tree_on v r) r
   value_spelled null r h = a_null
   value_spelled (flag true) r h = a_true
@@ -89,14 +93,17 @@ mutual
   value_spelled (list vs) r h = list_spelled vs r h
   value_spelled (map ps) r h = map_spelled ps r h
 
+  -- it reads a list so from the opening bracket on
   pub list_spelled : (vs : Trees) (r : List ℕ) → AllGood vs → Value (list (items_settled vs)) (91 ∷ items_on vs r) r
   list_spelled none r h = empty_list no_blank
   list_spelled (more v vs) r h = a_list (items no_blank (value_spelled v (rest_on vs r) h.0) (rest_spelled vs r h.1))
 
+  -- what stands behind an item it reads as the further items, each settled
   pub rest_spelled : (vs : Trees) (r : List ℕ) → AllGood vs → Rest (items_settled vs) (rest_on vs r) r
   rest_spelled none r h = close no_blank
   rest_spelled (more v vs) r h = comma no_blank (items no_blank (value_spelled v (rest_on vs r) h.0) (rest_spelled vs r h.1))
 
+  -- a map it reads from the opening brace on, with the settled members put in one after another
   pub map_spelled : (ps : Pairs) (r : List ℕ) → AllGoodPairs ps → Value (map (put_all no_pairs (members_settled ps))) (123 ∷ members_on ps r) r
   map_spelled no_pairs r h = empty_map no_blank
   map_spelled (pair k v ps) r h =
@@ -104,6 +111,7 @@ mutual
       subst (λ x. Value (map (put_all no_pairs (pair x (settled v) (members_settled ps)))) (123 ∷ members_on (pair k v ps) r) r) w.2
       (a_map (members no_blank w.1 no_blank no_blank (value_spelled v (more_on ps r) h.1) (more_spelled ps r h.2)))
 
+  -- what stands behind a member it reads as the further members, each settled
   pub more_spelled : (ps : Pairs) (r : List ℕ) → AllGoodPairs ps → MoreMembers (members_settled ps) (more_on ps r) r
   more_spelled no_pairs r h = close_map no_blank
   more_spelled (pair k v ps) r h =

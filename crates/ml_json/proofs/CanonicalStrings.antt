@@ -25,6 +25,7 @@ and_right false b h = absurd (cc)
 scalar_small : (c : ℕ) → scalar c ≡ true → c < 1114112
 scalar_small c h = elim (scalar_cases c h) [ inl x ↦ omega arith | inr x ↦ x.1 ]
 
+-- two strings that are joined are written one behind the other
 pub bytes_append : (s t r : List ℕ) → bytes_on (s ++ t) r ≡ bytes_on s (bytes_on t r)
 bytes_append [] t r = refl
 bytes_append (b ∷ s) t r = ap (byte_on b) (bytes_append s t r)

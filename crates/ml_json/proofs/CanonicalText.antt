@@ -6,6 +6,7 @@ use Rattle.ml_json.specs.Canonical.{canonical, settled, IsPrintable, IsWritable,
 use Rattle.ml_json.proofs.CanonicalReads.{good, orderly_numbers, orderly_settled, reads_back}
 use Rattle.ml_json.proofs.CanonicalDepth.{spell_stays, shallow_if_stays}
 
+-- the canonical text of a tree with numbers and of depth at most 64 is a good text of the settled tree
 pub printed_text : (v : Tree) → IsPrintable v → HasUtf8 v → IsText (canonical v) (settled v)
 printed_text v w u =
     let g = good v w.numbers u in
@@ -14,6 +15,7 @@ printed_text v w u =
       shallow = shallow_if_stays (canonical v) (length (canonical v)) (spell_stays v 0 [] g (let s = w.shallow in omega arith) (omega arith));
     }
 
+-- where the keys of all maps ascend, too, it is one of the tree itself
 pub canonical_text : (v : Tree) → IsWritable v → HasUtf8 v → IsText (canonical v) v
 canonical_text v w u =
     subst (IsText (canonical v)) (orderly_settled v w.orderly) (printed_text v (record { numbers = orderly_numbers v w.orderly; shallow = w.shallow }) u)

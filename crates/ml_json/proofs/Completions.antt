@@ -99,6 +99,7 @@ alive_word m.so_fa st = by 108 refl (by 115 refl (by 101 refl (alive_after _ st)
 alive_word m.so_fal st = by 115 refl (by 101 refl (alive_after _ st))
 alive_word m.so_fals st = by 101 refl (alive_after _ st)
 
+-- from every state some bytes lead to the end of a text
 pub alive : (m : Mode) (st : List Frame) → Completable m st
 unfolding step
 alive m.begin st = by 110 refl (by 117 refl (by 108 refl (by 108 refl (alive_after null st))))
@@ -122,6 +123,7 @@ goes_reaches : (p q : List ℕ) (o : Option State) → ((m : Mode) (st : List Fr
 goes_reaches p q None h = refl
 goes_reaches p q (Some x) h = h x.0 x.1
 
+-- the tree of bytes in two parts is that of the second part from the state that the first leads to
 pub run_append : (p q : List ℕ) (m : Mode) (st : List Frame) → run (p ++ q) m st ≡ goes (run q) (reach p m st)
 unfolding run reach
 run_append [] q m st = refl
@@ -131,6 +133,7 @@ reaches_append : (p q : List ℕ) (o : Option State) → ((m : Mode) (st : List 
 reaches_append p q None h = refl
 reaches_append p q (Some x) h = h x.0 x.1
 
+-- the same of the state that they lead to
 pub reach_append : (p q : List ℕ) (m : Mode) (st : List Frame) → reach (p ++ q) m st ≡ reaches (reach q) (reach p m st)
 unfolding reach
 reach_append [] q m st = refl

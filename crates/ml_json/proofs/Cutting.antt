@@ -20,6 +20,7 @@ take_next text at rest h = sym (append_assoc (take at text) (get_or text at 0 �
 pub before_more : (x y : ℕ) (text : List ℕ) (at : ℕ) → at < length text → is_either x y (get_or text at 0) ≡ false → take at text ++ before x y (drop at text) ≡ take (at + 1) text ++ before x y (drop (at + 1) text)
 before_more x y text at h e = ap (λ s. take at text ++ before x y s) (next_byte text at h) ∙ rw e (take_next text at (before x y (drop (at + 1) text)) h)
 
+-- where the byte is no mark, what stands behind the mark is looked for from the next byte on
 pub behind_more : (x y : ℕ) (text : List ℕ) (at : ℕ) → at < length text → is_either x y (get_or text at 0) ≡ false → behind x y (drop at text) ≡ behind x y (drop (at + 1) text)
 behind_more x y text at h e = ap (behind x y) (next_byte text at h) ∙ rw e refl
 
@@ -27,6 +28,7 @@ behind_more x y text at h e = ap (behind x y) (next_byte text at h) ∙ rw e ref
 pub before_here : (x y : ℕ) (text : List ℕ) (at : ℕ) → at < length text → is_either x y (get_or text at 0) ≡ true → take at text ++ before x y (drop at text) ≡ take at text
 before_here x y text at h e = ap (λ s. take at text ++ before x y s) (next_byte text at h) ∙ rw e (append-nil (take at text))
 
+-- where it is a mark, what stands behind the mark begins at the next byte
 pub behind_here : (x y : ℕ) (text : List ℕ) (at : ℕ) → at < length text → is_either x y (get_or text at 0) ≡ true → behind x y (drop at text) ≡ drop (at + 1) text
 behind_here x y text at h e = ap (behind x y) (next_byte text at h) ∙ rw e refl
 
@@ -55,6 +57,7 @@ digit_next n (suc left) most text at h l e =
     ap (λ s. min (digits_value_after 10 n (take (suc left) (digits_in s))) most) (next_byte text at h)
     ∙ rw (e, one, digit_is (get_or text at 0) e) (sym (capped_more n (get_or text at 0 - 48) most (take left (digits_in (drop (at + 1) text)))))
 
+-- a byte that is no digit changes neither the number so far nor how many digits are left
 pub other_next : (n left most : ℕ) (text : List ℕ) (at : ℕ) → at < length text → is_digit (get_or text at 0) ≡ false
     → min (digits_value_after 10 n (take left (digits_in (drop at text)))) most ≡ min (digits_value_after 10 n (take left (digits_in (drop (at + 1) text)))) most
 other_next n left most text at h e = ap (λ s. min (digits_value_after 10 n (take left (digits_in s))) most) (next_byte text at h) ∙ rw e refl

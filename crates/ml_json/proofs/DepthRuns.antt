@@ -12,6 +12,7 @@ use Rattle.ml_json.proofs.Runs.{reach, reaches}
 use Rattle.ml_json.specs.Depth.{Where, outside, inside, behind_backslash, Seen, see, seen, depth}
 use Rattle.ml_json.proofs.RunsRead.{by_cases, at_byte}
 
+-- where the next byte stands in a mode
 unfoldable pub place_of : Mode → Where
 place_of (m.text purpose p c) = inside
 place_of (m.escape purpose p c) = behind_backslash
@@ -19,6 +20,7 @@ place_of (m.hex purpose p c n a) = inside
 place_of (m.bytes purpose p c t got) = inside
 place_of _ = outside
 
+-- if there is a step, the byte changes place and depth of the count to those of the state that it leads to
 abbrev pub Sees : Where → ℕ → ℕ → Option State → Type 0
 Sees w d b None = Unit {0}
 Sees w d b (Some x) = see w d b ≡ (place_of x.0, open_of x.0 x.1)
@@ -27,18 +29,23 @@ Sees w d b (Some x) = see w d b ≡ (place_of x.0, open_of x.0 x.1)
 calm : (d b : ℕ) → (b == 34) ≡ false → ((b == 91) || (b == 123)) ≡ false → ((b == 93) || (b == 125)) ≡ false → see outside d b ≡ (outside, d)
 calm d b h k l = rw (h, k, l) refl
 
+-- white space changes nothing outside strings
 pub calm_space : (d b : ℕ) → is_space b ≡ true → see outside d b ≡ (outside, d)
 calm_space d b h = calm d b (grind (arith, nat_tests)) (grind (arith, nat_tests)) (grind (arith, nat_tests))
 
+-- a digit changes nothing there
 pub calm_digit : (d b : ℕ) → is_digit b ≡ true → see outside d b ≡ (outside, d)
 calm_digit d b h = calm d b (grind (arith, nat_tests)) (grind (arith, nat_tests)) (grind (arith, nat_tests))
 
+-- a digit other than zero, with which a number begins, changes nothing there
 pub calm_first : (d b : ℕ) → is_between 49 57 b ≡ true → see outside d b ≡ (outside, d)
 calm_first d b h = calm d b (grind (arith, nat_tests)) (grind (arith, nat_tests)) (grind (arith, nat_tests))
 
+-- the letter of an exponent changes nothing there
 pub calm_letter : (d b : ℕ) → is_letter b ≡ true → see outside d b ≡ (outside, d)
 calm_letter d b h = calm d b (grind (arith, nat_tests)) (grind (arith, nat_tests)) (grind (arith, nat_tests))
 
+-- the sign of an exponent changes nothing there
 pub calm_sign : (d b : ℕ) → is_sign b ≡ true → see outside d b ≡ (outside, d)
 calm_sign d b h = calm d b (grind (arith, nat_tests)) (grind (arith, nat_tests)) (grind (arith, nat_tests))
 
@@ -164,6 +171,7 @@ hex_sees purpose p c n a st b None h = tt
 hex_sees purpose p c zero a st b (Some d) h = unit_sees purpose p c (16 * a + d) st b (still _ b (hex_quote b d h) (hex_slash b d h))
 hex_sees purpose p c (suc n) a st b (Some d) h = still _ b (hex_quote b d h) (hex_slash b d h)
 
+-- each byte behind the first one of a character is at least 128
 pub low_large : (t : Tail) → 128 ≤ low t
 low_large one = omega arith
 low_large two = omega arith
@@ -173,6 +181,7 @@ low_large after_ed = omega arith
 low_large after_f0 = omega arith
 low_large after_f4 = omega arith
 
+-- a byte from 128 on changes nothing inside
 pub large_still : (d b n k : ℕ) → 128 ≤ n → is_between n k b ≡ true → see inside d b ≡ (inside, d)
 large_still d b n k h e = still d b (grind (arith, nat_tests)) (grind (arith, nat_tests))
 
@@ -258,6 +267,7 @@ unfolding seen
 saw_step m st b bs None h k = tt
 saw_step m st b bs (Some x) h k = saw_on m st b bs x h (reach bs x.0 x.1) (k x.0 x.1)
 
+-- over any bytes that lead to a state, the count of brackets comes to the place and depth of that state
 pub reach_saw : (bs : List ℕ) (m : Mode) (st : List Frame) → Saw m st bs (reach bs m st)
 unfolding reach seen
 reach_saw [] m st = refl

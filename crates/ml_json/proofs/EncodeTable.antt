@@ -16,6 +16,7 @@ two_bytes c h k =
     let y : is_between 128 191 (128 + c % 64) ≡ true = grind (arith, nat_tests) in
     (192 + c / 64, 128 + c % 64, rw (e, f) refl, rw x refl, next y end)
 
+-- a character of three bytes, which is no surrogate, has its first byte in the table, and the others may follow it
 pub three_bytes : (c : ℕ) → 2048 ≤ c → c < 65536 → scalar c ≡ true → (a : ℕ) × (cs : List ℕ) × (t : Tail) × (encode c ≡ a ∷ cs) × (lead a ≡ Some t) × Follows (Some t) cs
 unfolding encode
 three_bytes c h k s =
@@ -37,6 +38,7 @@ three_bytes c h k s =
       ]
     ]
 
+-- the same of a character of four bytes, which is at most U+10FFFF
 pub four_bytes : (c : ℕ) → 65536 ≤ c → c < 1114112 → (a : ℕ) × (cs : List ℕ) × (t : Tail) × (encode c ≡ a ∷ cs) × (lead a ≡ Some t) × Follows (Some t) cs
 unfolding encode
 four_bytes c h k =

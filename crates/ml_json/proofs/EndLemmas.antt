@@ -27,6 +27,7 @@ open_none : (m : Mode) (st : List Frame) → 0 < length st → finish m st ≡ N
 open_none m [] h = absurd (omega arith)
 open_none m (f ∷ st) h = open_end m f st
 
+-- the bytes may not end while a list or map is open
 pub unfinished : (m : Mode) (xs : List CodeFrame) → 0 < length xs → finish m (frames_of xs) ≡ None
 unfinished m xs h = open_none m (frames_of xs) (omega (arith, frames_length xs))
 
@@ -34,5 +35,6 @@ empty : (st : List Frame) → length st ≡ 0 → st ≡ []
 empty [] h = refl
 empty (f ∷ st) h = absurd (omega arith)
 
+-- where the reader's stack is empty, so is the machine's
 pub no_frames : (xs : List CodeFrame) → length xs ≡ 0 → frames_of xs ≡ []
 no_frames xs h = empty (frames_of xs) (omega (arith, frames_length xs))

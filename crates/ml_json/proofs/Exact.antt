@@ -57,6 +57,7 @@ one_place P a b later p q = elim (cases_lt a b) [
   | inr more ↦ elim (cases_lt b a) [ inl less ↦ absurd (later b a q p less) | inr same ↦ omega arith ]
 ]
 
+-- bytes that are a text of a tree are answered by that tree, unless memory runs out
 pub gives_tree : {V : Type 0} (tree_of : V → Tree) (result : Result V JsonFault) (bytes : List ℕ) → Answers tree_of result bytes → (tree : Tree) → IsText bytes tree → GivesTree tree_of result tree
 gives_tree tree_of (Ok v) bytes h tree p = one_tree bytes (tree_of v) tree h.reads p.reads
 gives_tree tree_of (Err (faults.NotJson at)) bytes h tree p = text_or_not bytes tree at p h
@@ -77,18 +78,22 @@ deep_only tree_of (Err (faults.NotJson b)) bytes h at p = absurd (deep_or_not by
 deep_only tree_of (Err (faults.Deep b)) bytes h at p = inl (ap (λ x. Err (faults.Deep x)) (one_place (IsDeep bytes) b at (deep_later bytes) h p))
 deep_only tree_of (Err faults.Memory) bytes h at p = inr refl
 
+-- only bytes that are no JSON at a place are answered so, and all of them are, unless memory runs out
 pub not_json_exactly : {V : Type 0} (tree_of : V → Tree) (result : Result V JsonFault) (bytes : List ℕ)
     → Answers tree_of result bytes → (at : ℕ) → RefusesExactly result (faults.NotJson at) faults.Memory (IsNotJson bytes at)
 not_json_exactly tree_of result bytes h at = ((λ e. subst (λ r. Answers tree_of r bytes) e h), not_json_only tree_of result bytes h at)
 
+-- the same of bytes that are too deep at a place
 pub deep_exactly : {V : Type 0} (tree_of : V → Tree) (result : Result V JsonFault) (bytes : List ℕ)
     → Answers tree_of result bytes → (at : ℕ) → RefusesExactly result (faults.Deep at) faults.Memory (IsDeep bytes at)
 deep_exactly tree_of result bytes h at = ((λ e. subst (λ r. Answers tree_of r bytes) e h), deep_only tree_of result bytes h at)
 
+-- a value is the answer only to a text of its tree
 pub ok_text : {V : Type 0} (tree_of : V → Tree) (result : Result V JsonFault) (bytes : List ℕ) → Answers tree_of result bytes → IfOk result (λ v. IsText bytes (tree_of v))
 ok_text tree_of (Ok v) bytes h = h
 ok_text tree_of (Err e) bytes h = tt
 
+-- a value that is the answer can be written
 pub ok_writable : {V : Type 0} (tree_of : V → Tree) (result : Result V JsonFault) (bytes : List ℕ) → Answers tree_of result bytes → IfOk result (λ v. IsWritable (tree_of v))
 ok_writable tree_of (Ok v) bytes h = text_writable bytes (tree_of v) h
 ok_writable tree_of (Err e) bytes h = tt

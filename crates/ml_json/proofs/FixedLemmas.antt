@@ -59,6 +59,7 @@ more_digits n ds h w =
 decimal_whole : (n : ℕ) → n < 2 ^ 64 → IsWhole n (decimal n)
 decimal_whole n h = decimal_by_steps IsWhole one_digit more_digits n h
 
+-- the text of a size is that of a number without a sign
 pub size_unsigned : (n : ℕ) → n < 2 ^ 64 → Unsigned (size_text n)
 unfolding size_text last_digits
 size_unsigned n h =
@@ -202,10 +203,12 @@ pub joined_text : (start : List ℕ) (size : ℕ) → ((start ++ decimal (size /
 unfolding size_text
 joined_text start size = append_assoc (start ++ decimal (size / 10000000)) (46 ∷ []) (last_digits 7 size) ∙ append_assoc start (decimal (size / 10000000)) (46 ∷ last_digits 7 size)
 
+-- the text of a number below 0 is a minus and the text of its size
 pub minus_text : (v : ℤ) (size : ℕ) → size ≡ unsigned_abs v → v <ℤ pos 0 → 45 ∷ size_text size ≡ e7_text v
 minus_text (pos n) size e h = absurd (omega (arith, ints, h))
 minus_text (negsuc n) size e h = ap (λ m. 45 ∷ size_text m) e
 
+-- the text of a number from 0 on is that of its size
 pub plus_text : (v : ℤ) (size : ℕ) → size ≡ unsigned_abs v → pos 0 ≤ℤ v → size_text size ≡ e7_text v
 plus_text (pos n) size e h = ap size_text e
 plus_text (negsuc n) size e h = absurd (omega (arith, ints, h))

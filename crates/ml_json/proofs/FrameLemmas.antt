@@ -12,6 +12,7 @@ on_length : (below : List m.Frame) (xs : List Frame) → length (frames_on below
 on_length below [] = omega arith
 on_length below (x ∷ xs) = let h = on_length (frame_of x ∷ below) xs in omega arith
 
+-- the machine's stack is as high as the reader's
 pub frames_length : (xs : List Frame) → length (frames_of xs) ≡ length xs
 unfolding frames_of
 frames_length xs = let h = on_length [] xs in omega arith
@@ -20,6 +21,7 @@ on_push : (below : List m.Frame) (xs : List Frame) (x : Frame) → frames_on bel
 on_push below [] x = refl
 on_push below (y ∷ xs) x = on_push (frame_of y ∷ below) xs x
 
+-- a frame that is pushed at the end becomes the innermost
 pub frames_push : (xs : List Frame) (x : Frame) → frames_of (xs ++ x ∷ []) ≡ frame_of x ∷ frames_of xs
 unfolding frames_of
 frames_push xs x = on_push [] xs x

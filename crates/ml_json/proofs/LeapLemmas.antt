@@ -29,6 +29,7 @@ pub passes_then : {x y z : State} {s t r : List ℕ} → Passes x s y t → Pass
 passes_then here q = q
 passes_then (on e le p) q = on e le (passes_then p q)
 
+-- behind a way at most 64 lists and maps are open, if no more were before it
 pub passes_shallow : {x z : State} {s r : List ℕ} → open_of x.0 x.1 ≤ 64 → Passes x s z r → open_of z.0 z.1 ≤ 64
 passes_shallow h here = h
 passes_shallow h (on e le p) = passes_shallow le p
@@ -47,6 +48,7 @@ text_more : (purpose : Purpose) (c : List ℕ) (st : List Frame) (b : ℕ) → i
 unfolding step
 text_more purpose c st b h = text_plain purpose None c st b h
 
+-- in a string, the machine goes over the plain bytes at the front and adds them to the text
 pub plain_passes : (purpose : Purpose) (st : List Frame) → with_key purpose (length st) ≤ 64 → (s c : List ℕ)
     → Passes (m.text purpose None c, st) s (m.text purpose None (c ++ plain_front s), st) (behind_plain s)
 unfolding open_of
@@ -61,10 +63,12 @@ abbrev pub IfCut : (List ℕ → List ℕ → Type 0) → Cut → Type 0
 IfCut P None = Unit {0}
 IfCut P (Some x) = P x.0 x.1
 
+-- if a token leads to something, it leads to all that follows from it
 pub if_weaker : (P Q : List ℕ → List ℕ → Type 0) → ((k r : List ℕ) → P k r → Q k r) → (o : Cut) → IfCut P o → IfCut Q o
 if_weaker P Q f None h = tt
 if_weaker P Q f (Some x) h = f x.0 x.1 h
 
+-- what a token leads to holds where the token is known
 pub if_cut : (P : List ℕ → List ℕ → Type 0) (o : Cut) (k r : List ℕ) → o ≡ Some (k, r) → IfCut P o → P k r
 if_cut P o k r e h = subst (IfCut P) e h
 
@@ -117,6 +121,7 @@ value_quote : (st : List Frame) → step m.value st 34 ≡ Some (m.text m.as_val
 unfolding step
 value_quote st = refl
 
+-- where a value is awaited, the machine goes over a plain string to the state behind it
 pub string_passes : (st : List Frame) → length st ≤ 64 → (s k r : List ℕ) → plain_string s ≡ Some (k, r) → Passes (m.value, st) (34 ∷ s) (m.after (str k), st) r
 unfolding open_of
 string_passes st le s k r e =
@@ -128,6 +133,7 @@ number_more : (part q : Part) (c : List ℕ) (st : List Frame) (b : ℕ) → go_
 unfolding step
 number_more part q c st b h = ap (m.number_step part c st b) h
 
+-- in a number, the machine goes over all bytes at the front by which the number goes on
 pub number_passes : (st : List Frame) → length st ≤ 64 → (s : List ℕ) (part : Part) (c : List ℕ)
     → Passes (m.number part c, st) s (m.number (last_part s part) (c ++ number_front s part), st) (behind_number s part)
 unfolding open_of
@@ -155,6 +161,7 @@ after_closes : (v : Tree) (st : List Frame) (b : ℕ) (y : State) → m.after_st
 unfolding step
 after_closes v st b y s = s
 
+-- the machine goes over a plain string and over the byte behind it, to the state that this byte leads to
 pub string_leaps : (st : List Frame) → length st ≤ 64 → (s k : List ℕ) (b : ℕ) (t : List ℕ) (y : State) → plain_string s ≡ Some (k, b ∷ t) → m.after_step (str k) st b ≡ Some y → open_of y.0 y.1 ≤ 64 → Passes (m.value, st) (34 ∷ s) y t
 string_leaps st le s k b t y e h hy = passes_then (string_passes st le s k (b ∷ t) e) (on (after_closes (str k) st b y h) hy here)
 
@@ -209,6 +216,7 @@ number_ways x st le begins (a ∷ s) =
     by_part (λ o. IfPart (λ part. step x.0 x.1 a ≡ Some (m.number part (a ∷ []), st)) o → IfCut (NumberLeaps x st (a ∷ s)) (number_from a s o)) (first_part a)
     (λ _ _. tt) (λ part _ h. from_part x st le a s part h) (begins a)
 
+-- the same of a number and the byte behind it
 pub number_leaps : (st : List Frame) → length st ≤ 64 → (s k : List ℕ) (b : ℕ) (t : List ℕ) (y : State) → plain_number s ≡ Some (k, b ∷ t) → m.after_step (num k) st b ≡ Some y → open_of y.0 y.1 ≤ 64 → Passes (m.value, st) s y t
 number_leaps st le s k b t y e h hy = if_cut (NumberLeaps (m.value, st) st s) (plain_number s) k (b ∷ t) e (number_ways (m.value, st) st le (first_value st) s) b t y refl h hy
 
@@ -240,9 +248,11 @@ front_taken p q s e =
     let k : length s - length q ≡ length p = omega arith in
     (ap (take (length s - length q)) (sym e) ∙ take_at p q (length s - length q) (sym k), omega arith)
 
+-- the bytes before what follows the plain ones are the plain ones at the front
 pub plain_taken : (s : List ℕ) → (take (length s - length (behind_plain s)) s ≡ plain_front s) × (length (behind_plain s) ≤ length s)
 plain_taken s = front_taken (plain_front s) (behind_plain s) s (plain_split s)
 
+-- the bytes before what follows a number are the number's, from its first byte on
 pub number_taken : (a : ℕ) (s : List ℕ) (part : Part) → (take (length (a ∷ s) - length (behind_number s part)) (a ∷ s) ≡ a ∷ number_front s part) × (length (behind_number s part) ≤ length (a ∷ s))
 number_taken a s part = front_taken (a ∷ number_front s part) (behind_number s part) (a ∷ s) (ap (λ x. a ∷ x) (number_split s part))
 
@@ -253,6 +263,7 @@ ascii_more b s h a (suc i) = a i
 ascii_none : IsAscii []
 ascii_none i = omega arith
 
+-- the plain bytes at the front are ASCII
 pub plain_is_ascii : (s : List ℕ) → IsAscii (plain_front s)
 plain_is_ascii [] = ascii_none
 plain_is_ascii (b ∷ s) = by_cases IsAscii (is_plain b) _ _ (λ e. ascii_more b _ (plain_ascii b e) (plain_is_ascii s)) (λ _. ascii_none)
@@ -267,6 +278,7 @@ first_ascii a =
     let P : Option Part → Type 0 = IfPart (λ _. a < 128) in
     at_byte P (λ x. x < 128) a 45 _ _ (λ to. to (omega arith)) (λ _. at_byte P (λ x. x < 128) a 48 _ _ (λ to. to (omega arith)) (λ _. by_cases P (is_between 49 57 a) _ _ (λ e. grind (arith, nat_tests)) (λ _. tt)))
 
+-- the bytes of a number are ASCII, its first one included
 pub number_text_ascii : (a : ℕ) (s : List ℕ) (part : Part) → first_part a ≡ Some part → IsAscii (a ∷ number_front s part)
 number_text_ascii a s part e = ascii_more a _ (subst (IfPart (λ _. a < 128)) e (first_ascii a)) (number_is_ascii s part)
 
@@ -282,6 +294,7 @@ next_key_leaps : (ps : Pairs) (st : List Frame) → open_of (m.key ps) st ≤ 64
 unfolding step open_of
 next_key_leaps ps st le s k r e = key_passes (m.key ps) ps st refl (omega arith) s k r e
 
+-- where a key may come, the machine goes over a plain key and its colon to where the value is awaited
 pub key_leaps : (n : Mode) (ps : Pairs) (st : List Frame) → TakesKey n ps → open_of n st ≤ 64 → (s k r : List ℕ) → plain_key s ≡ Some (k, r) → Passes (n, st) s (m.value, m.at_key ps k ∷ st) r
 key_leaps n ps st (inl x) le s k r e =
     subst (λ o. Passes (o, st) s (m.value, m.at_key ps k ∷ st) r) (sym x.0)
@@ -300,6 +313,7 @@ number_there a s part f e =
     let one : number_from a s (Some part) ≡ Some (a ∷ number_front s part, behind_number s part) = rw e refl in
     ap (number_from a s) (sym f) ∙ one
 
+-- where a first byte begins a number that may end before the rest, the bytes before the rest are that number
 pub number_cut : (bytes : List ℕ) (part : Part) (rest : List ℕ) → 1 ≤ length bytes → Some part ≡ first_part (get_or bytes 0 0) → rest ≡ behind_number (take (length bytes - 1) (drop 1 bytes)) part
     → may_end (last_part (take (length bytes - 1) (drop 1 bytes)) part) ≡ true → NumberCut bytes rest
 number_cut [] part rest h f e k = absurd (omega arith)
@@ -319,9 +333,11 @@ pub value_shallow : (n : Mode) (st : List Frame) → n ≡ m.value → open_of n
 unfolding open_of
 value_shallow n st e le = subst (λ o. open_of o st ≤ 64) e le
 
+-- where a value is awaited, a way that begins behind white space may as well begin before it
 pub space_leaps : (n : Mode) (st : List Frame) → n ≡ m.value → open_of n st ≤ 64 → (s : List ℕ) {z : State} {r : List ℕ} → Passes (n, st) (skip_space s) z r → Passes (n, st) s z r
 space_leaps n st e le s p = passes_then (space_passes n st (λ b sp. subst (λ o. step o st b ≡ Some (o, st)) (sym e) (space_value st b sp)) le s) p
 
+-- bytes of which the first is known are that byte and all others behind it
 pub starts : (bytes : List ℕ) (b : ℕ) → 1 ≤ length bytes → get_or bytes 0 0 ≡ b → bytes ≡ b ∷ take (length bytes - 1) (drop 1 bytes)
 starts [] b h e = absurd (omega arith)
 starts (a ∷ s) b h e = ap (λ x. x ∷ s) e ∙ ap (λ x. b ∷ x) (sym (take_rest (a ∷ s) 1))
@@ -335,11 +351,13 @@ bracket_opens : (st : List Frame) → length st < 64 → (s : List ℕ) → Pass
 unfolding step open_of
 bracket_opens st lt s = on refl (omega arith) here
 
+-- an opening brace leads from where a value is awaited to where the first key may come
 pub brace_leaps : (n : Mode) (st : List Frame) → n ≡ m.value → length st < 64 → (s : List ℕ) → 1 ≤ length s → get_or s 0 0 ≡ 123 → Passes (n, st) s (m.first_key, st) (take (length s - 1) (drop 1 s))
 brace_leaps n st e lt s h b =
     let t = take (length s - 1) (drop 1 s) in
     subst (λ o. Passes (o, st) s (m.first_key, st) t) (sym e) (subst (λ u. Passes (m.value, st) u (m.first_key, st) t) (sym (starts s 123 h b)) (brace_opens st lt t))
 
+-- an opening bracket leads from there to where the first item may come
 pub bracket_leaps : (n : Mode) (st : List Frame) → n ≡ m.value → length st < 64 → (s : List ℕ) → 1 ≤ length s → get_or s 0 0 ≡ 91 → Passes (n, st) s (m.first, st) (take (length s - 1) (drop 1 s))
 bracket_leaps n st e lt s h b =
     let t = take (length s - 1) (drop 1 s) in

@@ -4,6 +4,7 @@ use Rattle.std.proofs.lemmas.Bool.Decides.{nat_tests}
 use Rattle.ml_json.specs.Machine as m
 use Rattle.ml_json.specs.Machine.{Part, go_on}
 
+-- a byte by which a number goes on is below 128
 pub go_on_ascii : (part q : Part) (b : ℕ) → go_on part b ≡ Some q → b < 128
 go_on_ascii m.minus q b h = grind (arith, nat_tests)
 go_on_ascii m.nought q b h = grind (arith, nat_tests)

@@ -15,22 +15,28 @@ Closes v [] bs t = Blank bs [] × (v ≡ t)
 Closes v (m.in_list ws ∷ st) bs t = (vs : Trees) × (r : List ℕ) × Rest vs bs r × Closes (list (snoc_all (snoc ws v) vs)) st r t
 Closes v (m.at_key ps k ∷ st) bs t = (ms : Pairs) × (r : List ℕ) × MoreMembers ms bs r × Closes (map (put_all (put k v ps) ms)) st r t
 
+-- bs begins with a value, and what follows it closes all that is open
 abbrev pub Started : List Frame → List ℕ → Tree → Type 0
 Started st bs t = (v : Tree) × (r : List ℕ) × Value v bs r × Closes v st r t
 
+-- the same behind white space
 abbrev pub Values : List Frame → List ℕ → Tree → Type 0
 Values st bs t = (s : List ℕ) × Blank bs s × Started st s t
 
+-- bs begins with the further members of a map and its closing brace, and what follows closes all that is open around it
 abbrev pub Keys : Pairs → List Frame → List ℕ → Tree → Type 0
 Keys ps st bs t = (ms : Pairs) × (r : List ℕ) × Members ms bs r × Closes (map (put_all ps ms)) st r t
 
+-- bs begins with the colon behind a key, and the value of the key follows
 abbrev pub Colon : Pairs → List ℕ → List Frame → List ℕ → Tree → Type 0
 Colon ps k st bs t = (w : List ℕ) × Blank bs (58 ∷ w) × Values (m.at_key ps k ∷ st) w t
 
+-- r goes on behind a string's closing quote, as behind a value or as behind a key
 abbrev pub Ended : Purpose → List ℕ → List Frame → List ℕ → Tree → Type 0
 Ended m.as_value s st r t = Closes (str s) st r t
 Ended (m.as_key ps) s st r t = Colon ps s st r t
 
+-- the bytes make a whole number of the part that has come
 abbrev pub Completes : Part → List ℕ → Type 0
 Completes m.minus s = Unsigned s
 Completes m.nought s = Tailed s
@@ -41,6 +47,7 @@ Completes m.letter s = Signed s
 Completes m.sign s = Digits s
 Completes m.power s = AllDigits s
 
+-- bs begins with the further pieces of a string and its closing quote, and goes on behind it
 abbrev pub Text : Purpose → Option ℕ → List ℕ → List Frame → List ℕ → Tree → Type 0
 Text purpose p c st bs t = (us : List Piece) × (r : List ℕ) × Written us bs r × Ended purpose (c ++ text_of p us) st r t
 
@@ -57,6 +64,7 @@ rest_of m.so_fa = 108 ∷ 115 ∷ 101 ∷ []
 rest_of m.so_fal = 115 ∷ 101 ∷ []
 rest_of m.so_fals = 101 ∷ []
 
+-- the value of a word
 abbrev pub worth : m.Word → Tree
 worth m.so_n = null
 worth m.so_nu = null
@@ -69,6 +77,7 @@ worth m.so_fa = flag false
 worth m.so_fal = flag false
 worth m.so_fals = flag false
 
+-- with bs the grammar finishes from the state, and t is the tree
 abbrev pub Left : Mode → List Frame → List ℕ → Tree → Type 0
 Left m.begin st bs t = Values st bs t ⊎ ((s : List ℕ) × (bs ≡ 0xEF ∷ 0xBB ∷ 0xBF ∷ s) × Values st s t)
 Left m.mark_two st bs t = (s : List ℕ) × (bs ≡ 0xBB ∷ 0xBF ∷ s) × Values st s t

@@ -14,6 +14,7 @@ use Rattle.ml_json.proofs.Remainders.{Closes, Started, Values, Keys, Colon, Ende
 use Rattle.ml_json.proofs.ValueRuns.{snoc_all-one}
 use Rattle.ml_json.proofs.StringRuns.{char_joined}
 
+-- what a test chooses has a property if each of the two has it where the test chooses it
 pub by_cases : {A : Type 0} (P : A → Type 0) (c : Bool) (x y : A) → (c ≡ true → P x) → (c ≡ false → P y) → P (cond c x y)
 by_cases P true x y h k = h refl
 by_cases P false x y h k = k refl
@@ -368,6 +369,7 @@ at_end (m.number part acc) [] t h =
 at_end (m.number part acc) (g ∷ st) t h = absurd (cc)
 at_end (m.word w) st t h = absurd (cc)
 
+-- if the machine reads bytes from a state as the tree t, the grammar finishes with them from that state, and t is the tree
 pub back : (bs : List ℕ) → Back bs
 unfolding run step
 back [] m st t h = at_end m st t h

@@ -26,6 +26,7 @@ after_is n (d ∷ ds) =
     ∙ ap (λ x. n * x + ((0 * 10 + digit_value d) * 10 ^ length ds + digits_value 10 ds)) (sym (pow-suc 10 (length ds)))
     ∙ ap (λ x. n * 10 ^ suc (length ds) + x) (sym (after_is (0 * 10 + digit_value d) ds))
 
+-- digits in two parts make the number that the second part makes behind that of the first
 pub value_append : (n : ℕ) (xs ys : List ℕ) → digits_value_after 10 n (xs ++ ys) ≡ digits_value_after 10 (digits_value_after 10 n xs) ys
 value_append n [] ys = refl
 value_append n (x ∷ xs) ys = value_append (n * 10 + digit_value x) xs ys
@@ -139,6 +140,7 @@ with_digit : (b : ℕ) (ds : List ℕ) (t : Bool) → is_digit b ≡ t → AllDi
 with_digit b ds true e h = (digit_small b e, h)
 with_digit b ds false e h = h
 
+-- the digits among bytes are decimal digits
 pub all_digits_in : (bs : List ℕ) → AllDigits 10 (digits_in bs)
 all_digits_in [] = tt
 all_digits_in (b ∷ bs) = with_digit b (digits_in bs) (is_digit b) refl (all_digits_in bs)
@@ -218,6 +220,7 @@ rounded a b h =
     ∙ ap (λ x. 5 * (2 * a + b) / x) (let e : b * 10 ≡ 5 * (2 * b) = omega arith in e)
     ∙ mul-div-mul_left (2 * a + b) (2 * b) (omega arith)
 
+-- the size in units of 10^-7 is the one with a digit more, rounded
 pub e7_rounded : (text : List ℕ) → (size_at 8 text + 5) / 10 ≡ e7_size text
 unfolding size_at e7_size
 e7_rounded text =

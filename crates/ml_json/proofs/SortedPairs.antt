@@ -54,6 +54,7 @@ put_all_sorted acc no_pairs h g = sym (onto_nothing acc)
 put_all_sorted acc (pair k v ps) h g =
     ap (λ x. put_all x ps) (put_above k v acc h.0) ∙ put_all_sorted (onto acc (pair k v no_pairs)) ps (all_onto acc (pair k v no_pairs) ps h.1 g.0) g.1 ∙ onto_one acc k v ps
 
+-- members each of whose keys is below all later ones stay as they are when they are put in one after another
 pub sorted_stays : (ps : Pairs) → EachSorted ps → put_all no_pairs ps ≡ ps
 sorted_stays ps g = put_all_sorted no_pairs ps (all_above_nothing ps) g
 

@@ -34,12 +34,15 @@ unit_runs purpose (Some h) c st s r us u f =
     (pick purpose c st s r (is_low u) _ _ _ _ (f None (c ++ both h u) ∙ ap (λ x. run r (ended purpose x) st) (append_assoc c (both h u) (text_of None us)))
     (f None (c ++ (replacement ++ single u)) ∙ ap (λ x. run r (ended purpose x) st) (append_assoc c (replacement ++ single u) (text_of None us))))
 
+-- the first byte of a character of more than one is at least 194
 pub lead_large : (a : ℕ) (t : Tail) → lead a ≡ Some t → 194 ≤ a
 lead_large a t h = grind (arith, nat_tests)
 
+-- what stands behind a text with a character more stands behind the text, the half that was held and the character
 pub char_joined : (p : Option ℕ) (c bs x : List ℕ) → add_char p c bs ++ x ≡ c ++ (lone p ++ (bs ++ x))
 char_joined p c bs x = simp append_assoc
 
+-- a plain byte in a string is a character more of its text
 pub text_plain : (purpose : Purpose) (p : Option ℕ) (c : List ℕ) (st : List Frame) (b : ℕ) → is_plain b ≡ true → m.text_step purpose p c st b ≡ Some (m.text purpose None (add_char p c (b ∷ [])), st)
 text_plain purpose p c st b h =
     let a : (b == 34) ≡ false = grind (arith, nat_tests) in
@@ -60,6 +63,7 @@ text_lead purpose p c st b t h =
 not_code : (e b : ℕ) → escaped e ≡ Some b → (e == 117) ≡ false
 not_code e b h = grind (arith, nat_tests)
 
+-- the machine goes over the further pieces of a string and its closing quote, and adds their text to the string's
 pub written_runs : (purpose : Purpose) (st : List Frame) {us : List Piece} {s r : List ℕ} → Written us s r → (p : Option ℕ) (c : List ℕ) → run s (m.text purpose p c) st ≡ run r (ended purpose (c ++ text_of p us)) st
 unfolding run step
 written_runs purpose st quote p c = refl

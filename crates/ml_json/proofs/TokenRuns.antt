@@ -12,35 +12,43 @@ use Rattle.ml_json.proofs.Runs.{run, goes}
 abbrev pub ends : ℕ → Bool
 ends b = is_space b || ((b == 44) || ((b == 93) || (b == 125)))
 
+-- bytes that may stand behind a number: none, or such a byte and any others
 abbrev pub Ends : List ℕ → Type 0
 Ends [] = Unit {0}
 Ends (b ∷ bs) = ends b ≡ true
 
+-- in a mode that white space does not change, the machine goes over white space
 pub run_blank : (m : Mode) (st : List Frame) → ((b : ℕ) → is_space b ≡ true → step m st b ≡ Some (m, st)) → {s r : List ℕ} → Blank s r → run s m st ≡ run r m st
 unfolding run
 run_blank m st h no_blank = refl
 run_blank m st h (blank {b} {s} {r} sp bl) = ap (goes (run s)) (h b sp) ∙ run_blank m st h bl
 
+-- white space does not change the mode in which a value is awaited
 pub space_value : (st : List Frame) (b : ℕ) → is_space b ≡ true → step m.value st b ≡ Some (m.value, st)
 unfolding step
 space_value st b h = rw h refl
 
+-- nor the one behind an opening bracket
 pub space_first : (st : List Frame) (b : ℕ) → is_space b ≡ true → step m.first st b ≡ Some (m.first, st)
 unfolding step
 space_first st b h = rw h refl
 
+-- nor the one behind an opening brace
 pub space_first_key : (st : List Frame) (b : ℕ) → is_space b ≡ true → step m.first_key st b ≡ Some (m.first_key, st)
 unfolding step
 space_first_key st b h = rw h refl
 
+-- nor the one behind a comma in a map
 pub space_key : (ps : Pairs) (st : List Frame) (b : ℕ) → is_space b ≡ true → step (m.key ps) st b ≡ Some (m.key ps, st)
 unfolding step
 space_key ps st b h = rw h refl
 
+-- nor the one behind a key
 pub space_colon : (ps : Pairs) (k : List ℕ) (st : List Frame) (b : ℕ) → is_space b ≡ true → step (m.colon ps k) st b ≡ Some (m.colon ps k, st)
 unfolding step
 space_colon ps k st b h = rw h refl
 
+-- nor the one behind a value
 pub space_after : (v : Tree) (st : List Frame) (b : ℕ) → is_space b ≡ true → step (m.after v) st b ≡ Some (m.after v, st)
 unfolding step
 space_after v st b h = rw h refl
@@ -51,6 +59,7 @@ pub record May (part : Part) : Type 0 where
   pub letters : (b : ℕ) → is_letter b ≡ true → go_on part b ≡ Some m.letter
   pub none : (b : ℕ) → ends b ≡ true → go_on part b ≡ None
 
+-- a byte that may stand behind a number is no digit
 pub ends_digit : (b : ℕ) → ends b ≡ true → is_digit b ≡ false
 ends_digit b h = grind (arith, nat_tests)
 
@@ -66,6 +75,7 @@ letter_digit b h = grind (arith, nat_tests)
 letter_dot : (b : ℕ) → is_letter b ≡ true → (b == 46) ≡ false
 letter_dot b h = grind (arith, nat_tests)
 
+-- a number may end, or go on with an exponent, behind a whole part that is 0
 pub may_nought : May m.nought
 may_nought = record {
   stops = refl;
@@ -73,6 +83,7 @@ may_nought = record {
   none = λ b h. rw (ends_dot b h, ends_letter b h) refl;
 }
 
+-- so it may behind the digits of any other whole part
 pub may_whole : May m.whole
 may_whole = record {
   stops = refl;
@@ -80,6 +91,7 @@ may_whole = record {
   none = λ b h. rw (ends_digit b h, ends_dot b h, ends_letter b h) refl;
 }
 
+-- and so it may behind the digits of its fraction
 pub may_digits : May m.digits
 may_digits = record {
   stops = refl;
@@ -157,6 +169,7 @@ unfolding run step
 minus_runs acc st t r nought ta x = tailed_runs m.nought may_nought refl (acc ++ 48 ∷ []) st t r ta x ∙ ap (λ s. run r (m.after (num s)) st) (append_assoc acc (48 ∷ []) t)
 minus_runs acc st t r (whole {d} {ds} h all) ta x = rw (minus_first d h, h) (whole_runs (acc ++ d ∷ []) st ds t r all ta x ∙ ap (λ s. run r (m.after (num s)) st) (append_assoc acc (d ∷ []) (ds ++ t)))
 
+-- where a value is awaited, a digit other than zero begins a number
 pub first_digit : (st : List Frame) (d : ℕ) → is_between 49 57 d ≡ true → m.value_step st d ≡ Some (m.number m.whole (d ∷ []), st)
 first_digit st d h =
     let a : is_space d ≡ false = grind (arith, nat_tests) in
@@ -172,6 +185,7 @@ unfolding run step
 plain_runs st t r nought ta x = tailed_runs m.nought may_nought refl (48 ∷ []) st t r ta x
 plain_runs st t r (whole {d} {ds} h all) ta x = rw (first_digit st d h) (whole_runs (d ∷ []) st ds t r all ta x)
 
+-- the machine goes over a number to the state behind it, if the bytes behind it may stand there
 pub number_runs : (st : List Frame) {s : List ℕ} (r : List ℕ) → IsNumber s → Ends r → run (s ++ r) m.value st ≡ run r (m.after (num s)) st
 unfolding run step
 number_runs st r (plain_number {s} (w, t, eq, wh, ta)) x =

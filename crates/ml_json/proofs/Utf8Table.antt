@@ -123,5 +123,6 @@ table a after_f4 h (next {b = b} x (next {b = d} y (next {b = i} z end))) =
     let l = lead_f4 a h in let p = byte 128 143 b x in let q = byte 128 191 d y in let r = byte 128 191 i z in
     one_char (of_four a b d i) _ (scalar_four a b d i (omega arith) (omega arith) p.0 (omega arith) q.0 q.1 r.0 r.1 (λ e. omega arith) (λ e. p.1)) (encode_four a b d i (omega arith) (omega arith) p.0 (omega arith) q.0 q.1 r.0 r.1 (λ e. omega arith))
 
+-- a first byte and the bytes that the table lets follow it are UTF-8
 pub table_utf8 : (a : ℕ) (t : Tail) (cs : List ℕ) → lead a ≡ Some t → Follows (Some t) cs → is_utf8 (a ∷ cs) ≡ true
 table_utf8 a t cs h f = is_utf8-from_IsUtf8 (a ∷ cs) (table a t h f)

@@ -28,9 +28,11 @@ snoc_all-joined : (vs ws : Trees) → snoc_all vs ws ≡ joined vs ws
 snoc_all-joined vs none = sym (joined_none vs)
 snoc_all-joined vs (more w ws) = snoc_all-joined (snoc vs w) ws ∙ joined_snoc vs w ws
 
+-- trees that are put behind none are these trees
 pub snoc_all-none : (ws : Trees) → snoc_all none ws ≡ ws
 snoc_all-none ws = snoc_all-joined none ws
 
+-- trees that are put behind one stand behind it
 pub snoc_all-one : (v : Tree) (ws : Trees) → snoc_all (more v none) ws ≡ more v ws
 snoc_all-one v ws = snoc_all-joined (more v none) ws
 
@@ -93,6 +95,7 @@ no_brace st (members bl w before behind val rest) = run_blank m.first_key st (sp
 mutual
   unfolding run step
 
+  -- the machine goes over a value to the state behind it
   pub value_runs : (st : List Frame) {v : Tree} {s r : List ℕ} → Value v s r → Ends r → run s m.value st ≡ run r (m.after v) st
   value_runs st a_null x = refl
   value_runs st a_true x = refl
@@ -104,19 +107,23 @@ mutual
   value_runs st (empty_map bl) x = run_blank m.first_key st (space_first_key st) bl
   value_runs st (a_map ms) x = no_brace st ms ∙ members_runs no_pairs st ms
 
+  -- it goes over the further items of a list and its bracket to the state behind the list
   pub items_runs : (ws : Trees) (st : List Frame) {vs : Trees} {s r : List ℕ} → Items vs s r → run s m.value (m.in_list ws ∷ st) ≡ run r (m.after (list (snoc_all ws vs))) st
   items_runs ws st (items {v} bl val rest) = run_blank m.value (m.in_list ws ∷ st) (space_value (m.in_list ws ∷ st)) bl ∙ value_runs (m.in_list ws ∷ st) val (rest_ends rest) ∙ rest_runs ws v st rest
 
+  -- so it does from behind an item, which joins the items so far
   pub rest_runs : (ws : Trees) (v : Tree) (st : List Frame) {vs : Trees} {s r : List ℕ} → Rest vs s r → run s (m.after v) (m.in_list ws ∷ st) ≡ run r (m.after (list (snoc_all (snoc ws v) vs))) st
   rest_runs ws v st (close bl) = run_blank (m.after v) (m.in_list ws ∷ st) (space_after v (m.in_list ws ∷ st)) bl
   rest_runs ws v st (comma bl i) = run_blank (m.after v) (m.in_list ws ∷ st) (space_after v (m.in_list ws ∷ st)) bl ∙ items_runs (snoc ws v) st i
 
+  -- it goes over the further members of a map and its brace to the state behind the map
   pub members_runs : (ps : Pairs) (st : List Frame) {ms : Pairs} {s r : List ℕ} → Members ms s r → run s (m.key ps) st ≡ run r (m.after (map (put_all ps ms))) st
   members_runs ps st (members {us} {v} bl w before behind val rest) =
       run_blank (m.key ps) st (space_key ps st) bl ∙ written_runs (m.as_key ps) st w None [] ∙ run_blank (m.colon ps (text_of None us)) st (space_colon ps (text_of None us) st) before
       ∙ run_blank m.value (m.at_key ps (text_of None us) ∷ st) (space_value (m.at_key ps (text_of None us) ∷ st)) behind ∙ value_runs (m.at_key ps (text_of None us) ∷ st) val (more_ends rest)
       ∙ more_runs ps (text_of None us) v st rest
 
+  -- so it does from behind a member's value, which is put at its key
   pub more_runs : (ps : Pairs) (k : List ℕ) (v : Tree) (st : List Frame) {ms : Pairs} {s r : List ℕ} → MoreMembers ms s r → run s (m.after v) (m.at_key ps k ∷ st) ≡ run r (m.after (map (put_all (put k v ps) ms))) st
   more_runs ps k v st (close_map bl) = run_blank (m.after v) (m.at_key ps k ∷ st) (space_after v (m.at_key ps k ∷ st)) bl
   more_runs ps k v st (comma_map bl ms) = run_blank (m.after v) (m.at_key ps k ∷ st) (space_after v (m.at_key ps k ∷ st)) bl ∙ members_runs (put k v ps) st ms

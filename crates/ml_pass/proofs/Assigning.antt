@@ -16,6 +16,7 @@ pub record Assigned (labels : List Label) (i : ℕ) (slots : List Slot) : Type 0
   pub one_each : length slots ≡ i
   pub own : (d : Label) (k : ℕ) → k < i → IsOwnSlot (row (λ j. j) labels slots d) (λ j. j < k) (get_or labels k d) (get_or slots k no_slot)
 
+-- before the first label there is no slot
 pub assigned_none : (labels : List Label) (slots : List Slot) → slots ≡ [] → Assigned labels 0 slots
 assigned_none labels slots empty = record { one_each = ap length empty; own = λ d k h. absurd (omega arith) }
 
@@ -23,6 +24,7 @@ assigned_none labels slots empty = record { one_each = ap length empty; own = λ
 abbrev pub LikeRivals : Type 0
 LikeRivals = (low : Label) (rivals others : ℕ → Rival) (n : ℕ) → ((j : ℕ) → j < n → rivals j ≡ others j) → (slot : Slot) → IsOwnSlot rivals (λ j. j < n) low slot → IsOwnSlot others (λ j. j < n) low slot
 
+-- with the next label's own slot behind the others, the labels up to it have their own slots
 pub assigned_more : LikeRivals → (labels : List Label) (i : ℕ) (slots : List Slot) (s : Slot) (b : Label) → i < length labels → b ≡ get_or labels i b → Assigned labels i slots → IsOwnSlot (rivals_in labels slots b) (λ j. j < length slots) b s → Assigned labels (i + 1) (slots ++ s ∷ [])
 assigned_more like labels i slots s b in' at so_far own =
     let n : length slots ≡ i = so_far.one_each in
@@ -45,12 +47,14 @@ assigned_more like labels i slots s b in' at so_far own =
           ];
     }
 
+-- once all labels have slots, each has its own slot among the labels before it
 pub assigned_all : (labels : List Label) (i : ℕ) (slots : List Slot) → i ≡ length labels → Assigned labels i slots → HaveOwnSlots (λ j. j) labels slots
 assigned_all labels i slots e done =
     (record { one_slot = done.one_each ∙ e; own = λ d k in'. done.own d k (omega arith) })
 
 -- ---- the strips that hold labels
 
+-- before the first label there is none that a strip must have
 pub held_none : (labels : List Label) (slots : List Slot) (strips : List Strip) → slots ≡ [] → AreHeld labels slots strips
 held_none labels slots strips empty j lt = let none = ap length empty in absurd (omega arith)
 

@@ -26,12 +26,14 @@ module _ (labels : List Label) (slots : List Slot) (low : Label) (spots : List S
   -- ---- one spot more, and no more
 
   module _ (at start : ℕ) (spot : Spot) (at_in : at < length spots) (its : spot ≡ get_or spots at spot) (bound : Fraction) (before during : List ℕ) where
+    -- once the next spot to the south is looked at, the search has seen one spot more
     pub south_more : (left : ℕ) (mid next : Fraction) (after : List ℕ) → left ≡ at + 1 → IsSearched low (rivals_in labels slots low) (length slots) (SeesSpot spots left start) bound mid before during → IsSearched low (rivals_in labels slots low) (length slots) (λ j. j ≡ spot.place) mid next during after →
         IsSearched low (rivals_in labels slots low) (length slots) (SeesSpot spots at start) bound next before after
     south_more left mid next after e one two =
         searched_more low (rivals_in labels slots low) (length slots) (SeesSpot spots left start) (λ j. j ≡ spot.place) (SeesSpot spots at start) bound mid next before during after one two
         (strips.south_more labels low spots area strip at start spot at_in its left e)
 
+    -- once the next spot to the north is looked at, the search has seen one spot more
     pub north_more : (mid next : Fraction) (after : List ℕ) → IsSearched low (rivals_in labels slots low) (length slots) (SeesSpot spots start at) bound mid before during → IsSearched low (rivals_in labels slots low) (length slots) (λ j. j ≡ spot.place) mid next during after →
         IsSearched low (rivals_in labels slots low) (length slots) (SeesSpot spots start (at + 1)) bound next before after
     north_more mid next after one two =
@@ -39,12 +41,14 @@ module _ (labels : List Label) (slots : List Slot) (low : Label) (spots : List S
         (strips.north_more labels low spots area strip at start spot at_in its)
 
     module _ (own : Area) (in' : IsInArea low own) (next : Ratio) where
+      -- where the next spot to the south lies too far away, it and all further south count as seen
       pub south_far : (left : ℕ) → left ≡ at + 1 → start ≤ length spots → IsBeyond low.y spot.y (own.along.reach + area.along.reach) next → IsSearched low (rivals_in labels slots low) (length slots) (SeesSpot spots left start) bound (value_of next) before during →
           IsSearched low (rivals_in labels slots low) (length slots) (SeesSpot spots 0 start) bound (value_of next) before during
       south_far left e start_in beyond one =
           searched_all low (rivals_in labels slots low) (length slots) (SeesSpot spots left start) (SeesSpot spots 0 start) bound (value_of next) before during one
           (λ j saw lt. strips.south_far labels low spots area strip at start spot at_in its own.along in'.along next (λ m. value_of (get_or slots m no_slot).until) left e start_in beyond j saw)
 
+      -- where the next spot to the north lies too far away, it and all further north count as seen
       pub north_far : IsBeyond spot.y low.y (own.along.reach + area.along.reach) next → IsSearched low (rivals_in labels slots low) (length slots) (SeesSpot spots start at) bound (value_of next) before during →
           IsSearched low (rivals_in labels slots low) (length slots) (SeesSpot spots start (length spots)) bound (value_of next) before during
       north_far beyond one =
@@ -69,6 +73,7 @@ module _ (low : Label) (rivals : ℕ → Rival) (n : ℕ) (P : ℕ → ℕ → T
   abbrev pub Saw : ℕ → ℕ → ℕ → Type 0
   Saw from until j = (k : ℕ) × (from ≤ k) × (k < until) × P k j
 
+  -- between a place and itself nothing is seen, so nothing is found and the bound stays
   pub saw_none : (at : ℕ) (bound : Fraction) (places : List ℕ) → IsSearched low rivals n (Saw at at) bound bound places places
   saw_none at bound places = searched_none low rivals n (Saw at at) bound places (λ j saw lt. absurd (omega (arith, saw.1, saw.2)))
 
@@ -102,6 +107,7 @@ module _ (low : Label) (rivals : ℕ → Rival) (n : ℕ) (P : ℕ → ℕ → T
 abbrev pub StandsAt : List Spot → ℕ → ℕ → Type 0
 StandsAt spots k j = (d : Spot) → (get_or spots k d).place ≡ j
 
+-- the label at j has its spot in the strip at place k
 abbrev pub LiesAt : List Strip → ℕ → ℕ → Type 0
 LiesAt strips k j = (d : Strip) → HasSpot (get_or strips k d).spots.items j
 

@@ -89,6 +89,7 @@ first_same : (bytes : List ℕ) (labels others : List Label) → AreFirst bytes 
 first_same bytes labels others v w same =
     same_lists labels others same (λ k d lt. row_same (entry bytes k).1 k (get_or labels k d) (get_or others k d) (v.written k lt d) (w.written k (omega arith) d))
 
+-- a table has one list of labels
 pub one_table : (bytes : List ℕ) (labels others : List Label) → IsTable bytes labels → IsTable bytes others → labels ≡ others
 one_table bytes labels others v w = first_same bytes labels others v.first w.first (v.every_line ∙ sym w.every_line)
 
@@ -144,6 +145,7 @@ is_after bytes (SameId k) some v = v
 is_after bytes Full some v = v
 is_after bytes Memory some v = absurd (some refl)
 
+-- nothing is wrong with a table that has labels, out of memory aside
 pub faultless : (bytes : List ℕ) (labels : List Label) (fault : TableFault) → IsTable bytes labels → fault ≢ Memory → ¬ (IsTableFault bytes fault)
 faultless bytes labels fault table some is =
     let v = is_after bytes fault some is in
@@ -151,6 +153,7 @@ faultless bytes labels fault table some is =
     let fewer = v.2 in
     not_at_fault bytes v.0 labels fault v.1 table.first (omega arith) some v.3
 
+-- one thing at most is wrong with a table, at one line, out of memory aside
 pub one_fault : (bytes : List ℕ) (one other : TableFault) → one ≢ Memory → other ≢ Memory → IsTableFault bytes one → IsTableFault bytes other → one ≡ other
 one_fault bytes one other some more is are =
     let v = is_after bytes one some is in
@@ -165,6 +168,7 @@ one_fault bytes one other some more is are =
 
 -- ---- what an answer says is all that there is to say
 
+-- a table that has labels is read as those, unless memory is wanting
 pub reads_from : (bytes : List ℕ) (r : Result (List Label) TableFault) → IfOk r (λ labels. IsTable bytes labels) → IfErr r (λ fault. IsTableFault bytes fault) → (labels : List Label) → IsTable bytes labels → GivesTable r labels
 reads_from bytes (Ok others) ok err labels are = inl (ap Ok (one_table bytes others labels ok are))
 reads_from bytes (Err Memory) ok err labels are = inr refl
@@ -184,6 +188,7 @@ refused_as bytes given fault some more is = (
   λ there. inl (ap Err (one_fault bytes given fault some more is there)),
 )
 
+-- a table is refused with a fault, out of memory aside, exactly where that fault is what is wrong with it
 pub refused_from : (bytes : List ℕ) (r : Result (List Label) TableFault) → IfOk r (λ labels. IsTable bytes labels) → IfErr r (λ fault. IsTableFault bytes fault) → (fault : TableFault) → fault ≢ Memory → RefusesExactly r fault Memory (IsTableFault bytes fault)
 refused_from bytes (Ok labels) ok err fault some = (λ e. absurd (cc e), λ is. absurd (faultless bytes labels fault ok some is))
 refused_from bytes (Err Memory) ok err fault some = (λ e. absurd (let same : Memory ≡ fault = cc e in some (sym same)), λ is. inr refl)

@@ -12,6 +12,7 @@ placed_from labels slots i None lt h = tt
 placed_from [] slots i (Some n) lt h = absurd (omega arith)
 placed_from (label ∷ labels) slots i (Some n) lt h = (let e = h.1 in let before = (h.2 label).0 in omega arith)
 
+-- each blocker of the longest choice is the place of a label
 pub blockers_placed : (labels : List Label) (slots : List Slot) → AreSlots (λ j. j) labels slots → All (λ slot. IsBlockerPlace labels slot.blocker) slots
 blockers_placed labels slots are k d lt =
     let one = are.one_slot in

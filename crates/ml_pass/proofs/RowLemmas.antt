@@ -67,18 +67,21 @@ box_unique text p q one two =
     ap (λ (u : ℤ × ℤ × ℤ × ℤ). let box : BoxPx = record { l = u.0; b = u.1; r = u.2; t = u.3 } in box) (rw (gl, gb, gr, gt) refl)
 
 module _ {A B : Type 0} (R : A → B → Type 0) where
+  -- where two lists match place by place, they still do with a matching pair behind them
   pub zip_push : (xs : List A) (ys : List B) (x : A) (y : B) → AllZip R xs ys → R x y → AllZip R (xs ++ x ∷ []) (ys ++ y ∷ [])
   zip_push [] [] x y h k = (k, tt)
   zip_push [] (b ∷ ys) x y h k = absurd h
   zip_push (a ∷ xs) [] x y h k = absurd h
   zip_push (a ∷ xs) (b ∷ ys) x y h k = (h.0, zip_push xs ys x y h.1 k)
 
+  -- where two lists match place by place, what stands at a place of the one matches what stands there in the other
   pub zip_at : (xs : List A) (ys : List B) (i : ℕ) (d : A) (e : B) → i < length xs → AllZip R xs ys → R (get_or xs i d) (get_or ys i e)
   zip_at [] ys i d e lt h = absurd (omega arith)
   zip_at (a ∷ xs) [] i d e lt h = absurd h
   zip_at (a ∷ xs) (b ∷ ys) zero d e lt h = h.0
   zip_at (a ∷ xs) (b ∷ ys) (suc i) d e lt h = zip_at xs ys i d e (omega arith) h.1
 
+  -- where each element matches one thing at most, a list matches one list at most
   pub zip_unique : ((x : A) (y z : B) → R x y → R x z → y ≡ z) → (xs : List A) (ys zs : List B) → AllZip R xs ys → AllZip R xs zs → ys ≡ zs
   zip_unique one [] [] [] h k = refl
   zip_unique one [] [] (z ∷ zs) h k = absurd k
@@ -105,6 +108,7 @@ plain_fits (Some n) z small e =
     let s : n < 10 ^ 10 = small n refl in
     omega (arith, ints)
 
+-- a whole number that a text writes fits 64 bits, with its sign
 pub whole_fits : (text : List ℕ) (z : ℤ) → whole_number text ≡ Some z → FitsSigned w64 z
 unfolding whole_number
 whole_fits [] z e = absurd (cc)
@@ -146,6 +150,7 @@ module _ (id x y min max : List ℕ) (boxes : List (List ℕ)) (place : ℕ) (or
         low_margin = omega arith;
       }
 
+  -- the label that the fields' values make is the one that the fields write; where they make none, the fields write none
   pub label_from : (o : Option Label) → IsLabelOf order xv yv bs pieces minv maxv 0 o → IsLabelWritten id x y min max boxes place o
   label_from None h = λ label w. h (parts_of_label label w)
   label_from (Some label) h =

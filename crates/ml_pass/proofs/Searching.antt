@@ -83,12 +83,14 @@ module _ (labels : List Label) (slots : List Slot) (low : Label) (place : ℕ) (
   read_slot : get_or slots place s ≡ get_or slots place no_slot
   read_slot = get_or_default slots place s no_slot lt
 
+  -- a rival that sets no limit up to the bound, as its label and slot are read, sets none as it stands in the search
   pub none_there : (bound : Fraction) → SetsNoneUpTo low (get_or labels place a) (value_of (get_or slots place s).until) bound → (j : ℕ) → j ≡ place → SetsNone low (rivals_in labels slots low) bound j
   none_there bound none j same =
       subst (SetsNone low (rivals_in labels slots low) bound) (sym same)
       (subst (λ (b : Label). SetsNoneUpTo low b (value_of (get_or slots place no_slot).until) bound) read_label
       (subst (λ (t : Slot). SetsNoneUpTo low (get_or labels place a) (value_of t.until) bound) read_slot none))
 
+  -- the limit that a rival sets, as its label and slot are read, is the one that it sets as it stands in the search
   pub limit_there : (f : Fraction) → IsLimit low (get_or labels place a) (value_of (get_or slots place s).until) f → IsLimit low (rivals_in labels slots low place).label (value_of (rivals_in labels slots low place).until) f
   limit_there f limit =
       subst (λ (b : Label). IsLimit low b (value_of (get_or slots place no_slot).until) f) read_label

@@ -17,6 +17,7 @@ module _ (all : List (List ℕ)) where
       ap (λ (rest : List ℕ). line_of l s ++ rest) (lines_push labels slots label slot (omega arith))
       ∙ sym (append_assoc (line_of l s) (slot_lines all labels slots) (line_of label slot))
 
+  -- the text of the first slots with the next label's line behind it is the text of one slot more
   pub lines_more : (labels : List Label) (slots : List Slot) (i : ℕ) (d : Label) (e : Slot) → length slots ≡ length labels → i < length labels → slot_lines all (take (i + 1) labels) (take (i + 1) slots) ≡ slot_lines all (take i labels) (take i slots) ++ slot_line (get_or labels i d).order.id (get_or slots i e).until (blocker_name all (get_or slots i e).blocker)
   lines_more labels slots i d e n at =
       rw (take_more labels i d at, take_more slots i e (omega arith))

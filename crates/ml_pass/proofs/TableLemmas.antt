@@ -23,10 +23,12 @@ use Rattle.ml_cone.specs.Places.{FindsPlaces, IsNoId, IsPlaceOf}
 use Rattle.ml_pass.specs.declared.fault.TableFault.{TableFault}
 use Rattle.ml_pass.specs.declared.fault.TableFault.TheVariants.{BadLine, SameId, Full, Memory}
 
+-- where the map has a place for the id, a label has the id
 pub known_from : (o : Option ℕ) (labels : List Label) (id : List ℕ) → MatchOption o (IsNoId labels id) (IsPlaceOf labels id) → is_some o ≡ true → IsKnownId labels id
 known_from None labels id h e = absurd (let f : false ≡ true = e in cc)
 known_from (Some j) labels id h e = (j, h)
 
+-- where the map has no place for the id, no label has it
 pub new_from : (o : Option ℕ) (labels : List Label) (id : List ℕ) → MatchOption o (IsNoId labels id) (IsPlaceOf labels id) → is_some o ≡ false → IsNoId labels id
 new_from None labels id h e = h
 new_from (Some j) labels id h e = absurd (let f : true ≡ false = e in cc)
@@ -57,6 +59,7 @@ module _ (labels : List Label) (label : Label) where
   finds_other None id other h = new_push id h other
   finds_other (Some j) id other h = has_push id j h
 
+  -- with the new label's id and place put in, the map finds all labels up to that one
   pub finds_more : (old new : BTreeMap (Bor (List ℕ)) ℕ) (place : ℕ) → place ≡ length labels → FindsPlaces labels old → ((cs : List ℕ) → get_by (λ k. slice_cmp nat_cmp cs k.now) new ≡ update bytes_eq (λ ds. get_by (λ k. slice_cmp nat_cmp ds k.now) old) label.order.id (Some place) cs) → FindsPlaces (labels ++ label ∷ []) new
   finds_more old new place at finds updates id = rw (updates id) (by_test (bytes_eq label.order.id id) refl)
     where
@@ -77,9 +80,11 @@ pub record TableSoFar (bytes rest : List ℕ) (count : ℕ) (labels : List Label
   pub one_each : length labels ≡ length done
   pub low : count + length rest ≤ length bytes
 
+-- an empty map finds the places of no labels
 pub no_ids : (ids : BTreeMap (Bor (List ℕ)) ℕ) → ids.entries ≡ [] → FindsPlaces [] ids
 no_ids ids e id = rw e (λ j has. (let less : j < 0 = has.0 in absurd (omega arith)))
 
+-- before the first line no label is read, and all lines of the table are to come
 pub so_far_none : (bytes : List ℕ) (ids : BTreeMap (Bor (List ℕ)) ℕ) → ids.entries ≡ [] → TableSoFar bytes bytes 0 [] ids
 so_far_none bytes ids e = record {
   first = record { few = omega arith; lines_enough = omega arith; written = λ i lt d. absurd (omega arith); differ = λ i j less lt d. absurd (omega arith) };
@@ -91,6 +96,7 @@ so_far_none bytes ids e = record {
 }
 
 module _ (bytes rest line after : List ℕ) (count : ℕ) (labels : List Label) (ids : BTreeMap (Bor (List ℕ)) ℕ) (next : lines rest ≡ line ∷ lines after) (shorter : length after < length rest) (so_far : TableSoFar bytes rest count labels ids) where
+  -- an empty line is passed, and the labels read so far stay
   pub so_far_empty : line ≡ [] → TableSoFar bytes after (count + 1) labels ids
   so_far_empty none = record {
     first = so_far.first;
@@ -107,18 +113,21 @@ module _ (bytes rest line after : List ℕ) (count : ℕ) (labels : List Label) 
         let test : (length line == 0) ≡ false = grind (arith, nat_tests) in
         so_far.split ∙ ap (λ (w : List (ℕ × List ℕ)). so_far.done ++ w) (ap (written_lines (count + 1)) next ∙ rw test refl)
 
+    -- the line at hand, with its number, is the one behind those that write the labels so far
     pub entry_here : entry bytes (length labels) ≡ (count + 1, line)
     entry_here =
         ap (λ (w : List (ℕ × List ℕ)). get_or w (length labels) (0, [])) split_here
         ∙ ap (λ (n : ℕ). get_or (so_far.done ++ (count + 1, line) ∷ written_lines (count + 1 + 1) (lines after)) n (0, [])) so_far.one_each
         ∙ get_or-append_seam so_far.done (count + 1, line) (written_lines (count + 1 + 1) (lines after)) (0, [])
 
+    -- so the table has more lines that are not empty than labels were read
     pub is_there : length labels < length (entries bytes)
     is_there =
         let n = ap length split_here ∙ length-append so_far.done ((count + 1, line) ∷ written_lines (count + 1 + 1) (lines after)) in
         let k = so_far.one_each in
         omega arith
 
+    -- a line that writes a label with a new id adds that label, where there are 32,768 at most
     pub so_far_more : (label : Label) (new : BTreeMap (Bor (List ℕ)) ℕ) → length (labels ++ label ∷ []) ≤ 32768 → ReadsRow line (length labels) label → IsNoId labels label.order.id → FindsPlaces (labels ++ label ∷ []) new → TableSoFar bytes after (count + 1) (labels ++ label ∷ []) new
     so_far_more label new few row new_id finds =
         let n : length (labels ++ label ∷ []) ≡ length labels + 1 = length-append labels (label ∷ []) in
@@ -149,21 +158,25 @@ module _ (bytes rest line after : List ℕ) (count : ℕ) (labels : List Label) 
           low = omega arith;
         }
 
+    -- a line that writes no label is a bad line, under its number
     pub no_row_here : ((label : Label) → ¬ (ReadsRow line (length labels) label)) → IsBadLine bytes labels (count + 1)
     no_row_here none = record { numbered = ap (λ (p : ℕ × List ℕ). p.0) entry_here; no_row = λ label row. none label (rw (ap (λ (p : ℕ × List ℕ). p.1) entry_here) at row) }
 
+    -- why the label of the line at hand is not added is what is wrong with that line
     pub add_fault : (label : Label) (fault : TableFault) → ReadsRow line (length labels) label → IsAddFault labels label (count + 1) fault → IsFaultAfter bytes labels fault
     add_fault label (BadLine k) row h = absurd h
     add_fault label (SameId k) row h = record { numbered = ap (λ (p : ℕ × List ℕ). p.0) entry_here ∙ sym h.0; label = label; row = rw (sym (ap (λ (p : ℕ × List ℕ). p.1) entry_here)) at row; known = h.1 }
     add_fault label Full row h = record { label = label; row = rw (sym (ap (λ (p : ℕ × List ℕ). p.1) entry_here)) at row; new = h.0; full = h.1 }
     add_fault label Memory row h = tt
 
+    -- what is wrong with the line at hand is what is wrong with the table, as all lines before it write labels
     pub fault_here : (fault : TableFault) → IsFaultAfter bytes labels fault → IsTableFault bytes fault
     fault_here (BadLine k) h = (labels, so_far.first, is_there, h)
     fault_here (SameId k) h = (labels, so_far.first, is_there, h)
     fault_here Full h = (labels, so_far.first, is_there, h)
     fault_here Memory h = tt
 
+-- where no line is left, the labels read are those of the table
 pub so_far_all : (bytes rest : List ℕ) (count : ℕ) (labels : List Label) (ids : BTreeMap (Bor (List ℕ)) ℕ) → rest ≡ [] → TableSoFar bytes rest count labels ids → IsTable bytes labels
 so_far_all bytes rest count labels ids none so_far =
     let same : entries bytes ≡ so_far.done ++ [] = so_far.split ∙ ap (λ (w : List (ℕ × List ℕ)). so_far.done ++ w) (ap (λ (r : List ℕ). written_lines (count + 1) (lines r)) none) in

@@ -8,6 +8,7 @@ use Rattle.ml_request.specs.declared.request.Refusal.{Refusal}
 use Rattle.ml_request.specs.declared.request.Framing.{Framing}
 use Rattle.ml_request.specs.Heads.{framing_of, parts_of, judgement}
 
+-- what the rules say of the parts of a head as they are read is the judgement of that head
 pub judged : (bytes : List ℕ) (headers fields : List HeaderSpan) (spans : RequestSpans) (h : RequestHead) (method target : List ℕ) (r : Result Framing Refusal) → IsRequestAt bytes headers spans h → method ≡ span_bytes bytes spans.method → target ≡ span_bytes bytes spans.path → fields ≡ take spans.headers headers → r ≡ framing_of target spans.version (map (header_bytes bytes) fields) → parts_of method target r ≡ judgement (Some h)
 judged bytes headers fields spans h method target r at a b c is =
     let methods : method ≡ h.method = a ∙ at.method in

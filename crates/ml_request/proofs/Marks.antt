@@ -17,9 +17,11 @@ four_grow bytes more at fits =
     let room : 4 ≤ length (drop at bytes) = omega (arith, length-drop at bytes) in
     ap (take 4) (drop-append-le at bytes more small) ∙ take-append-le 4 (drop at bytes) more room
 
+-- what follows the bytes leaves a mark in them where it is
 pub mark_grows : (bytes more : List ℕ) (at : ℕ) → IsMarkAt bytes at → IsMarkAt (bytes ++ more) at
 mark_grows bytes more at mark = four_grow bytes more at (mark_fits bytes at mark) ∙ mark
 
+-- a mark that ends within the bytes stands there without what follows them, too
 pub mark_stays : (bytes more : List ℕ) (at : ℕ) → at + 4 ≤ length bytes → IsMarkAt (bytes ++ more) at → IsMarkAt bytes at
 mark_stays bytes more at fits mark = sym (four_grow bytes more at fits) ∙ mark
 
@@ -45,6 +47,7 @@ one_at bytes a b at_a at_b none_a none_b = elim (cases_lt a b) [
   | inr above ↦ elim (cases_lt b a) [ inl below ↦ absurd (none_a b below at_b) | inr other ↦ omega (arith, above, other) ]
 ]
 
+-- bytes have one first head at most
 pub one_size : (bytes : List ℕ) (a b : ℕ) → IsHeadSize bytes a → IsHeadSize bytes b → a ≡ b
 one_size bytes a b first second =
     first.behind ∙ ap (λ n. n + 4) (one_at bytes first.at second.at first.mark second.mark first.first second.first) ∙ sym second.behind

@@ -11,6 +11,7 @@ use Rattle.ml_river.specs.Chain.{middle, raise, AreOffsets, HasSides, IsRaisedBo
 pub lt_along : (a b c d : ℤ) → a ≡ c → d ≡ b → a <ℤ b → c <ℤ d
 lt_along a b c d e f h = omega (arith, ints)
 
+-- the same of numbers of which the one is at most the other
 pub le_along : (a b c d : ℤ) → a ≡ c → d ≡ b → a ≤ℤ b → c ≤ℤ d
 le_along a b c d e f h = omega (arith, ints)
 

@@ -56,6 +56,7 @@ pub record IsWhole (line : List Pos) (a b m n : ℕ) : Type 0 where
   pub to_is : n ≡ b
   pub not_level : step line a ≡ Equal → ⊥
 
+-- a run that begins in a stretch whose steps all go one way is that stretch
 pub run_only : (line : List Pos) (a b m n : ℕ) → IsLastStep line a b → IsRun line m n → a ≤ m → m < b → IsWhole line a b m n
 run_only line a b m n end run am mb =
     let w = one_way line m n run.strict in

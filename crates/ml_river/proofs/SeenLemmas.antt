@@ -89,6 +89,7 @@ earlier lines i a k m n h run (inl b) =
           inr (same, omega arith)
     ]
 
+-- at the end of a line, the best run so far is the best before the next line
 pub best_line : (lines : List (List Pos)) (i a : ℕ) (best : Option Run) → length (line_at lines i) ≤ a + 1 → IsBestBefore lines i a best → IsBestBefore lines (i + 1) 0 best
 best_line lines i a None h none = λ k m n run before. none k m n run (earlier lines i a k m n h run before)
 best_line lines i a (Some r) h best =

@@ -19,6 +19,7 @@ pub x_read : (line : List Pos) (k : ℕ) (p : Pos) → k < length line → p ≡
 unfolding x_at
 x_read line k p h e = get_or-map (λ (q : Pos). q.x) line k p (pos 0) h ∙ ap (λ (q : Pos). q.x) (sym e)
 
+-- the y of a position that was read
 pub y_read : (line : List Pos) (k : ℕ) (p : Pos) → k < length line → p ≡ get_or line k p → y_at line k ≡ p.y
 unfolding y_at
 y_read line k p h e = get_or-map (λ (q : Pos). q.y) line k p (pos 0) h ∙ ap (λ (q : Pos). q.y) (sym e)

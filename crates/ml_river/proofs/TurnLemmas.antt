@@ -15,6 +15,7 @@ pub turned_back : (line : List Pos) (a b : ℕ) (xs ys : List Pos) → xs ≡ st
 turned_back line a b xs ys e r t =
     (r ∙ ap (λ (l : List Pos). reverse l) e) ∙ ap (λ (v : Bool). cond v (reverse (stretch line a b)) (stretch line a b)) (sym t)
 
+-- what the code copies, and leaves as it is where x does not fall
 pub turned_kept : (line : List Pos) (a b : ℕ) (xs : List Pos) → xs ≡ stretch line a b → int_lt (x_at line b) (x_at line a) ≡ false → xs ≡ turned line a b
 turned_kept line a b xs e t = e ∙ ap (λ (v : Bool). cond v (reverse (stretch line a b)) (stretch line a b)) (sym t)
 

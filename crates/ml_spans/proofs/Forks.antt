@@ -30,6 +30,7 @@ module _ {K E V : Type 0} {order : E → E → Ordering} where
       let held : box.value.content ≡ Some content = cc in
       rw is (subst (HoldsGreatest order (entries (Fork height box))) held (subst (IsSound order) is s).0.1.1)
 
+  -- a sound tree that is a fork has its top entry between those of two lower, sound sides, and its node holds the greatest end of all
   pub top_of : {tree : Tree K E V} {height : ℕ} {box : Box (Node K E V) Global} {node : Node K E V} {content : Content K E V} → tree ≡ Fork height box → node ≡ box.value → node.content ≡ Some content → IsSound order tree → IsTopOf order tree content node.left node.right
   top_of {tree} {height} {box} {node} {content} is seen holds s =
       let held : box.value.content ≡ Some content = cc in

@@ -8,6 +8,7 @@ use Rattle.ml_spans.specs.Sound.{HasEnd, IsGreatest, IsGreatestWith}
 use Rattle.ml_spans.specs.declared.entry.Entry.{Entry}
 use Rattle.ml_spans.proofs.Lists.{all_append, all_weaker}
 
+-- no end is above itself
 pub upto_itself : {E : Type 0} {order : E → E → Ordering} → IsTotalOrder order → (x : E) → IsUpTo order x x
 upto_itself o x = ap is_gt (tied_itself o x)
 
@@ -34,6 +35,7 @@ module _ {K E V : Type 0} {order : E → E → Ordering} (o : IsTotalOrder order
   join_own left right entry a b (inl e) (inl f) = has_end_right b left (entry ∷ right) (inl (e ∙ f))
   join_own left right entry a b (inr k) (inl f) = has_end_left b left (entry ∷ right) (subst (HasEnd left) f k)
 
+  -- the greatest of an entry's end and those to its left, and then of that end and those to its right, is the greatest of them all
   pub greatest_join : (left right : List (Entry K E V)) (entry : Entry K E V) (a b : E) → IsGreatestWith order entry.end left a → IsGreatestWith order a right b → IsGreatest order (left ++ (entry ∷ right)) b
   greatest_join left right entry a b g h = record {
     above = all_append (λ one. IsUpTo order one.end b) left (entry ∷ right)

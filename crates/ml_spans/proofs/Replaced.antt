@@ -70,14 +70,17 @@ module _ {A : Type 0} {order : A → A → Ordering} (o : IsTotalOrder order) (x
   rises_set xs ys true m place s = rises_replaced m place s
   rises_set xs ys false m place s = subst (IsRising order) (sym m.0) s
 
+  -- the answer is true just where the element was in the list
   pub there_set : (xs ys : List A) (there : Bool) → MatchBool there (IsReplaced x y xs ys) ((ys ≡ xs) × IsNew order x xs) → IsTrue there ↔ Contains xs x
   there_set xs ys true m = (λ _. contained (taken m), λ _. refl)
   there_set xs ys false m = (λ e. cc, λ c. absurd (absent_from_new order o x xs m.1 c))
 
+  -- the list is as long as it was, whether or not the element was replaced
   pub length_set : (xs ys : List A) (there : Bool) → MatchBool there (IsReplaced x y xs ys) ((ys ≡ xs) × IsNew order x xs) → length ys ≡ length xs
   length_set xs ys true m = omega (arith, ap length m.was, ap length m.is, length-append m.before (x ∷ m.after), length-append m.before (y ∷ m.after))
   length_set xs ys false m = ap length m.0
 
+  -- a list whose element was replaced has the new one and all others of before; where it was not there, the list is the same
   pub members_set : (xs ys : List A) (there : Bool) → MatchBool there (IsReplaced x y xs ys) ((ys ≡ xs) × IsNew order x xs) → IsRising order xs →
       MatchBool there ((z : A) → Contains ys z ↔ ((Contains xs z × (¬ (z ≡ x))) ⊎ (z ≡ y))) (ys ≡ xs)
   members_set xs ys true m s = members_replaced m o s

@@ -71,6 +71,7 @@ late_up ends o None end best h e = refl
 late_up ends o (Some at) end best h e = le_from (ends at best) (upto o at end best (gt_from (ends at end) e) h)
 
 module _ {K E V : Type 0} (keys : K → K → Ordering) (ends : E → E → Ordering) (query : Query K E) where
+  -- what a query wants of one list followed by another is what it wants of the first and then what it wants of the second
   pub wanted_both : (xs ys : List (Entry K E V)) → wanted keys ends query (xs ++ ys) ≡ wanted keys ends query xs ++ wanted keys ends query ys
   wanted_both xs ys = ap (map (λ (e : Entry K E V). e.value)) (filter_both (is_wanted keys ends query) xs ys) ∙ map_both (λ (e : Entry K E V). e.value) (filter (is_wanted keys ends query) xs) (filter (is_wanted keys ends query) ys)
 
@@ -94,15 +95,18 @@ module _ {K E V : Type 0} (keys : K → K → Ordering) (ends : E → E → Orde
       (not_true (is_le (keys x.key query.to)) (λ t. let u = upto o m.key x.key query.to h (gt_from (keys x.key query.to) t) in let v = ap is_gt e in cc)))
 
   module _ (values : V → V → Ordering) (k : IsTotalOrder keys) (e : IsTotalOrder ends) (v : IsTotalOrder values) (all left : List (Entry K E V)) (m : Entry K E V) (right : List (Entry K E V)) (parts : all ≡ left ++ (m ∷ right)) where
+    -- what is wanted of all entries is what is wanted of the left ones, of the middle one and of the right ones, in this order
     pub wanted_parts : wanted keys ends query all ≡ wanted keys ends query left ++ (wanted keys ends query (m ∷ []) ++ wanted keys ends query right)
     wanted_parts = rw parts (wanted_both left (m ∷ right) ∙ ap (λ (l : List V). wanted keys ends query left ++ l) (wanted_both (m ∷ []) right))
 
     about : IsRising (entry_order keys ends values) all → IsAround (entry_order keys ends values) left m right
     about s = around (entry_total k e v) left m right (subst (IsRising (entry_order keys ends values)) parts s)
 
+    -- the entries left of the middle one are in order where all are
     pub left_rising : IsRising (entry_order keys ends values) all → IsRising (entry_order keys ends values) left
     left_rising s = (about s).left_rises
 
+    -- the entries right of the middle one are in order where all are
     pub right_rising : IsRising (entry_order keys ends values) all → IsRising (entry_order keys ends values) right
     right_rising s = (about s).right_rises
 
@@ -113,12 +117,14 @@ module _ {K E V : Type 0} (keys : K → K → Ordering) (ends : E → E → Orde
         let none_middle : wanted keys ends query (m ∷ []) ≡ [] = wanted_none (m ∷ []) (before_range k m m (ap is_gt (tied_itself k m.key)) before, tt) in
         wanted_parts ∙ rw (none_left, none_middle) refl
 
+    -- where the middle key is behind the range, what is wanted is to the left
     pub wanted_left : IsRising (entry_order keys ends values) all → keys m.key query.to ≡ Greater → wanted keys ends query all ≡ wanted keys ends query left
     wanted_left s behind =
         let none_right : wanted keys ends query right ≡ [] = wanted_none right (all_weaker (λ x. entry_order keys ends values m x ≡ Less) (λ x. is_wanted keys ends query x ≡ false) (λ x h. behind_range k x m (first_up _ _ h) behind) right (about s).above) in
         let none_middle : wanted keys ends query (m ∷ []) ≡ [] = wanted_none (m ∷ []) (behind_range k m m (ap is_gt (tied_itself k m.key)) behind, tt) in
         wanted_parts ∙ rw (none_right, none_middle) (append-nil _)
 
+    -- where something is wanted of the entries to the left, something is wanted of all
     pub found_left : wanted keys ends query left ≢ [] → wanted keys ends query all ≢ []
     found_left f = rw wanted_parts (some_left _ _ f)
 
@@ -128,14 +134,18 @@ module _ {K E V : Type 0} (keys : K → K → Ordering) (ends : E → E → Orde
         let own : wanted keys ends query (m ∷ []) ≡ m.value ∷ [] = rw (within, late) refl in
         rw (wanted_parts, own) (some_right (wanted keys ends query left) (m.value ∷ wanted keys ends query right) (λ e. cc))
 
+-- nothing is a first part of whatever was due
 pub part_none : {V : Type 0} (old due : List V) → IsPart old old due
 part_none old due = record { done = []; left = due; is = sym (append-nil old); both = refl }
 
+-- a first part of one thing is one of that thing and whatever is due behind it
 pub part_first : {V : Type 0} (old new one two : List V) → IsPart old new one → IsPart old new (one ++ two)
 part_first old new one two p = record { done = p.done; left = p.left ++ two; is = p.is; both = ap (λ l. l ++ two) p.both ∙ append_assoc p.done p.left two }
 
+-- where one thing was appended whole, and then a first part of the next, a first part of both was appended
 pub part_next : {V : Type 0} (old mid new one two : List V) → mid ≡ old ++ one → IsPart mid new two → IsPart old new (one ++ two)
 part_next old mid new one two e p = record { done = one ++ p.done; left = p.left; is = p.is ∙ ap (λ l. l ++ p.done) e ∙ append_assoc old one p.done; both = ap (λ l. one ++ l) p.both ∙ sym (append_assoc one p.done p.left) }
 
+-- a first part of what was due is one of any list that equals it
 pub part_due : {V : Type 0} {old new due whole : List V} → whole ≡ due → IsPart old new due → IsPart old new whole
 part_due {V} {old} {new} e p = subst (IsPart old new) (sym e) p

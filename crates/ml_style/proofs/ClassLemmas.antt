@@ -32,6 +32,7 @@ pub known_if : (fonts : List NamedFont) (name : List ℕ) (o : Option (Bor Font)
 known_if fonts name None b e h = sym (is_known fonts name) ∙ ap is_some (sym e) ∙ h
 known_if fonts name (Some f) b e h = sym (is_known fonts name) ∙ ap is_some (sym e) ∙ h
 
+-- where a search gives a font, there is one with the name
 pub is_found : (fonts : List NamedFont) (name : List ℕ) (o : Option (Bor Font)) → option_copied o ≡ font_named fonts name → is_some o ≡ true → IsSome (font_named fonts name)
 is_found fonts name None e h = absurd cc
 is_found fonts name (Some f) e h = ap is_some (sym e)
@@ -40,6 +41,7 @@ same_none : (o : Option (ℕ × ℕ)) (r : Ratio) → AreSame o (Some r) → (p 
 same_none None r h = absurd h
 same_none (Some p) r h = (p, refl, h)
 
+-- of two ratios the greater is not at most the lesser
 pub not_at_most : (a b : Ratio) → IsLess (value_of a) (value_of b) → is_at_most b a ≡ false
 not_at_most a b h = grind (arith, nat_tests)
 

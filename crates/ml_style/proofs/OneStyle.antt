@@ -192,6 +192,7 @@ one_style_in fields a b p q =
 one_table : (bytes : List ℕ) (a b : Members) → ReadsToml bytes a → ReadsToml bytes b → a ≡ b
 one_table bytes a b p q = one_value _ a b p.1 q.1
 
+-- bytes are one style at most
 pub one_style : (bytes : List ℕ) (a b : Style) → IsStyle bytes a → IsStyle bytes b → a ≡ b
 one_style bytes a b (one, reads, faultless, is) (other, reads_other, faultless_other, is_other) =
     let same = one_table bytes one other reads reads_other in
@@ -220,5 +221,6 @@ one_seen bytes a b (inl p) (inr q) = absurd (p.1 q.0 q.1)
 one_seen bytes a b (inr p) (inl q) = absurd (q.1 p.0 p.1)
 one_seen bytes a b (inr p) (inr q) = one_first bytes a b p q
 
+-- bytes are refused for one fault at most, apart from the want of memory
 pub one_fault : (bytes : List ℕ) (a b : StyleFault) → a ≢ Memory → b ≢ Memory → IsRefusal bytes a → IsRefusal bytes b → a ≡ b
 one_fault bytes a b some another p q = one_seen bytes a b (seen bytes a some p) (seen bytes b another q)

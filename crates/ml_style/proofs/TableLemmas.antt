@@ -91,6 +91,7 @@ pub one_left : (cs ds : List ℕ) (c : ℕ) → cs ≡ c ∷ ds → None ≡ sli
 one_left cs [] c e h = rw e refl
 one_left cs (d ∷ ds) c e h = absurd (let no : None ≡ Some d = h in cc)
 
+-- where something is behind the front, the list has no only element
 pub more_left : (cs ds : List ℕ) (c d : ℕ) → cs ≡ c ∷ ds → Some d ≡ slice_get ds 0 → None ≡ only cs
 more_left cs [] c d e h = absurd (let no : Some d ≡ None = h in cc)
 more_left cs (b ∷ ds) c d e h = rw e refl

@@ -136,6 +136,7 @@ in_tile : (a : Label) (z : ℕ) (i j : ℤ) (tile : IsTile z i j) (p : BoxPx) �
 unfolding IsInView BoxInView
 in_tile a z i j tile p among x y = (among.0, p, among.1, among.2, (x, y))
 
+-- a label that is active and of which a box meets the area of some tiles is shown in one of them
 pub shown_in_one : (label : Label) (span : Span) (z : ℕ) (i k j m : ℤ) → i ≤ℤ k → j ≤ℤ m → AreTiles z i k j m →
     ActiveBetween (value_of span.min) (value_of span.until) (scale z) → IsInArea label z i k j m →
     (key : TileKey) × (key.z ≡ z) × IsBetween key.i i k × IsBetween key.j j m × ShowsIn label span key

@@ -15,6 +15,7 @@ use Rattle.ml_tile.specs.Cache.{HeldTile, IsHeld, ComesFirst, AreFewTiles}
 use Rattle.ml_tile.specs.declared.key.TileKey.{TileKey}
 use Rattle.ml_tile.proofs.Keys.{same_key, key_of_same, same_decides, same_itself}
 
+-- what a look-up of a tile gave, a body or none, tells whether the tile is held
 pub look_by : (key : TileKey) (es : List HeldTile) (o : Option (List ℕ)) → lookup (same_key key) es ≡ o → MatchBool (is_some o) (IsHeld key es) (¬ (IsHeld key es))
 look_by key es (Some v) h = let c = Contains-lookup (same_key key) es v h in (v, subst (λ k. Contains es (k, v)) (sym (key_of_same key c.0 c.2)) c.1)
 look_by key es None h = λ held. false≢true (sym (none_found (same_key key) es h (key, held.0) held.1) ∙ same_itself key)

@@ -9,6 +9,7 @@ use Rattle.ml_tile.specs.Place.{middle}
 use Rattle.ml_tile.specs.declared.key.TileKey.{TileKey}
 use Rattle.ml_tile.specs.contracts.key.TileKeyPartialEq.TheImpl.{eq-value}
 
+-- equality of keys as the program tests it, by their numbers
 abbrev pub same_key : TileKey → TileKey → Bool
 same_key = eq-value.it
 
@@ -27,9 +28,11 @@ by_parts a b e f g n =
       world_y = is_prop→PathP (λ m. IsInWorld (middle (e m) (g m))) (λ m. hlevel props) a.world_y b.world_y n;
     }
 
+-- keys that pass the test are the same
 pub key_of_same : (a b : TileKey) → same_key a b ≡ true → a ≡ b
 key_of_same a b h = let p = (decides a b).0 h in by_parts a b p.0 p.1.0 p.1.1
 
+-- each key passes the test with itself
 pub same_itself : (a : TileKey) → same_key a a ≡ true
 same_itself a = (decides a a).1 (refl, (refl, refl))
 

@@ -12,9 +12,11 @@ use Rattle.ml_tile.specs.Place.{IsNear}
 abbrev pub middle_of : ℤ → ℕ → ℤ
 middle_of i p = ((pos 2 *ℤ i) +ℤ pos 1) *ℤ pos p
 
+-- half a side of a tile that is at most 21 deep is at most 2^30 units
 pub half_low : (z : ℕ) → z ≤ 21 → 512 * 2 ^ z ≤ 2 ^ 30
 half_low z h = let p : 2 ^ z ≤ 2 ^ 21 = pow-le-pow_right (omega arith) h in omega arith
 
+-- half a side of a tile is at least 512 units
 pub half_some : (z : ℕ) → 512 ≤ 512 * 2 ^ z
 half_some z = let p : 1 ≤ 2 ^ z = pow_pos z in omega arith
 
@@ -26,12 +28,15 @@ bounded (negsuc n) h k = omega (arith, ints)
 odd_bound : (i : ℤ) → IsNear i → (up ((pos 2 *ℤ i) +ℤ pos 1) ≤ 4000001) × (down ((pos 2 *ℤ i) +ℤ pos 1) ≤ 4000001)
 odd_bound i h = bounded ((pos 2 *ℤ i) +ℤ pos 1) (omega (arith, ints)) (omega (arith, ints))
 
+-- for a column i that is near, 2 i + 1 fits in a signed word
 pub odd_fits : (i : ℤ) → IsNear i → FitsSigned w64 ((pos 2 *ℤ i) +ℤ pos 1)
 odd_fits i h = omega (arith, ints, odd_bound i h)
 
+-- and so does 2 i
 pub twice_fits : (i : ℤ) → IsNear i → FitsSigned w64 (pos 2 *ℤ i)
 twice_fits i h = omega (arith, ints)
 
+-- and so does the column's middle, where half a side is at most 2^30 units
 pub middle_fits : (i : ℤ) (p : ℕ) → IsNear i → p ≤ 2 ^ 30 → FitsSigned w64 (middle_of i p)
 middle_fits i p h low =
     let b = odd_bound i h in

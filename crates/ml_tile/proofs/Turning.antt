@@ -14,6 +14,7 @@ pub record Turned (Goes : TileKey → Type 0) (old now : List HeldTile) (left : 
   pub stand : now ≡ kept ++ front
   pub loses : Loses Goes back kept
 
+-- at first all tiles are still to be looked at, and none has gone
 pub turned_none : (Goes : TileKey → Type 0) (old : List HeldTile) (left : ℕ) → left ≡ length old → Turned Goes old old left
 turned_none Goes old left e = record { front = old; back = []; kept = []; stood = sym (append-nil old); count = sym e; stand = refl; loses = refl }
 

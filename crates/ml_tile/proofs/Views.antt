@@ -48,6 +48,7 @@ by_parts v u x y w h s n =
       below = is_prop→PathP (λ m. (s m).num < 2 ^ 28 * (s m).den) (λ m. hlevel props) v.below u.below n;
     }
 
+-- two views of one tile have one middle, one size and one scale, and so are the same
 pub one_view : (key : TileKey) (v u : View) → IsTileView key.z key.i key.j v → IsTileView key.z key.i key.j u → v ≡ u
 one_view key v u p q =
     by_parts v u (p.cx_is ∙ sym q.cx_is) (p.cy_is ∙ sym q.cy_is) (p.w_is ∙ sym q.w_is) (p.h_is ∙ sym q.h_is)

@@ -14,6 +14,7 @@ none = record { num = 0; den = 1; positive = lit< tt }
 abbrev top : Fraction
 top = record { num = 2 ^ 28; den = 1; positive = lit< tt }
 
+-- where a word writes a view's scale, any ratio read from it is above 0 and below 2^28
 pub scale_word : (word : List ℕ) (r s : Ratio) → ReadsRatio word (Some s) → IsScaleWord word r → (0 < s.num) × (s.num < 2 ^ 28 * s.den)
 scale_word word r s reads is =
     let same : IsSame (value_of r) (value_of s) = ratio_same word r s is.reads reads in

@@ -16,6 +16,7 @@ pub record ShownBelow (labels : List Label) (c : Choice) (v : View) (i : ℕ) (p
   pub below : (k : ℕ) → k < length places → slice_index places k < i
   pub whole : (j : ℕ) → j < i → IsShown labels c v j → (k : ℕ) × (k < length places) × (slice_index places k ≡ j)
 
+-- before the first label no place is listed
 pub shown_none : (labels : List Label) (c : Choice) (v : View) → ShownBelow labels c v 0 []
 shown_none labels c v = record {
   ascending = λ k m less lt. absurd (omega arith);
@@ -24,6 +25,7 @@ shown_none labels c v = record {
   whole = λ j lt is. absurd (omega arith);
 }
 
+-- one more label, which is not shown: the places stay as they are
 pub shown_skip : (labels : List Label) (c : Choice) (v : View) (i : ℕ) (places : List ℕ) → ShownBelow labels c v i places → ¬ (IsShown labels c v i) → ShownBelow labels c v (i + 1) places
 shown_skip labels c v i places so_far not = record {
   ascending = so_far.ascending;
@@ -35,6 +37,7 @@ shown_skip labels c v i places so_far not = record {
   ];
 }
 
+-- one more label, which is shown: its place comes last
 pub shown_more : (labels : List Label) (c : Choice) (v : View) (i : ℕ) (places : List ℕ) → ShownBelow labels c v i places → IsShown labels c v i → ShownBelow labels c v (i + 1) (places ++ i ∷ [])
 shown_more labels c v i places so_far here =
     let n : length (places ++ i ∷ []) ≡ length places + 1 = length-append places (i ∷ []) in
@@ -59,6 +62,7 @@ shown_more labels c v i places so_far here =
       ];
     }
 
+-- once all labels are gone through, the places are those of all shown labels
 pub shown_all : (labels : List Label) (c : Choice) (v : View) (i : ℕ) (places : List ℕ) → i ≡ length labels → ShownBelow labels c v i places → AreShown labels c v places
 shown_all labels c v i places e so_far = record {
   ascending = so_far.ascending;

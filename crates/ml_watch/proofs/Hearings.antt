@@ -7,6 +7,7 @@ use Rattle.ml_watch.specs.Hearing.{Hearing, Grew, IsPartOf, Hears, AllHear}
 use Rattle.ml_watch.specs.Line.{change_line}
 use Rattle.ml_watch.proofs.Told.{grew_nothing, grew_twice, grew_so}
 
+-- nothing of a line counts as a part of it, whatever changes come next
 pub no_part : (xs : List Change) → IsPartOf xs []
 no_part [] = refl
 no_part (x ∷ xs) = (0, refl)
@@ -15,6 +16,7 @@ part_goes_on : (xs ys : List Change) (part : List ℕ) → IsPartOf xs part → 
 part_goes_on [] ys part cut = rw cut (no_part ys)
 part_goes_on (x ∷ xs) ys part cut = cut
 
+-- a watcher that stays as it is was told no changes
 pub hears_nothing : {W : Type 0} (hearing : W → Hearing) (w : W) → Hears hearing w w []
 hears_nothing hearing w = record {
   front = [];
@@ -61,12 +63,15 @@ hears_on hearing a b c xs ys (suc n) is first second =
       later = omega (arith, first.later, counts);
     }
 
+-- a watcher that was told changes and then more of them was told all of them
 pub hears_twice : {W : Type 0} (hearing : W → Hearing) (a b c : W) (xs ys : List Change) → Hears hearing a b xs → Hears hearing b c ys → Hears hearing a c (xs ++ ys)
 hears_twice hearing a b c xs ys first second = hears_on hearing a b c xs ys (hearing b).faults refl first second
 
+-- watchers that stay as they are were told no changes
 pub all_hear_nothing : {W : Type 0} (hearing : W → Hearing) (ws : List W) → AllHear hearing [] ws ws
 all_hear_nothing hearing ws = record { places = refl; each = λ k d within. hears_nothing hearing (slice_index_or ws k d) }
 
+-- watchers that were told changes and then more of them were each told all of them
 pub all_hear_twice : {W : Type 0} (hearing : W → Hearing) (xs ys : List Change) (a b c : List W) → AllHear hearing xs a b → AllHear hearing ys b c → AllHear hearing (xs ++ ys) a c
 all_hear_twice hearing xs ys a b c first second = record {
   places = second.places ∙ first.places;

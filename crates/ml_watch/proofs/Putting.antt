@@ -57,6 +57,7 @@ held_nothing {E} old held before u = record {
 pub held_well : {E F : Type 0} {old new : Option (List ℕ)} {held kept : List ℕ} {before now : ℕ} {text : List ℕ} {u : Unit {0}} → HeldPuts {E = E} old new held kept before now text (Ok u) → (v : Unit {0}) → HeldPuts {E = F} old new held kept before now text (Ok v)
 held_well h v = record { grows = h.grows; puts = record { ok = h.puts.ok; err = tt; cause = record { later = h.puts.cause.later; fine = h.puts.cause.fine; failed = tt } } }
 
+-- a text that was put whole, and then another
 pub held_then : {E F : Type 0} {old mid new : Option (List ℕ)} {held kept last : List ℕ} {before between now : ℕ} {p q : List ℕ} {u : Unit {0}} {r : Result (Unit {0}) E} →
     HeldPuts {E = F} old mid held kept before between p (Ok u) → HeldPuts mid new kept last between now q r → HeldPuts old new held last before now (p ++ q) r
 held_then {old = old} {mid = mid} {new = new} {held = held} {kept = kept} {last = last} {before = before} {between = between} {now = now} {p = p} {q = q} {r = r} first second = record {
@@ -64,6 +65,7 @@ held_then {old = old} {mid = mid} {new = new} {held = held} {kept = kept} {last 
   puts = puts_then (with_held old held) (with_held mid kept) (with_held new last) before between now p q r first.puts.ok first.puts.cause.fine second.puts;
 }
 
+-- a text of which a part alone was put, and another that was not begun
 pub held_cut : {E : Type 0} {old new : Option (List ℕ)} {held kept : List ℕ} {before now : ℕ} {p : List ℕ} {r : Result (Unit {0}) E} (q : List ℕ) (s : Result (Unit {0}) E) →
     HeldPuts old new held kept before now p r → OnOk r ⊥ → OnOk s ⊥ → HeldPuts old new held kept before now (p ++ q) s
 held_cut {old = old} {new = new} {held = held} {kept = kept} {before = before} {now = now} {p = p} {r = r} q s first h k = record {
@@ -71,6 +73,7 @@ held_cut {old = old} {new = new} {held = held} {kept = kept} {before = before} {
   puts = puts_cut (with_held old held) (with_held new kept) before now p q r s first.puts h k;
 }
 
+-- what was put of a text was put of one that is the same
 pub held_so : {E : Type 0} {old new : Option (List ℕ)} {held kept : List ℕ} {before now : ℕ} {p : List ℕ} {r : Result (Unit {0}) E} (q : List ℕ) → p ≡ q → HeldPuts old new held kept before now p r → HeldPuts old new held kept before now q r
 held_so {old = old} {new = new} {held = held} {kept = kept} {before = before} {now = now} {r = r} q same h = subst (λ (t : List ℕ). HeldPuts old new held kept before now t r) same h
 
@@ -122,12 +125,15 @@ pub held_kept : (old new : Option (List ℕ)) (held : List ℕ) → Appends old 
 held_kept None new held put = ap (λ (o : Option (List ℕ)). with_held o held) put
 held_kept (Some xs) new held put = ap (λ (o : Option (List ℕ)). with_held o held) put ∙ ap (λ (t : List ℕ). Some (t ++ held)) (append-nil xs)
 
+-- what grew, and then took a piece at its end, grew
 pub grows_more : (a b c : Option (List ℕ)) (piece : List ℕ) → Grows a b → Appends b c piece → Grows a c
 grows_more a b c piece first second = (first.0 ++ piece, appends_twice a b c first.0 piece first.1 second)
 
+-- what stays as it is grew by nothing
 pub grows_nothing : (a : Option (List ℕ)) → Grows a a
 grows_nothing a = ([], appends_nothing a)
 
+-- where bytes are held back, there is one of them at least
 pub some_held : (held : List ℕ) → ¬ (held ≡ []) → 0 < length held
 some_held [] none = absurd (none refl)
 some_held (b ∷ held) none = omega arith
@@ -141,6 +147,7 @@ pushed (Some xs) (Some ys) held kept last byte same is =
     let lists : ys ++ kept ≡ xs ++ held = cc in
     ap (λ (t : List ℕ). Some (ys ++ t)) is ∙ ap Some (sym (append_assoc ys kept (byte ∷ []))) ∙ ap (λ (t : List ℕ). Some (t ++ byte ∷ [])) lists
 
+-- a byte that is held back behind the others is put
 pub held_pushed : {E : Type 0} (old mid : Option (List ℕ)) (held kept last : List ℕ) (byte before now : ℕ) → with_held mid kept ≡ with_held old held → Grows old mid → now ≡ before → last ≡ kept ++ byte ∷ [] → (v : Unit {0}) →
     HeldPuts {E = E} old mid held last before now (byte ∷ []) (Ok v)
 held_pushed old mid held kept last byte before now same grows calm is v = record {

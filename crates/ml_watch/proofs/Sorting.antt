@@ -23,6 +23,7 @@ strict cmp (k ∷ ks) h = (all k ks (λ j d lt. h zero (suc j) d (omega arith) (
     all k [] h = tt
     all k (x ∷ ks) h = (h zero x (omega arith), all k ks (λ j d lt. h (suc j) d (omega arith)))
 
+-- once changes of which no two have one id are sorted by id, their ids strictly rise
 pub sorted_changes : {F : Type 0} {g : Mut F (Bor Change × (Bor Change × Unit {0})) Ordering} {f : F} (changes ordered : List Change) → AllPairs (λ one other. one.id ≢ other.id) changes
     → IsPermutation changes ordered → IsSortedByClosure g f ordered
     → ((f : F) (a : Bor Change × (Bor Change × Unit {0})) (r : Ordering) (f' : F) → Called g f a r f' → r ≡ slice_cmp nat_cmp a.0.now.id a.1.0.now.id) → IsStrictlySortedBy (slice_cmp nat_cmp) (map (λ c. c.id) ordered)

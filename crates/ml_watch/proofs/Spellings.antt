@@ -93,6 +93,7 @@ spelled_back (b ∷ id) h = first_spelled b (flat_map byte_text id) ∙ bytes_ba
 pub spelled_id : (text id : List ℕ) → Spells text id → spelled text ≡ id
 spelled_id text id s = ap spelled (sym s.spelled) ∙ spelled_back id (utf8_bytes id s.is_text)
 
+-- a text spells one id at most
 pub one_spelling : (text id other : List ℕ) → Spells text id → Spells text other → id ≡ other
 one_spelling text id other s t = sym (spelled_id text id s) ∙ spelled_id text other t
 
@@ -127,6 +128,7 @@ bytes_within : (id : List ℕ) → AreBytes id → AreVisible (flat_map byte_tex
 bytes_within [] h = no_bytes
 bytes_within (b ∷ id) h = byte_within b (flat_map byte_text id) h.0 (bytes_within id h.1)
 
+-- each byte of an id in a line is one of the visible characters from # to ~
 pub visible_id : (id : List ℕ) → IsUtf8 id → AreVisible (id_text id)
 visible_id [] u = visible_cons 37 [] (omega arith, omega arith) no_bytes
 visible_id (b ∷ id) u = bytes_within (b ∷ id) (utf8_bytes (b ∷ id) u)

@@ -29,6 +29,7 @@ further g h pixels bound le far = let m = mul-le g bound.den h bound.den le (ome
 pub far_ahead : (u v a b : ℤ) (pixels : ℕ) (bound : Ratio) → IsBeyond u v pixels bound → u ≤ℤ a → b ≤ℤ v → IsFar a b pixels bound
 far_ahead u v a b pixels bound beyond from to = let order = beyond.0 in further (unsigned_abs (u -ℤ v)) (unsigned_abs (a -ℤ b)) pixels bound (omega (arith, ints)) beyond.1
 
+-- the same, with the one that lies behind named first
 pub far_behind : (u v a b : ℤ) (pixels : ℕ) (bound : Ratio) → IsBeyond u v pixels bound → u ≤ℤ a → b ≤ℤ v → IsFar b a pixels bound
 far_behind u v a b pixels bound beyond from to = let order = beyond.0 in further (unsigned_abs (u -ℤ v)) (unsigned_abs (b -ℤ a)) pixels bound (omega (arith, ints)) beyond.1
 

@@ -2,12 +2,15 @@
 use Rattle.std.proofs.Common.{◌≡◌, ℕ, zero, suc, ◌<◌, List, [], ◌∷◌, length, get_or, Contains, ◌⊎◌, inl, inr, refl, sym, ap, subst, ◌∙◌, arith}
 
 module _ {X : Type 0} where
+  -- the first element is in the list
   pub here : (x : X) (xs : List X) → Contains (x ∷ xs) x
   here x xs = (0, omega arith, refl)
 
+  -- what is in the rest of a list is in the list
   pub later : (x y : X) (xs : List X) → Contains xs y → Contains (x ∷ xs) y
   later x y xs there = (suc there.0, omega arith, there.2)
 
+  -- nothing is in the empty list
   pub none_in_none : {x : X} → Contains [] x → ⊥
   none_in_none there = let lt = there.1 in omega arith
 
@@ -15,11 +18,13 @@ module _ {X : Type 0} where
   at_cases x y xs zero lt is = inl is
   at_cases x y xs (suc k) lt is = inr (k, omega arith, is)
 
+  -- an element of a list is the first one or is in the rest
   pub cases : (x y : X) (xs : List X) → Contains (x ∷ xs) y → (x ≡ y) ⊎ Contains xs y
   cases x y xs there = at_cases x y xs there.0 there.1 there.2
 
 -- lists that ascend by a relation that holds in one direction at most
 module _ {X : Type 0} (less : X → X → Type 0) (clash : (a b : X) → less a b → less b a → ⊥) where
+  -- each element is less than all that stand behind it
   abbrev pub Ascends : List X → Type 0
   Ascends xs = (j i : ℕ) (d : X) → j < i → i < length xs → less (get_or xs j d) (get_or xs i d)
 
@@ -52,6 +57,7 @@ module _ {X : Type 0} (less : X → X → Type 0) (clash : (a b : X) → less a 
     | inr others ↦ others
   ]
 
+  -- two such lists, each with the elements of the other, are the same
   pub one_list : (xs ys : List X) → Ascends xs → Ascends ys → Within xs ys → Within ys xs → xs ≡ ys
   one_list [] [] up_x up_y there back = refl
   one_list [] (y ∷ ys) up_x up_y there back = absurd (none_in_none (back y (here y ys)))

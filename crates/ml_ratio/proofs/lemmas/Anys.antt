@@ -10,9 +10,11 @@ use Rattle.std.proofs.lemmas.List.Sorted.{Contains-permutation}
 pub any_at : {X : Type 0} (P : X → Type 0) (xs : List X) (d : X) → Any P xs → (k : ℕ) × (k < length xs) × P (get_or xs k d)
 any_at P xs d (k, x, lt, e, p) = (k, lt, subst P (sym (get_or_default xs k d x lt ∙ e)) p)
 
+-- where the element at a place has the property, some element has it
 pub any_of : {X : Type 0} (P : X → Type 0) (xs : List X) (k : ℕ) (d : X) → k < length xs → P (get_or xs k d) → Any P xs
 any_of P xs k d lt p = (k, get_or xs k d, lt, get_or_default xs k (get_or xs k d) d lt, p)
 
+-- no element of an empty list has the property
 pub any_none : {X : Type 0} (P : X → Type 0) → ¬ (Any P [])
 any_none P (k, x, lt, e, p) = omega arith
 
@@ -20,13 +22,16 @@ any_none P (k, x, lt, e, p) = omega arith
 pub any_here : {X : Type 0} (P : X → Type 0) (x : X) (xs : List X) → P x → Any P (x ∷ xs)
 any_here P x xs p = (0, x, omega arith, refl, p)
 
+-- where some element behind the first has the property, some element of all has it
 pub any_there : {X : Type 0} (P : X → Type 0) (x : X) (xs : List X) → Any P xs → Any P (x ∷ xs)
 any_there P x xs (k, y, lt, e, p) = (suc k, y, omega arith, e, p)
 
+-- where some element has the property, the first one has it or some element behind it
 pub any_cases : {X : Type 0} (P : X → Type 0) (x : X) (xs : List X) → Any P (x ∷ xs) → P x ⊎ Any P xs
 any_cases P x xs (zero, y, lt, e, p) = inl (rw e p)
 any_cases P x xs (suc k, y, lt, e, p) = inr (k, y, omega arith, e, p)
 
+-- where some element of a list of one has the property, that one has it
 pub any_one : {X : Type 0} (P : X → Type 0) (x : X) → Any P (x ∷ []) → P x
 any_one P x any =
     elim (any_cases P x [] any) [
@@ -38,9 +43,11 @@ any_one P x any =
 pub any_left : {X : Type 0} (P : X → Type 0) (xs ys : List X) → Any P xs → Any P (xs ++ ys)
 any_left P xs ys (k, x, lt, e, p) = (k, x, omega (arith, length-append xs ys), get_or-append xs ys x k lt ∙ e, p)
 
+-- where some element of the second list has the property, some element of the two lists in a row has it
 pub any_right : {X : Type 0} (P : X → Type 0) (xs ys : List X) → Any P ys → Any P (xs ++ ys)
 any_right P xs ys (k, x, lt, e, p) = (length xs + k, x, omega (arith, length-append xs ys), get_or-append-add xs ys k x ∙ e, p)
 
+-- where some element of two lists in a row has the property, some element of the first list has it or some of the second
 pub any_either : {X : Type 0} (P : X → Type 0) (xs ys : List X) → Any P (xs ++ ys) → Any P xs ⊎ Any P ys
 any_either P xs ys (k, x, lt, e, p) =
     elim (cases_lt k (length xs)) [
@@ -60,9 +67,11 @@ any_push_cases P xs y any =
 pub any_more_cases : {X : Type 0} (P : X → Type 0) (xs : List X) (i : ℕ) (d : X) → i < length xs → Any P (take (i + 1) xs) → Any P (take i xs) ⊎ P (get_or xs i d)
 any_more_cases {X} P xs i d lt any = any_push_cases P (take i xs) (get_or xs i d) (subst (λ (ys : List X). Any P ys) (take_more xs i d lt) any)
 
+-- where one of the first i elements has the property, one of the first i + 1 has it
 pub any_more_left : {X : Type 0} (P : X → Type 0) (xs : List X) (i : ℕ) (d : X) → i < length xs → Any P (take i xs) → Any P (take (i + 1) xs)
 any_more_left {X} P xs i d lt any = subst (λ (ys : List X). Any P ys) (sym (take_more xs i d lt)) (any_left P (take i xs) (get_or xs i d ∷ []) any)
 
+-- where the element at place i has the property, one of the first i + 1 elements has it
 pub any_more_here : {X : Type 0} (P : X → Type 0) (xs : List X) (i : ℕ) (d : X) → i < length xs → P (get_or xs i d) → Any P (take (i + 1) xs)
 any_more_here {X} P xs i d lt p = subst (λ (ys : List X). Any P ys) (sym (take_more xs i d lt)) (any_right P (take i xs) (get_or xs i d ∷ []) (any_here P (get_or xs i d) [] p))
 
@@ -70,6 +79,7 @@ any_more_here {X} P xs i d lt p = subst (λ (ys : List X). Any P ys) (sym (take_
 pub any_whole : {X : Type 0} (P : X → Type 0) (xs : List X) (i : ℕ) → length xs ≤ i → Any P xs → Any P (take i xs)
 any_whole {X} P xs i h any = subst (λ (ys : List X). Any P ys) (sym (take_all i xs h)) any
 
+-- where one of the first elements has the property, and the list has no more than these, some element of the list has it
 pub any_of_whole : {X : Type 0} (P : X → Type 0) (xs : List X) (i : ℕ) → length xs ≤ i → Any P (take i xs) → Any P xs
 any_of_whole {X} P xs i h any = subst (λ (ys : List X). Any P ys) (take_all i xs h) any
 

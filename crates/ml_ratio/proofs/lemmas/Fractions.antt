@@ -12,6 +12,7 @@ products p q r s t u h k pos =
     let two : r * u * q ≤ t * s * q = mul-le-mul_right q k in
     omega arith)
 
+-- where a < b and b ≤ c, a < c
 pub less_at_most : (a b c : Fraction) → IsLess a b → IsAtMost b c → IsLess a c
 less_at_most a b c h k = products a.num a.den b.num b.den c.num c.den h k c.positive
 
@@ -22,9 +23,11 @@ products' p q r s t u h k pos =
     let two : r * u * q < t * s * q = mul-lt-mul_of_pos_right k pos in
     omega arith)
 
+-- where a ≤ b and b < c, a < c
 pub at_most_less : (a b c : Fraction) → IsAtMost a b → IsLess b c → IsLess a c
 at_most_less a b c h k = products' a.num a.den b.num b.den c.num c.den h k a.positive
 
+-- where a < b and b < c, a < c
 pub less_trans : (a b c : Fraction) → IsLess a b → IsLess b c → IsLess a c
 less_trans a b c h k = less_at_most a b c h (omega arith)
 
@@ -36,6 +39,7 @@ products'' p q r s t u h k pos =
     let goal : p * u * s ≤ t * q * s = omega arith in
     goal) pos
 
+-- where a ≤ b and b ≤ c, a ≤ c
 pub at_most_trans : (a b c : Fraction) → IsAtMost a b → IsAtMost b c → IsAtMost a c
 at_most_trans a b c h k = products'' a.num a.den b.num b.den c.num c.den h k b.positive
 
@@ -43,17 +47,21 @@ at_most_trans a b c h k = products'' a.num a.den b.num b.den c.num c.den h k b.p
 unfoldable pub middle : Fraction → Fraction → Fraction
 middle a b = record { num = a.num + b.num; den = a.den + b.den; positive = let p : 0 < a.den = a.positive in omega arith }
 
+-- the fraction between two is above the smaller one
 pub middle_above : (a b : Fraction) → IsLess a b → IsLess a (middle a b)
 unfolding middle
 middle_above a b h = omega arith
 
+-- the fraction between two is below the greater one
 pub middle_below : (a b : Fraction) → IsLess a b → IsLess (middle a b) b
 unfolding middle
 middle_below a b h = omega arith
 
+-- a fraction that is less than another is at most that one
 pub less_is_at_most : (a b : Fraction) → IsLess a b → IsAtMost a b
 less_is_at_most a b h = omega arith
 
+-- a fraction of the same value as another is at most that one
 pub same_at_most : (a b : Fraction) → IsSame b a → IsAtMost a b
 same_at_most a b e = omega arith
 
@@ -63,12 +71,15 @@ pub ruleset order = (less_at_most, at_most_less, less_trans, at_most_trans)
 pub above_both : (a b : Fraction) → IsAtMost a b → (s : Fraction) → IsLess b s ↔ (IsLess a s × IsLess b s)
 above_both a b h s = (λ k. (at_most_less a b s h k, k), λ k. k.1)
 
+-- where b ≤ a, a fraction is above both a and b just if it is above a
 pub above_both_turned : (a b : Fraction) → IsAtMost b a → (s : Fraction) → IsLess a s ↔ (IsLess a s × IsLess b s)
 above_both_turned a b h s = (λ k. (k, at_most_less b a s h k), λ k. k.0)
 
+-- where a ≤ b, a fraction is at least both a and b just if it is at least b
 pub from_both : (a b : Fraction) → IsAtMost a b → (s : Fraction) → IsAtMost b s ↔ (IsAtMost a s × IsAtMost b s)
 from_both a b h s = (λ k. (at_most_trans a b s h k, k), λ k. k.1)
 
+-- where b ≤ a, a fraction is at least both a and b just if it is at least a
 pub from_both_turned : (a b : Fraction) → IsAtMost b a → (s : Fraction) → IsAtMost a s ↔ (IsAtMost a s × IsAtMost b s)
 from_both_turned a b h s = (λ k. (k, at_most_trans b a s h k), λ k. k.0)
 
@@ -76,6 +87,7 @@ from_both_turned a b h s = (λ k. (k, at_most_trans b a s h k), λ k. k.0)
 pub below_both : (a b : Fraction) → IsAtMost a b → (s : Fraction) → IsLess s a ↔ (IsLess s a × IsLess s b)
 below_both a b h s = (λ k. (k, less_at_most s a b k h), λ k. k.0)
 
+-- where b ≤ a, a fraction is below both a and b just if it is below b
 pub below_both_turned : (a b : Fraction) → IsAtMost b a → (s : Fraction) → IsLess s b ↔ (IsLess s a × IsLess s b)
 below_both_turned a b h s = (λ k. (less_at_most s b a k h, k), λ k. k.1)
 

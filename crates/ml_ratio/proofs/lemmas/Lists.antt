@@ -18,6 +18,7 @@ pick (x ∷ xs) k h = x
 pub map_read : {A B : Type 0} (f : A → B) (xs : List A) (i : ℕ) (x : A) (e : B) → i < length xs → x ≡ get_or xs i x → get_or (map f xs) i e ≡ f x
 map_read f xs i x e lt read = get_or-map f xs i x e lt ∙ ap f (sym read)
 
+-- what an element of a list is mapped to stands in the mapped list
 pub contains_map : {A B : Type 0} (f : A → B) (xs : List A) (x : A) → Contains xs x → Contains (map f xs) (f x)
 contains_map f xs x there =
     let many = length-map xs f in
@@ -31,15 +32,18 @@ map_contains_at f (x ∷ xs) y (suc k) lt e =
     let many : rest.1.0 < length xs = rest.1.1 in
     (rest.0, (suc rest.1.0, omega arith, rest.1.2), rest.2)
 
+-- what stands in a mapped list is what some element of the list is mapped to
 pub map_contains : {A B : Type 0} (f : A → B) (xs : List A) (y : B) → Contains (map f xs) y → (x : A) × Contains xs x × (f x ≡ y)
 map_contains f xs y there = map_contains_at f xs y there.0 there.1 there.2
 
+-- to map a list with an element put in is to map the list and put in what the element is mapped to
 pub map_insert : {A B : Type 0} (f : A → B) (xs : List A) (i : ℕ) (x : A) → map f (insert xs i x) ≡ insert (map f xs) i (f x)
 map_insert f [] zero y = refl
 map_insert f [] (suc i) y = refl
 map_insert f (x ∷ xs) zero y = refl
 map_insert f (x ∷ xs) (suc i) y = ap (λ ys. f x ∷ ys) (map_insert f xs i y)
 
+-- to map a list without the element at a place is to map the list and take out what stands at that place
 pub map_remove : {A B : Type 0} (f : A → B) (xs : List A) (i : ℕ) → map f (remove xs i) ≡ remove (map f xs) i
 map_remove f [] zero = refl
 map_remove f [] (suc i) = refl
@@ -48,6 +52,7 @@ map_remove f (x ∷ xs) (suc i) = ap (λ ys. f x ∷ ys) (map_remove f xs i)
 
 -- ---- one element more, and one less
 
+-- an element of a list is the first one or stands behind it
 pub contains_cons : {A : Type 0} (x y : A) (xs : List A) → Contains (x ∷ xs) y → (x ≡ y) ⊎ Contains xs y
 contains_cons x y xs c =
     elim (Contains-append_cases (x ∷ []) xs y c) [
@@ -69,6 +74,7 @@ added_has {A} {x} a y c =
       | inr right ↦ Contains-append_right a.before (x ∷ a.after) y (Contains-append_right (x ∷ []) a.after y right)
     ])
 
+-- an element of the longer list is the new one or stands in the shorter list
 pub added_only : {A : Type 0} {x : A} {xs ys : List A} → IsAdded x xs ys → (y : A) → Contains ys y → (x ≡ y) ⊎ Contains xs y
 added_only {A} {x} {xs} a y c =
     elim (Contains-append_cases a.before (x ∷ a.after) y (subst (λ (l : List A). Contains l y) a.is c)) [
@@ -95,6 +101,7 @@ goes_out {A} {x} {before} {after} a gone y = (
 
 -- ---- edits at a place
 
+-- a list into which an element is put has that one more
 pub added_insert : {A : Type 0} (xs : List A) (i : ℕ) (y : A) → IsAdded y xs (insert xs i y)
 added_insert xs i y = record { before = take i xs; after = drop i xs; was = sym (take-append-drop i xs); is = refl }
 
@@ -103,24 +110,31 @@ split_at [] i y lt e = absurd (omega arith)
 split_at (x ∷ xs) zero y lt e = ap (λ z. z ∷ xs) (sym e)
 split_at (x ∷ xs) (suc i) y lt e = ap (λ zs. x ∷ zs) (split_at xs i y (omega arith) e)
 
+-- a list has the element that is read at a place more than the list from which it is taken out
 pub added_remove : {A : Type 0} (xs : List A) (i : ℕ) (y : A) → i < length xs → y ≡ get_or xs i y → IsAdded y (remove xs i) xs
 added_remove xs i y lt e = record { before = take i xs; after = drop (suc i) xs; was = refl; is = split_at xs i y lt e }
 
+-- a list in which an element is written over another has the new one more than the list from which the old one is taken out
 pub added_set : {A : Type 0} (xs : List A) (i : ℕ) (y : A) → i < length xs → IsAdded y (remove xs i) (set xs i y)
 added_set xs i y lt = record { before = take i xs; after = drop (suc i) xs; was = refl; is = set_split xs i y lt }
 
+-- an element that is put in stands in the list
 pub insert_there : {A : Type 0} (xs : List A) (i : ℕ) (x : A) → Contains (insert xs i x) x
 insert_there xs i x = contained (added_insert xs i x)
 
+-- what stood in a list still does when an element is put in
 pub insert_has : {A : Type 0} (xs : List A) (i : ℕ) (x y : A) → Contains xs y → Contains (insert xs i x) y
 insert_has xs i x y there = added_has (added_insert xs i x) y there
 
+-- what stands in a list into which an element was put is that element or stood there before
 pub insert_only : {A : Type 0} (xs : List A) (i : ℕ) (x y : A) → Contains (insert xs i x) y → (x ≡ y) ⊎ Contains xs y
 insert_only xs i x y there = added_only (added_insert xs i x) y there
 
+-- what stands in a list from which an element was taken out stood there before
 pub remove_has : {A : Type 0} (xs : List A) (i : ℕ) (x y : A) → i < length xs → x ≡ get_or xs i x → Contains (remove xs i) y → Contains xs y
 remove_has xs i x y lt read there = added_has (added_remove xs i x lt read) y there
 
+-- what stood in a list is the element that is taken out or still stands there
 pub remove_only : {A : Type 0} (xs : List A) (i : ℕ) (x y : A) → i < length xs → x ≡ get_or xs i x → Contains xs y → (x ≡ y) ⊎ Contains (remove xs i) y
 remove_only xs i x y lt read there = added_only (added_remove xs i x lt read) y there
 

@@ -15,16 +15,19 @@ use Rattle.ml_ratio.specs.Ratio.{IsRatioOf, ReadsRatio}
 use Rattle.ml_ratio.specs.RatioText.{is_slash, both_numbers, ratio_parts}
 use Rattle.ml_ratio.specs.declared.ratio.Ratio.{Ratio}
 
+-- decimal digits and what they are worth fit what std asks of numerals that it parses
 pub digits_model : IsNumeralModel (λ ds. all_ascii_digits ds ≡ true) (digits_value 10)
 digits_model = numerals_by_value (λ ds. all_ascii_digits ds ≡ true) tells_all_ascii_digits
 
 not_equal : (a b : ℕ) → (a ≡ b → ⊥) → eqb a b ≡ false
 not_equal a b differ = grind (arith, nat_tests)
 
+-- where two tests hold together, each one holds
 pub both_of : (a b : Bool) → (a && b) ≡ true → (a ≡ true) × (b ≡ true)
 both_of true b e = (refl, e)
 both_of false b e = absurd (false≢true e)
 
+-- one to so many decimal digits write the number that they are worth
 pub up_to_some : (most : ℕ) (bytes : List ℕ) → are_up_to most bytes ≡ true → number_up_to most bytes ≡ Some (digits_value 10 bytes)
 unfolding number_up_to
 up_to_some most bytes e = rw e
@@ -34,6 +37,7 @@ pub record IsNumeralText (bytes : List ℕ) : Type 0 where
   pub short : length bytes ≤ 10
   pub digits : all_ascii_digits bytes ≡ true
 
+-- a text that passes as a numeral is of one to ten bytes, all of them decimal digits
 pub numeral_text : (bytes : List ℕ) → is_numeral bytes ≡ true → IsNumeralText bytes
 numeral_text bytes e =
     let one = both_of (nat_lt 0 (length bytes)) (nat_le (length bytes) 10 && all_ascii_digits bytes) e in
@@ -46,10 +50,12 @@ numeral_text bytes e =
 pub digits_small : (bytes : List ℕ) → is_numeral bytes ≡ true → digits_value 10 bytes < 10 ^ 10
 digits_small bytes e = let t = numeral_text bytes e in digits_value_short digits_model bytes 10 t.digits t.short
 
+-- one to ten decimal digits write the number that they are worth
 pub numeral_some : (bytes : List ℕ) → is_numeral bytes ≡ true → numeral bytes ≡ Some (digits_value 10 bytes)
 unfolding numeral
 numeral_some bytes e = rw e
 
+-- a text that is not one to ten decimal digits writes no number
 pub numeral_none : (bytes : List ℕ) → is_numeral bytes ≡ false → numeral bytes ≡ None
 unfolding numeral
 numeral_none bytes e = rw e
@@ -88,6 +94,7 @@ some_passes : (p : ℕ → Bool) (bytes : List ℕ) → position_or_len p bytes 
 some_passes p [] h = absurd (omega arith)
 some_passes p (b ∷ bytes) h = passes_at (p b) p b bytes refl (some_passes p bytes) h
 
+-- a text with a slash writes the number before the first slash over that behind it
 pub parts_split : (bytes : List ℕ) → position_or_len is_slash bytes < length bytes → ratio_parts bytes ≡ both_numbers (numeral (before_first is_slash bytes)) (numeral (after_first is_slash bytes))
 unfolding ratio_parts
 parts_split bytes h = rw (some_passes is_slash bytes h) refl
@@ -102,5 +109,6 @@ same_by (Some p) r s h k =
     let right : s.num * p.1 * r.den ≡ p.0 * s.den * r.den = ap (λ (n : ℕ). n * r.den) two in
     eq_of_mul-eq-mul_right p.1 h.0.positive (r.num * s.den) (s.num * r.den) (omega arith)
 
+-- two fractions as which a text reads have the same value
 pub ratio_same : (text : List ℕ) (r s : Ratio) → ReadsRatio text (Some r) → ReadsRatio text (Some s) → IsSame (value_of r) (value_of s)
 ratio_same text r s h k = same_by (ratio_parts text) r s h k

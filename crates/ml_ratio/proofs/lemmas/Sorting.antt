@@ -28,6 +28,7 @@ keys_decide one other = slice_eq-Decides unsigned_Decides one other (pointwise n
 tie_test : (one other : List ℕ) → pointwise nat_eq one other ≡ eq_by_cmp (slice_cmp nat_cmp) one other
 tie_test one other = search (comparing, rules)
 
+-- keys that stand at one place in the order of bytes are the same
 pub tied_keys : (one other : List ℕ) → slice_cmp nat_cmp one other ≡ Equal → one ≡ other
 tied_keys one other tie = (keys_decide one other).0 (tie_test one other ∙ ap is_eq tie)
 

@@ -40,6 +40,7 @@ one_head bytes m n a b first second =
 pub head_ends : (bytes : List ℕ) (size : ℕ) (result : Result HeadParts Refusal) → BeginsWithHead bytes size result → ¬ (EndsInHead bytes)
 head_ends bytes size result head ends = ends.1 head.ends.at head.ends.mark
 
+-- with a head at its front the stream has no head that is too long
 pub head_short : (bytes : List ℕ) (size : ℕ) (result : Result HeadParts Refusal) → BeginsWithHead bytes size result → ¬ (IsHeadTooLong bytes)
 head_short bytes size result head long = no_mark_short bytes 16384 size head.ends head.short long.1
 
@@ -64,6 +65,7 @@ request_grows last bytes more request rest found =
       behind = ap (λ xs. xs ++ more) found.behind ∙ sym (drop-append-le (found.size + found.parts.length) bytes more found.whole);
     }
 
+-- an event at the front stays there, and what follows goes behind the rest
 pub event_grows : (last : Bool) (bytes more : List ℕ) (event : Event) (rest : List ℕ) → BeginsWith last bytes event rest → BeginsWith last (bytes ++ more) event (rest ++ more)
 event_grows last bytes more (Whole request) rest found = request_grows last bytes more request rest found
 event_grows last bytes more (Refused refusal) rest (inl found) = inl (too_long_grows bytes more found.0, found.1)
@@ -111,6 +113,7 @@ no_request_refused last bytes request rest refusal found (inr p) =
     let same = one_head bytes found.size p.0 (Ok found.parts) (Err refusal) found.head p.1 in
     cc (same.1)
 
+-- one event at most comes next
 pub one_event : (last : Bool) (bytes : List ℕ) (a b : Event) (p q : List ℕ) → BeginsWith last bytes a p → BeginsWith last bytes b q → a ≡ b
 one_event last bytes (Whole a) (Whole b) p q first second = ap Whole (one_request last bytes a b p q first second).0
 one_event last bytes (Whole a) (Refused b) p q first second = absurd (no_request_refused last bytes a p b first second)

@@ -28,6 +28,7 @@ same_ratio a b e = ratio_exact a b (same_numbers (a.num * b.den) (b.num * a.den)
 pub one_whole : (word : Option ℤ) (y z : ℤ) → word ≡ Some y → word ≡ Some z → y ≡ z
 one_whole word y z first second = let e : Some y ≡ Some z = sym first ∙ second in cc
 
+-- a word writes the side of one window
 pub one_side : (word : Option ℤ) (m n : ℕ) → word ≡ Some (pos m) → word ≡ Some (pos n) → m ≡ n
 one_side word m n first second = let e : pos m ≡ pos n = one_whole word (pos m) (pos n) first second in cc
 
