@@ -6,7 +6,7 @@ ghost use Rattle.ml_cone.specs.Overlap.{BoxesOverlap};
 ghost use Rattle.ml_cone.specs.declared.label.BoxPx.{BoxPx};
 ghost use Rattle.ml_gaps.specs.Piece.{HoldsIfSome, AddsPieces};
 ghost use Rattle.ml_gaps.specs.Blocked.{IsBlocked, IsPairPiece};
-ghost use Rattle.ml_gaps.specs.Pairs.{AddsPiecesOf, AddsFirstOf, pairs_of, IsPairInRange, IsPairBlocked};
+ghost use Rattle.ml_gaps.specs.Pairs.{AddsPiecesOf, AddsFirstOf, box_pairs_of, IsPairInRange, IsPairBlocked};
 
 use crate::gap::Gap;
 use crate::piece::{Piece, larger, smaller};
@@ -26,8 +26,8 @@ use std::alloc::AllocError;
 pub fn blocked(low: &Label, high: &Label, gap: &Gap, out: &mut Seq<Piece>) -> Result<(), AllocError>
     ensures ok { OnOk result (AddsPieces (IsBlocked low.now high.now gap.now) (IsPairPiece low.now high.now gap.now)
         (length low.now.boxes * length high.now.boxes) out.old out.new) }
-    ensures pairs { OnOk result (AddsPiecesOf (IsPairBlocked low.now high.now gap.now) (pairs_of low.now high.now) out.old out.new) }
-    ensures err { OnErr result (AddsFirstOf (IsPairBlocked low.now high.now gap.now) (pairs_of low.now high.now) out.old out.new) }
+    ensures pairs { OnOk result (AddsPiecesOf (IsPairBlocked low.now high.now gap.now) (box_pairs_of low.now high.now) out.old out.new) }
+    ensures err { OnErr result (AddsFirstOf (IsPairBlocked low.now high.now gap.now) (box_pairs_of low.now high.now) out.old out.new) }
 {
     let from = larger(low.min(), gap.from);
     let until = smaller(low.max(), gap.until);
@@ -42,8 +42,8 @@ fn block_range(
     until: Ratio,
     out: &mut Seq<Piece>,
 ) -> Result<(), AllocError>
-    ensures ok { OnOk result (AddsPiecesOf (IsPairInRange low.now high.now (value_of from) (value_of until)) (pairs_of low.now high.now) out.old out.new) }
-    ensures err { OnErr result (AddsFirstOf (IsPairInRange low.now high.now (value_of from) (value_of until)) (pairs_of low.now high.now) out.old out.new) }
+    ensures ok { OnOk result (AddsPiecesOf (IsPairInRange low.now high.now (value_of from) (value_of until)) (box_pairs_of low.now high.now) out.old out.new) }
+    ensures err { OnErr result (AddsFirstOf (IsPairInRange low.now high.now (value_of from) (value_of until)) (box_pairs_of low.now high.now) out.old out.new) }
 {
     if !from.is_less(&until) {
         return Ok(());

@@ -6,7 +6,7 @@ ghost use Rattle.ml_http.specs.Routes.{path_of, route_of};
 ghost use Rattle.ml_http.specs.Step.{IsRouted, MapStep};
 
 use crate::context::Context;
-use crate::query::pairs_of;
+use crate::query::query_pairs_of;
 use crate::read::read;
 use crate::replies::{no_route_reply, refusal_reply};
 use crate::route::Route;
@@ -49,11 +49,11 @@ impl<W: Watcher, L: Ledger> Context<'_, '_, W, L> {
         hear_nothing::<W>();
         match route_asked(request) {
             Ok(Route::Read(route)) => {
-                let pairs = pairs_of(self.alloc, query_asked(request))?;
+                let pairs = query_pairs_of(self.alloc, query_asked(request))?;
                 read(self.alloc, self.editor, route, request.closes(), &pairs)
             }
             Ok(Route::Tile) => {
-                let pairs = pairs_of(self.alloc, query_asked(request))?;
+                let pairs = query_pairs_of(self.alloc, query_asked(request))?;
                 tile_reply(
                     self.alloc,
                     self.editor,
@@ -63,7 +63,7 @@ impl<W: Watcher, L: Ledger> Context<'_, '_, W, L> {
                 )
             }
             Ok(Route::Edit(route)) => {
-                let pairs = pairs_of(self.alloc, query_asked(request))?;
+                let pairs = query_pairs_of(self.alloc, query_asked(request))?;
                 self.edit(route, request, &pairs)
             }
             Err(none) => no_route_reply(self.alloc, request.closes(), none),

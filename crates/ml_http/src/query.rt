@@ -20,7 +20,7 @@ const MOST_WORDS: usize = 5;
 ///
 /// # Errors
 /// Out of memory.
-pub(crate) fn pairs_of(alloc: Global, query: &[u8]) -> Result<Vec<Pair<'_>>, AllocError>
+pub(crate) fn query_pairs_of(alloc: Global, query: &[u8]) -> Result<Vec<Pair<'_>>, AllocError>
     ensures { IfOk result (λ all. map pair_bytes all.items ≡ query_pairs query.now) }
 {
     let mut all = Vec::with_capacity(alloc, MOST_WORDS)?;

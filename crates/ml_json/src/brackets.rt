@@ -7,7 +7,7 @@ ghost use Rattle.ml_json.specs.Lent.{lent_of};
 ghost use Rattle.ml_json.specs.declared.state.Stop.TheVariants.{Memory};
 
 use crate::lent::{Lent, LentText};
-use crate::members::{pairs_of, put_member};
+use crate::members::{list_of_members, put_member};
 use crate::state::{Frame, Mode, Open, Owner, Part, Stop, Word};
 use std::alloc::{AllocError, AllocFailed, Global};
 
@@ -133,7 +133,7 @@ pub fn after_next<'a>(
             let members = put_member(alloc, members, key, value)?;
             match byte {
                 b',' => Ok(Mode::Key(members)),
-                b'}' => Ok(Mode::After(Lent::Map(pairs_of(alloc, members)?))),
+                b'}' => Ok(Mode::After(Lent::Map(list_of_members(alloc, members)?))),
                 _ => Err(Stop::NotJson),
             }
         }

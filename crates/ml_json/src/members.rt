@@ -104,7 +104,10 @@ pub fn put_member<'a>(
 }
 
 /// The members as pairs, in order.
-pub fn pairs_of<'a>(alloc: Global, members: Members<'a>) -> Result<Vec<LentPair<'a>>, AllocError>
+pub fn list_of_members<'a>(
+    alloc: Global,
+    members: Members<'a>,
+) -> Result<Vec<LentPair<'a>>, AllocError>
     ensures { IfOk result (λ pairs. lent_pairs_view pairs.items ≡ members_view members.entry) }
 {
     match members {

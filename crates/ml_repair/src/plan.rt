@@ -100,7 +100,7 @@ fn cells_for(edit: &LabelEdit) -> usize
 }
 
 /// How many pairs a slot has.
-pub(crate) fn pairs_of(slot: &Slot) -> usize
+pub(crate) fn pair_count_of(slot: &Slot) -> usize
     ensures count { result ≡ pair_count slot.now.blocker }
     ensures low { result ≤ 1 }
 {
@@ -116,9 +116,9 @@ fn pairs_for(edit: &LabelEdit) -> usize
     ensures low { result ≤ 1 }
 {
     match edit {
-        LabelEdit::Add(row) => pairs_of(&row.slot),
+        LabelEdit::Add(row) => pair_count_of(&row.slot),
         LabelEdit::Remove(_) => 0,
-        LabelEdit::Replace(row) => pairs_of(&row.slot),
+        LabelEdit::Replace(row) => pair_count_of(&row.slot),
     }
 }
 
@@ -130,7 +130,7 @@ fn pairs_for_moved(moved: &[Moved]) -> usize
 {
     let mut count = 0;
     for m in moved {
-        count += pairs_of(&m.slot);
+        count += pair_count_of(&m.slot);
     }
     count
 }

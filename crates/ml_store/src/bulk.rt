@@ -83,7 +83,7 @@ fn list_pairs(alloc: Global, rows: &[Box<Row>]) -> Result<Vec<Entry<u32, u32, u3
 ///
 /// # Errors
 /// Out of memory.
-pub fn pairs_of(alloc: Global, rows: &[Box<Row>]) -> Result<Pairs, AllocError>
+pub fn blocker_index_of(alloc: Global, rows: &[Box<Row>]) -> Result<Pairs, AllocError>
     requires { HaveOwnNumbers (unboxed rows.now) }
     ensures paired { IfOk result (λ pairs. IsIndex IsPairIn (unboxed rows.now) pairs.entries) }
     ensures spare { IfOk result (λ pairs. pairs.spare ≡ 0) }

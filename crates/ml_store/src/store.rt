@@ -16,7 +16,7 @@ ghost use Rattle.ml_store.specs.Store.{IsStored, AreWithin};
 ghost use Rattle.ml_store.specs.Table.{IsPlaceIn, with_slot, slot_at};
 ghost use Rattle.ml_store.specs.declared.row.Row.{Row};
 
-use crate::bulk::{grid_of, outline_of, pairs_of};
+use crate::bulk::{blocker_index_of, grid_of, outline_of};
 use crate::moved::Moved;
 use crate::moving::{write_slot, write_slots};
 use crate::pairs::Pairs;
@@ -84,7 +84,7 @@ impl Store {
         ensures { IfOk result (λ s. s ≡ record { rows = unboxed rows.items; labels = 0; cells = 0; blocks = 0 }) }
     {
         let outline = outline_of(rows.as_slice());
-        let pairs = pairs_of(alloc, rows.as_slice())?;
+        let pairs = blocker_index_of(alloc, rows.as_slice())?;
         let grid = grid_of(alloc, rows.as_slice())?;
         let table = Table::of(alloc, rows)?;
         Ok(Store {

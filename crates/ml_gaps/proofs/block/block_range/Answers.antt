@@ -7,7 +7,7 @@ use Rattle.ml_cone.specs.Near.{AreApart}
 use Rattle.ml_cone.specs.Overlap.{Overlap}
 use Rattle.ml_cone.specs.declared.label.BoxPx.{BoxPx}
 use Rattle.ml_cone.specs.declared.label.Label.{Label}
-use Rattle.ml_gaps.specs.Pairs.{AddsPiecesOf, IsPairInRange, pairs_with, pairs_from, pairs_of}
+use Rattle.ml_gaps.specs.Pairs.{AddsPiecesOf, IsPairInRange, pairs_with, pairs_from, box_pairs_of}
 use Rattle.ml_gaps.proofs.Pairing.{none_added, nothing_added, both_added, map_added, any_pair, row_more, row_cut}
 use Rattle.ml_gaps.proofs.Results.{on_err}
 use Rattle.ml_gaps.proofs.block.block_range.Goals as goal
@@ -19,14 +19,14 @@ some_box = record { l = pos 0; b = pos 0; r = pos 0; t = pos 0 }
 pub returns-then-not-is_less-clause-ok : goal.returns-then-not-is_less-clause-ok
 unfolding IsPairInRange
 returns-then-not-is_less-clause-ok c =
-    nothing_added (IsPairInRange c.args.low.now c.args.high.now (value_of c.args.from) (value_of c.args.until)) (pairs_of c.args.low.now c.args.high.now) c.args.out.now
+    nothing_added (IsPairInRange c.args.low.now c.args.high.now (value_of c.args.from) (value_of c.args.until)) (box_pairs_of c.args.low.now c.args.high.now) c.args.out.now
     (λ s any.
     let h = any.4 in
     let beyond : IsLess s s = less_at_most s (value_of c.args.from) s (less_at_most s (value_of c.args.until) (value_of c.args.from) h.1.1 c.if-not-is_less.ensures) h.1.0 in
     omega arith)
 
 -- labels that are apart up to the end of the range overlap nowhere in it
-apart_none : (low high : Label) (from until : Fraction) → AreApart low high until.num until.den → (s : Fraction) → ¬ (Any (λ pair. IsPairInRange low high from until pair s) (pairs_of low high))
+apart_none : (low high : Label) (from until : Fraction) → AreApart low high until.num until.den → (s : Fraction) → ¬ (Any (λ pair. IsPairInRange low high from until pair s) (box_pairs_of low high))
 unfolding IsPairInRange Overlap
 apart_none low high from until apart s any =
     let row = (any_pair (λ pair. IsPairInRange low high from until pair s) low.boxes high.boxes).0 any in
@@ -37,7 +37,7 @@ apart_none low high from until apart s any =
 
 pub returns-then-are_apart-clause-ok : goal.returns-then-are_apart-clause-ok
 returns-then-are_apart-clause-ok c =
-    nothing_added (IsPairInRange c.args.low.now c.args.high.now (value_of c.args.from) (value_of c.args.until)) (pairs_of c.args.low.now c.args.high.now) c.args.out.now
+    nothing_added (IsPairInRange c.args.low.now c.args.high.now (value_of c.args.from) (value_of c.args.until)) (box_pairs_of c.args.low.now c.args.high.now) c.args.out.now
     (apart_none c.args.low.now c.args.high.now (value_of c.args.from) (value_of c.args.until) (rw (c.num.ensures, c.den.ensures) at c.if-are_apart.ensures))
 
 pub loop-i-init : goal.loop-i-init

@@ -32,8 +32,8 @@ returns-in-44-byte c =
 pub returns-in-125 : goal.returns-in-125
 returns-in-125 c =
     let sp : is_space c.args.byte ≡ false = cc in
-    map_end c.args.frames.now.items c.pop.new.self.items c.in-Some-Map.members c.in_ok-members-in-Some-Map.members c.in_ok-pairs_of-in-125.field-0 c.in-Some-Map.key c.args.value c.args.byte
-    (c.in-Some-Map.ensures.items ∙ ap (λ x. c.pop.new.self.items ++ x ∷ []) c.in-Some-Map.field-0-is) c.in_ok-members-in-Some-Map.ensures c.in_ok-pairs_of-in-125.ensures sp c.in-125.is c.requires
+    map_end c.args.frames.now.items c.pop.new.self.items c.in-Some-Map.members c.in_ok-members-in-Some-Map.members c.in_ok-list_of_members-in-125.field-0 c.in-Some-Map.key c.args.value c.args.byte
+    (c.in-Some-Map.ensures.items ∙ ap (λ x. c.pop.new.self.items ++ x ∷ []) c.in-Some-Map.field-0-is) c.in_ok-members-in-Some-Map.ensures c.in_ok-list_of_members-in-125.ensures sp c.in-125.is c.requires
 
 pub returns : goal.returns
 returns c =

@@ -16,8 +16,8 @@ loop-m-preserved c =
     let rest : moved_pairs (drop i moved) ≡ pair_count m.slot.blocker + moved_pairs (drop (i + 1) moved) = ap moved_pairs next in
     let was = c.loop-m.invariant.rest in
     let low = c.loop-m.invariant.low in
-    let now = c.pairs_of-count.ensures.count in
-    let one = c.pairs_of-count.ensures.low in
+    let now = c.pair_count_of-count.ensures.count in
+    let one = c.pair_count_of-count.ensures.low in
     record { rest = omega arith; low = omega arith }
 
 pub returns-clause-count : goal.returns-clause-count

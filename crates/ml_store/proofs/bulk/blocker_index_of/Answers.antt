@@ -3,7 +3,7 @@ use Rattle.ml_store.specs.Boxes.{unboxed}
 use Rattle.ml_store.specs.Store.{IsIndex, IsPairIn, Pair}
 use Rattle.ml_store.proofs.Gathered.{if_ok}
 use Rattle.ml_store.proofs.Index.{index_same}
-use Rattle.ml_store.proofs.bulk.pairs_of.Goals as goal
+use Rattle.ml_store.proofs.bulk.blocker_index_of.Goals as goal
 
 pub returns-clause-paired : goal.returns-clause-paired
 returns-clause-paired c =
