@@ -4,7 +4,7 @@ ghost use Rattle.std.specs.List.{list_all};
 ghost use Rattle.std.specs.Option.{option_copied};
 ghost use Rattle.std.specs.Str.{chars};
 ghost use Rattle.ml_text.specs.Label.{label_text as spec_label_text, shown as spec_shown};
-ghost use Rattle.ml_label.specs.Name.{property as spec_property, name_in as spec_name_in, is_blank as spec_is_blank, label_name as spec_name_of, rank_in as spec_rank_in, rank_of as spec_rank_of};
+ghost use Rattle.ml_label.specs.Name.{property as spec_property, name_in as spec_name_in, is_blank as spec_is_blank, label_name as spec_label_name, rank_in as spec_rank_in, rank_of as spec_rank_of};
 
 use ml_json::whole_part;
 use ml_ratio::{Feature, Prop, Scalar, Text};
@@ -47,7 +47,7 @@ pub fn label_name(
     style: &Style,
     feature: &Feature,
 ) -> Result<Option<Text>, AllocError>
-    ensures name { IfOk result (λ text. text ≡ spec_name_of style.now feature.now) }
+    ensures name { IfOk result (λ text. text ≡ spec_label_name style.now feature.now) }
     ensures some { IfOk result (λ text. IfSome text (λ t. 0 < length t)) }
     ensures utf8 { IfOk result (λ text. IfSome text IsUtf8) }
 {
@@ -88,7 +88,7 @@ fn is_shown_blank(name: &str) -> bool
 
 /// Whether a feature has a name for its label. It takes no memory.
 pub fn has_name(style: &Style, feature: &Feature) -> bool
-    ensures { MatchBool result (IsSome (spec_name_of style.now feature.now)) (spec_name_of style.now feature.now ≡ None) }
+    ensures { MatchBool result (IsSome (spec_label_name style.now feature.now)) (spec_label_name style.now feature.now ≡ None) }
 {
     let key = style.name_key();
     match name_in(property(feature.props.as_slice(), key.as_str())) {
