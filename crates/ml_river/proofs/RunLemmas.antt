@@ -4,7 +4,7 @@ use Rattle.std.specs.declared.cmp.Ordering.{Ordering}
 use Rattle.std.specs.declared.cmp.Ordering.TheVariants.{Less, Equal, Greater}
 use Rattle.std.proofs.lemmas.Bool.{cases_order, cases_lt}
 use Rattle.ml_ratio.specs.declared.geometry.Pos.{Pos}
-use Rattle.ml_river.specs.Run.{step, Goes, IsStrict, IsRun, IsLastStep, span}
+use Rattle.ml_river.specs.Run.{step, Goes, IsStrict, IsRun, IsEndOfSteps, span}
 use Rattle.ml_river.proofs.StepLemmas.{equal_span, strict_span}
 
 -- the walk is at a place where the way turns
@@ -12,7 +12,7 @@ abbrev pub AtTurn : List Pos → ℕ → Type 0
 AtTurn line a = 0 < a → a + 1 < length line → ¬ (step line (a - 1) ≡ step line a)
 
 -- at the end of a stretch the way turns
-pub turn_at_end : (line : List Pos) (a b : ℕ) → IsLastStep line a b → AtTurn line b
+pub turn_at_end : (line : List Pos) (a b : ℕ) → IsEndOfSteps line a b → AtTurn line b
 turn_at_end line a b end some there same =
     end.stops there (sym same ∙ end.alike (b - 1) (let h = end.after in omega arith) (omega arith))
 
@@ -33,7 +33,7 @@ strict_from line Equal a b n g = absurd (n refl)
 strict_from line Greater a b n g = inr g
 
 -- a stretch that is not level is a run
-pub run_here : (line : List Pos) (a b : ℕ) → AtTurn line a → IsLastStep line a b → (step line a ≡ Equal → ⊥) → IsRun line a b
+pub run_here : (line : List Pos) (a b : ℕ) → AtTurn line a → IsEndOfSteps line a b → (step line a ≡ Equal → ⊥) → IsRun line a b
 run_here line a b turn end level =
     record {
       some = end.after;
@@ -57,7 +57,7 @@ pub record IsWhole (line : List Pos) (a b m n : ℕ) : Type 0 where
   pub not_level : step line a ≡ Equal → ⊥
 
 -- a run that begins in a stretch whose steps all go one way is that stretch
-pub run_only : (line : List Pos) (a b m n : ℕ) → IsLastStep line a b → IsRun line m n → a ≤ m → m < b → IsWhole line a b m n
+pub run_only : (line : List Pos) (a b m n : ℕ) → IsEndOfSteps line a b → IsRun line m n → a ≤ m → m < b → IsWhole line a b m n
 run_only line a b m n end run am mb =
     let w = one_way line m n run.strict in
     let mn = run.some in
@@ -87,7 +87,7 @@ run_only line a b m n end run am mb =
     }
 
 -- the ends of a level stretch do not lie apart
-pub level_span : (line : List Pos) (a b : ℕ) → IsLastStep line a b → step line a ≡ Equal → span line a b ≡ 0
+pub level_span : (line : List Pos) (a b : ℕ) → IsEndOfSteps line a b → step line a ≡ Equal → span line a b ≡ 0
 level_span line a b end e = equal_span line a b end.after (subst (λ (o : Ordering). Goes line o a b) e end.alike)
 
 -- those of a run do

@@ -68,7 +68,7 @@ abbrev pub turned : List Pos → ℕ → ℕ → List Pos
 turned line a b = if int_lt (x_at line b) (x_at line a) then reverse (stretch line a b) else stretch line a b
 
 -- the last place to which all steps from a on go the same way
-pub record IsLastStep (line : List Pos) (a b : ℕ) : Type 0 where
+pub record IsEndOfSteps (line : List Pos) (a b : ℕ) : Type 0 where
   pub after : a < b
   pub there : b < length line
   pub alike : Goes line (step line a) a b

@@ -1,7 +1,7 @@
 //! Runs: the stretches of a line on which x strictly rises or strictly falls.
 ghost use Rattle.std.specs.Prelude.{nat_lt, if◌then◌else◌, Some, ◌≡◌, ◌+◌, ◌<◌, ◌≤◌, ◌↔◌, IsTrue, length, MatchOption};
 ghost use Rattle.ml_river.specs.Seen.{extent_of, IsBestBefore};
-ghost use Rattle.ml_river.specs.Run.{step, span, line_at, IsLastStep, IsWidestRun, HasNoRun};
+ghost use Rattle.ml_river.specs.Run.{step, span, line_at, IsEndOfSteps, IsWidestRun, HasNoRun};
 
 use ml_ratio::{Pos, Seq};
 use std::cmp::Ordering;
@@ -36,7 +36,7 @@ fn goes_alike(line: &[Pos], a: usize, b: usize) -> bool
 // The last place to which all steps from `from` on go the same way.
 fn end_of(line: &[Pos], from: usize) -> usize
     requires { from + 1 < length line.now }
-    ensures { IsLastStep line.now from result }
+    ensures { IsEndOfSteps line.now from result }
 {
     let mut end = from + 1;
     while end + 1 < line.len() && goes_alike(line, end, from) {
