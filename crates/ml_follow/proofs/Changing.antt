@@ -44,8 +44,8 @@ module _ (labels : List Label) (slots : List Slot) (ordered : IsLabelList labels
       both : (n m : ℕ) → m ≤ n → n ≤ m → n ≡ m
       both n m p q = omega (arith, p, q)
 
-  same_standing : (id : List ℕ) (a b : Ranged) → HasRanged labels slots id a → HasRanged labels slots id b → a ≡ b
-  same_standing id a b x y =
+  same_ranged : (id : List ℕ) (a b : Ranged) → HasRanged labels slots id a → HasRanged labels slots id b → a ≡ b
+  same_ranged id a b x y =
       let d = pick labels x.place x.is_place in
       let place = same_place id a b x y in
       let label : a.label ≡ b.label = sym (x.its_label d) ∙ ap (λ k. unplaced (get_or labels k d)) place ∙ y.its_label d in
@@ -60,7 +60,7 @@ module _ (labels : List Label) (slots : List Slot) (ordered : IsLabelList labels
   same_state id None None x y = refl
   same_state id None (Some b) x y = absurd (absent_or_there id b x y)
   same_state id (Some a) None x y = absurd (absent_or_there id a y x)
-  same_state id (Some a) (Some b) x y = ap Some (same_standing id a b x y)
+  same_state id (Some a) (Some b) x y = ap Some (same_ranged id a b x y)
 
 -- ---- the change of an id
 

@@ -81,11 +81,11 @@ pub record IsListed (listed : Listed) : Type 0 where
 
 -- a label that stands in a list
 abbrev pub ranged_of : RangedLabel → Ranged
-ranged_of standing = record { label = unplaced standing.label.now; span = standing.span }
+ranged_of ranged_label = record { label = unplaced ranged_label.label.now; span = ranged_label.span }
 
 -- the same, if there is one
 abbrev pub ranged : Option RangedLabel → Option Ranged
-ranged standing = option_map ranged_of standing
+ranged ranged_label = option_map ranged_of ranged_label
 
 -- the change of an id between two lists
 abbrev pub IsChangeIn : Listed → Listed → Change → Type 0

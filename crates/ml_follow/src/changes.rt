@@ -50,7 +50,7 @@ fn list_of<'a>(
 }
 
 // The label with this id, with its active range; none where no label has it.
-fn standing_by<'a>(list: &Listed<'a>, id: &'a str) -> Option<RangedLabel<'a>>
+fn ranged_label_of<'a>(list: &Listed<'a>, id: &'a str) -> Option<RangedLabel<'a>>
     requires { IsListed list.now }
     ensures { IsStateOf list.now.labels.now list.now.slots.now id.now (ranged result) }
 {
@@ -81,12 +81,12 @@ fn both_alike(one: &Option<RangedLabel<'_>>, other: &Option<RangedLabel<'_>>) ->
     }
 }
 
-// The active range of what stands.
-fn span_of(standing: &Option<RangedLabel<'_>>) -> Option<Span>
-    ensures { result ≡ option_map (λ one. one.span) (ranged standing.now) }
+// The active range of the label, if there is one.
+fn span_of(ranged_label: &Option<RangedLabel<'_>>) -> Option<Span>
+    ensures { result ≡ option_map (λ one. one.span) (ranged ranged_label.now) }
 {
-    match standing {
-        Some(standing) => Some(standing.span),
+    match ranged_label {
+        Some(ranged_label) => Some(ranged_label.span),
         None => None,
     }
 }
@@ -101,8 +101,8 @@ fn change_of<'a>(
     requires new { IsListed new.now }
     ensures { IfOk result (IsChangeOf old.now new.now id.now) }
 {
-    let was = standing_by(old, id.as_str());
-    let is = standing_by(new, id.as_str());
+    let was = ranged_label_of(old, id.as_str());
+    let is = ranged_label_of(new, id.as_str());
     if both_alike(&was, &is) {
         return Ok(None);
     }
