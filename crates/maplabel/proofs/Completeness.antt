@@ -28,7 +28,7 @@ use Rattle.maplabel.specs.Ready.{IsSomeTable, AreSomeSlots, IsSomeStyle, IsSomeM
 use Rattle.maplabel.specs.Run.{Call, IsTold, IsStopped, IsTextEnd, IsDone, IsRun, status_of_following}
 use Rattle.maplabel.specs.Serving.{status_of_link, status_of_serving}
 use Rattle.ml_command.specs.declared.command.Command.{Command}
-use Rattle.ml_command.specs.declared.command.Command.TheVariants.{OnTable, Judge, OnMap, Live, Make, Follow}
+use Rattle.ml_command.specs.declared.command.Command.TheVariants.{OnTable, Check, OnMap, Live, Gen, Follow}
 use Rattle.ml_command.specs.declared.command.LiveTask.TheVariants.{Pipe, Serve}
 use Rattle.maplabel.specs.declared.status.Status.{Status}
 use Rattle.maplabel.specs.declared.status.Status.TheVariants.{Done, NotBest, Memory, NotAdopted}
@@ -150,10 +150,10 @@ module _ (known : KnownFiles) (files : FileSet) {S D I O W : Type 0} (r : Call S
 
   answered : (command : Command) (status : Status) → IsReady files command → IsDone r command status → IsAnswered command status ⊎ (status ≡ Memory)
   answered (OnTable table task) status ready is = text_end _ _ (λ now. now ≡ Done) (λ now text due. due.1) (by_table table.now ready) status is
-  answered (Judge table slots) status ready is =
+  answered (Check table slots) status ready is =
       text_end _ _ (λ now. (now ≡ Done) ⊎ (now ≡ NotBest)) (λ now text due. rw due.2 (of_verdict due.0)) (by_check table.now slots.now ready) status is
   answered (OnMap style map task) status ready is = text_end _ _ (λ now. now ≡ Done) (λ now text due. due.1) (by_both style.now map.now ready) status is
-  answered (Make groups seed) status ready is = text_end _ _ (λ now. now ≡ Done) (λ now text due. due.1) (by_sample ready) status is
+  answered (Gen groups seed) status ready is = text_end _ _ (λ now. now ≡ Done) (λ now text due. due.1) (by_sample ready) status is
   answered (Live style map task) status ready (inl none) = inr (stopped _ (by_both style.now map.now ready) status none.0)
   answered (Live style map Pipe) status ready (inr is) =
       let p = is.3.0 in

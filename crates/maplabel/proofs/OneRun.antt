@@ -32,7 +32,7 @@ use Rattle.ml_command.specs.Loading.{IsFirstState}
 use Rattle.ml_command.specs.Once.{plain}
 use Rattle.ml_command.specs.VerdictText.{verdict_line}
 use Rattle.ml_command.specs.declared.command.Command.{Command}
-use Rattle.ml_command.specs.declared.command.Command.TheVariants.{OnTable, Judge, OnMap, Live, Make, Follow}
+use Rattle.ml_command.specs.declared.command.Command.TheVariants.{OnTable, Check, OnMap, Live, Gen, Follow}
 use Rattle.ml_command.specs.declared.command.LiveTask.TheVariants.{Pipe, Serve}
 use Rattle.ml_command.specs.declared.command.MapTask.{MapTask}
 use Rattle.ml_command.specs.declared.command.TableTask.{TableTask}
@@ -191,29 +191,29 @@ pub record KnownRuns (W I O : Type 0) : Type 0 where
 -- where its names stand in memory is nothing to what a command does
 done_plain : {S D I O W : Type 0} (r : Call S D I O W) (c : Command) → IsDone r c Done → IsDone r (plain c) Done
 done_plain r (OnTable table task) x = x
-done_plain r (Judge table slots) x = x
+done_plain r (Check table slots) x = x
 done_plain r (OnMap style map task) x = x
 done_plain r (Live style map Pipe) x = x
 done_plain r (Live style map (Serve port count)) x = x
-done_plain r (Make groups seed) x = x
+done_plain r (Gen groups seed) x = x
 done_plain r (Follow states) x = x
 
 read_plain : {S D I O W : Type 0} (r o : Call S D I O W) (c : Command) → ReadAlike r o c → ReadAlike r o (plain c)
 read_plain r o (OnTable table task) x = x
-read_plain r o (Judge table slots) x = x
+read_plain r o (Check table slots) x = x
 read_plain r o (OnMap style map task) x = x
 read_plain r o (Live style map Pipe) x = x
 read_plain r o (Live style map (Serve port count)) x = x
-read_plain r o (Make groups seed) x = x
+read_plain r o (Gen groups seed) x = x
 read_plain r o (Follow states) x = x
 
 alike_plain : {S D I O W : Type 0} (r o : Call S D I O W) (c : Command) → DoAlike r o (plain c) → DoAlike r o c
 alike_plain r o (OnTable table task) x = x
-alike_plain r o (Judge table slots) x = x
+alike_plain r o (Check table slots) x = x
 alike_plain r o (OnMap style map task) x = x
 alike_plain r o (Live style map Pipe) x = x
 alike_plain r o (Live style map (Serve port count)) x = x
-alike_plain r o (Make groups seed) x = x
+alike_plain r o (Gen groups seed) x = x
 alike_plain r o (Follow states) x = x
 
 -- words that a run did are no words of another form
@@ -429,10 +429,10 @@ module _ {S D I O W : Type 0} (known : KnownRuns W I O) (r o : Call S D I O W) (
   printed_by : r.out.written ≡ o.out.written → (c : Command) → ReadAlike r o c → IsDone r c Done → IsDone o c Done → r.out.written_after ≡ o.out.written_after
   printed_by same (OnTable table task) reads x y =
       one_text r o _ _ _ _ same (λ a b p q. known.table found.files table.now task a b (of_r (λ t. IsTableAnswer t table.now task a) p.0) (of_o (λ t. IsTableAnswer t table.now task b) q.0)) x y
-  printed_by same (Judge table slots) reads x y = one_text r o _ _ _ _ same (λ a b p q. check_text r.files.told table.now slots.now a p ∙ sym (check_text o.files.told table.now slots.now b q)) x y
+  printed_by same (Check table slots) reads x y = one_text r o _ _ _ _ same (λ a b p q. check_text r.files.told table.now slots.now a p ∙ sym (check_text o.files.told table.now slots.now b q)) x y
   printed_by same (OnMap style map task) reads x y =
       one_text r o _ _ _ _ same (λ a b p q. known.map_text found.files style.now map.now task a b (of_r (λ t. IsMapAnswer t style.now map.now task a) p.0) (of_o (λ t. IsMapAnswer t style.now map.now task b) q.0)) x y
-  printed_by same (Make groups seed) reads x y = one_text r o _ _ _ _ same (λ a b p q. known.totals groups seed a b p.0 q.0) x y
+  printed_by same (Gen groups seed) reads x y = one_text r o _ _ _ _ same (λ a b p q. known.totals groups seed a b p.0 q.0) x y
   printed_by same (Live style map Pipe) reads (inl x) y = absurd (not_stopped r _ x.0)
   printed_by same (Live style map Pipe) reads (inr x) (inl y) = absurd (not_stopped o _ y.0)
   printed_by same (Live style map Pipe) reads (inr (first, is, kept, x)) (inr (start, was, still, y)) =
@@ -447,9 +447,9 @@ module _ {S D I O W : Type 0} (known : KnownRuns W I O) (r o : Call S D I O W) (
 
   alike_by : (c : Command) → ReadAlike r o c → IsDone r c Done → IsDone o c Done → DoAlike r o c
   alike_by (OnTable table task) reads x y = (x.1, y.1)
-  alike_by (Judge table slots) reads x y = (x.1, y.1)
+  alike_by (Check table slots) reads x y = (x.1, y.1)
   alike_by (OnMap style map task) reads x y = (x.1, y.1)
-  alike_by (Make groups seed) reads x y = (x.1, y.1)
+  alike_by (Gen groups seed) reads x y = (x.1, y.1)
   alike_by (Live style map Pipe) reads (inl x) y = absurd (not_stopped r _ x.0)
   alike_by (Live style map Pipe) reads (inr x) (inl y) = absurd (not_stopped o _ y.0)
   alike_by (Live style map Pipe) reads (inr (first, is, kept, x)) (inr (start, was, still, y)) =

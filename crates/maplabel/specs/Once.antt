@@ -11,7 +11,7 @@ use Rattle.ml_http.specs.Step.{LinkAnswer}
 use Rattle.ml_command.specs.Commands.{Ask}
 use Rattle.ml_command.specs.Loading.{IsFirstState}
 use Rattle.ml_command.specs.declared.command.Command.{Command}
-use Rattle.ml_command.specs.declared.command.Command.TheVariants.{OnTable, Judge, OnMap, Live, Make, Follow}
+use Rattle.ml_command.specs.declared.command.Command.TheVariants.{OnTable, Check, OnMap, Live, Gen, Follow}
 use Rattle.ml_command.specs.declared.command.LiveTask.TheVariants.{Pipe, Serve}
 use Rattle.ml_serve.specs.Headline.{Headline, changes_in}
 use Rattle.ml_serve.specs.Once.{AllEndWell, written_in}
@@ -33,11 +33,11 @@ pub record FindLinks {S D I O W : Type 0} (one other : Call S D I O W) : Type 0 
 -- besides files, what a command reads was told, and is the same in two runs: the input of `pipe`, the links of `serve`
 abbrev pub ReadAlike : {S D I O W : Type 0} → Call S D I O W → Call S D I O W → Command → Type 0
 ReadAlike one other (OnTable table task) = Unit {0}
-ReadAlike one other (Judge table slots) = Unit {0}
+ReadAlike one other (Check table slots) = Unit {0}
 ReadAlike one other (OnMap style map task) = Unit {0}
 ReadAlike one other (Live style map Pipe) = (bytes : List ℕ) × (one.input.left ≡ Some bytes) × (other.input.left ≡ Some bytes)
 ReadAlike one other (Live style map (Serve port count)) = FindLinks one other
-ReadAlike one other (Make groups seed) = Unit {0}
+ReadAlike one other (Gen groups seed) = Unit {0}
 ReadAlike one other (Follow states) = Unit {0}
 
 -- two runs of the words found the same, and it was told: the files, and what else the command reads; watchers and ends of links tell what they hold in one way
@@ -78,9 +78,9 @@ pub record ServeAlike {S D I O W : Type 0} (one other : Call S D I O W) (style m
 -- besides what is printed, two runs of a command did the same
 abbrev pub DoAlike : {S D I O W : Type 0} → Call S D I O W → Call S D I O W → Command → Type 0
 DoAlike one other (OnTable table task) = TellNobody one other
-DoAlike one other (Judge table slots) = TellNobody one other
+DoAlike one other (Check table slots) = TellNobody one other
 DoAlike one other (OnMap style map task) = TellNobody one other
 DoAlike one other (Live style map Pipe) = TellAlike one other
 DoAlike one other (Live style map (Serve port count)) = ServeAlike one other style.now map.now
-DoAlike one other (Make groups seed) = TellNobody one other
+DoAlike one other (Gen groups seed) = TellNobody one other
 DoAlike one other (Follow states) = TellAlike one other

@@ -15,7 +15,7 @@ use Rattle.maplabel.specs.Making.{sample_style}
 use Rattle.ml_command.specs.MapInputs.{HasStyle, HasMap}
 use Rattle.maplabel.specs.Run.{Call}
 use Rattle.ml_command.specs.declared.command.Command.{Command}
-use Rattle.ml_command.specs.declared.command.Command.TheVariants.{OnTable, Judge, OnMap, Live, Make, Follow}
+use Rattle.ml_command.specs.declared.command.Command.TheVariants.{OnTable, Check, OnMap, Live, Gen, Follow}
 use Rattle.maplabel.specs.declared.status.Status.{Status}
 use Rattle.maplabel.specs.declared.status.Status.TheVariants.{Done, NotBest, NotAdopted, Memory}
 
@@ -38,10 +38,10 @@ IsSomeMap files map = (features : List Feature) × HasMap (Some files) map featu
 -- each file that the command names is there, within the limits and what it should be; a generated map is loaded under the sample style, which is one
 abbrev pub IsReady : FileSet → Command → Type 0
 IsReady files (OnTable table task) = IsSomeTable files table.now
-IsReady files (Judge table slots) = AreSomeSlots files table.now slots.now
+IsReady files (Check table slots) = AreSomeSlots files table.now slots.now
 IsReady files (OnMap style map task) = IsSomeStyle files style.now × IsSomeMap files map.now
 IsReady files (Live style map task) = IsSomeStyle files style.now × IsSomeMap files map.now
-IsReady files (Make groups seed) = (style : Style) × IsStyle sample_style style
+IsReady files (Gen groups seed) = (style : Style) × IsStyle sample_style style
 IsReady files (Follow name) = (states : List State) × HasStates (Some files) name.now states
 
 -- the words have one of the forms, and what they ask for is ready
@@ -59,10 +59,10 @@ pub record IsCalm {S D I O W : Type 0} (r : Call S D I O W) : Type 0 where
 -- the command is done, or what it answers in its place
 abbrev pub IsAnswered : Command → Status → Type 0
 IsAnswered (OnTable table task) status = status ≡ Done
-IsAnswered (Judge table slots) status = (status ≡ Done) ⊎ (status ≡ NotBest)
+IsAnswered (Check table slots) status = (status ≡ Done) ⊎ (status ≡ NotBest)
 IsAnswered (OnMap style map task) status = status ≡ Done
 IsAnswered (Live style map task) status = status ≡ Done
-IsAnswered (Make groups seed) status = status ≡ Done
+IsAnswered (Gen groups seed) status = status ≡ Done
 IsAnswered (Follow name) status = (status ≡ Done) ⊎ (status ≡ NotAdopted)
 
 -- what the words ask for was answered, or memory was wanting

@@ -15,7 +15,7 @@ use Rattle.ml_command.specs.MapInputs.{IsMapAnswerStop}
 use Rattle.maplabel.specs.Outcome.{IsCheckAnswer, IsPrinted, IsStopPrinted, usage_line}
 use Rattle.maplabel.specs.Serving.{IsPiped, IsAllServed, Watched, watched}
 use Rattle.ml_command.specs.declared.command.Command.{Command}
-use Rattle.ml_command.specs.declared.command.Command.TheVariants.{OnTable, Judge, OnMap, Live, Make, Follow}
+use Rattle.ml_command.specs.declared.command.Command.TheVariants.{OnTable, Check, OnMap, Live, Gen, Follow}
 use Rattle.ml_command.specs.declared.command.LiveTask.{LiveTask}
 use Rattle.ml_command.specs.declared.command.LiveTask.TheVariants.{Pipe, Serve}
 use Rattle.maplabel.specs.declared.status.Status.{Status}
@@ -87,9 +87,9 @@ IsFollowEnd hearing files out name crowd crowd_after status =
 -- a command ended so
 abbrev pub IsDone : {S D I O W : Type 0} → Call S D I O W → Command → Status → Type 0
 IsDone r (OnTable table task) status = IsTextEnd r (λ now text. IsTableAnswer r.files.told table.now task text × (now ≡ Done)) (IsTableStop r.files table.now) status
-IsDone r (Judge table slots) status = IsTextEnd r (λ now text. IsCheckAnswer r.files.told table.now slots.now now text) (IsCheckStop r.files table.now slots.now) status
+IsDone r (Check table slots) status = IsTextEnd r (λ now text. IsCheckAnswer r.files.told table.now slots.now now text) (IsCheckStop r.files table.now slots.now) status
 IsDone r (OnMap style map task) status = IsTextEnd r (λ now text. IsMapAnswer r.files.told style.now map.now task text × (now ≡ Done)) (IsMapAnswerStop r.files style.now map.now) status
-IsDone r (Make groups seed) status = IsTextEnd r (λ now text. IsTotalsOf groups seed text × (now ≡ Done)) IsMakingStop status
+IsDone r (Gen groups seed) status = IsTextEnd r (λ now text. IsTotalsOf groups seed text × (now ≡ Done)) IsMakingStop status
 IsDone r (Live style map task) status =
     (IsStopped r.files r.out (IsMapAnswerStop r.files style.now map.now) status × (r.new ≡ r.old))
     ⊎ ((first : State) × IsFirstState r.files.told style.now map.now first × KeptName r.files × IsSiteServed r task first status)

@@ -56,7 +56,7 @@ pub fn run<F: Files, S: Source, K: Sink, D: Door, W: Watcher>(
         Some(Command::OnTable(table, task)) => {
             print_answer(out, on_table(alloc, files, table, task))
         }
-        Some(Command::Judge(table, slots)) => print_verdict(out, check(alloc, files, table, slots)),
+        Some(Command::Check(table, slots)) => print_verdict(out, check(alloc, files, table, slots)),
         Some(Command::OnMap(style, map, task)) => {
             print_answer(out, on_map(alloc, files, style, map, task))
         }
@@ -69,7 +69,7 @@ pub fn run<F: Files, S: Source, K: Sink, D: Door, W: Watcher>(
             },
             Err(stop) => print_stop(out, &stop),
         },
-        Some(Command::Make(groups, seed)) => print_answer(out, totals_of(alloc, groups, seed)),
+        Some(Command::Gen(groups, seed)) => print_answer(out, totals_of(alloc, groups, seed)),
         Some(Command::Follow(name)) => follow_file(alloc, name, files, out, crowd),
         None => print_usage(out),
     }

@@ -9,9 +9,9 @@ use Rattle.ml_flight.specs.declared.window.Window.{Window}
 use Rattle.ml_command.specs.Commands.{name_of, AreRest, Ask, IsForm}
 use Rattle.ml_command.specs.Words.{AreViewWords, AreWindowWords}
 use Rattle.ml_command.specs.declared.command.Command.{Command}
-use Rattle.ml_command.specs.declared.command.Command.TheVariants.{OnTable, Judge, OnMap, Live, Make, Follow}
+use Rattle.ml_command.specs.declared.command.Command.TheVariants.{OnTable, Check, OnMap, Live, Gen, Follow}
 use Rattle.ml_command.specs.declared.command.TableTask.TheVariants.{Show, Slots, Gaps, GapView}
-use Rattle.ml_command.specs.declared.command.MapTask.TheVariants.{ShowMap, Zoom}
+use Rattle.ml_command.specs.declared.command.MapTask.TheVariants.{ViewMap, Zoom}
 use Rattle.ml_command.specs.declared.command.LiveTask.TheVariants.{Pipe, Serve}
 
 -- what is asked has its first word and the words behind it
@@ -35,12 +35,12 @@ no_show table words none form = reads form.0 (named (codes "show") (table ∷ wo
     reads (OnTable other Slots) is = apart (codes "slots") (codes "show") refl is.0
     reads (OnTable other Gaps) is = apart (codes "gaps") (codes "show") refl is.0
     reads (OnTable other (GapView view)) is = apart (codes "gapview") (codes "show") refl is.0
-    reads (Judge other slots) is = apart (codes "check") (codes "show") refl is.0
-    reads (OnMap other another (ShowMap view)) is = apart (codes "view") (codes "show") refl is.0
+    reads (Check other slots) is = apart (codes "check") (codes "show") refl is.0
+    reads (OnMap other another (ViewMap view)) is = apart (codes "view") (codes "show") refl is.0
     reads (OnMap other another (Zoom window)) is = apart (codes "zoom") (codes "show") refl is.0
     reads (Live other another Pipe) is = apart (codes "pipe") (codes "show") refl is.0
     reads (Live other another (Serve port count)) is = apart (codes "serve") (codes "show") refl is.0
-    reads (Make groups seed) is = apart (codes "gen") (codes "show") refl is.0
+    reads (Gen groups seed) is = apart (codes "gen") (codes "show") refl is.0
     reads (Follow other) is = apart (codes "follow") (codes "show") refl is.0
 
 -- nor one that shows a table under its gaps
@@ -52,12 +52,12 @@ no_gap_view table words none form = reads form.0 (named (codes "gapview") (table
     reads (OnTable other Slots) is = apart (codes "slots") (codes "gapview") refl is.0
     reads (OnTable other Gaps) is = apart (codes "gaps") (codes "gapview") refl is.0
     reads (OnTable other (GapView view)) is = (let same = is.1.1 in let one : is.1.0 ≡ words = cc in none view (rw one at is.1.2))
-    reads (Judge other slots) is = apart (codes "check") (codes "gapview") refl is.0
-    reads (OnMap other another (ShowMap view)) is = apart (codes "view") (codes "gapview") refl is.0
+    reads (Check other slots) is = apart (codes "check") (codes "gapview") refl is.0
+    reads (OnMap other another (ViewMap view)) is = apart (codes "view") (codes "gapview") refl is.0
     reads (OnMap other another (Zoom window)) is = apart (codes "zoom") (codes "gapview") refl is.0
     reads (Live other another Pipe) is = apart (codes "pipe") (codes "gapview") refl is.0
     reads (Live other another (Serve port count)) is = apart (codes "serve") (codes "gapview") refl is.0
-    reads (Make groups seed) is = apart (codes "gen") (codes "gapview") refl is.0
+    reads (Gen groups seed) is = apart (codes "gen") (codes "gapview") refl is.0
     reads (Follow other) is = apart (codes "follow") (codes "gapview") refl is.0
 
 -- nor one that shows a map
@@ -69,12 +69,12 @@ no_show_map style name words none form = reads form.0 (named (codes "view") (sty
     reads (OnTable other Slots) is = apart (codes "slots") (codes "view") refl is.0
     reads (OnTable other Gaps) is = apart (codes "gaps") (codes "view") refl is.0
     reads (OnTable other (GapView view)) is = apart (codes "gapview") (codes "view") refl is.0
-    reads (Judge other slots) is = apart (codes "check") (codes "view") refl is.0
-    reads (OnMap other another (ShowMap view)) is = (let same = is.1.1 in let one : is.1.0 ≡ words = cc in none view (rw one at is.1.2))
+    reads (Check other slots) is = apart (codes "check") (codes "view") refl is.0
+    reads (OnMap other another (ViewMap view)) is = (let same = is.1.1 in let one : is.1.0 ≡ words = cc in none view (rw one at is.1.2))
     reads (OnMap other another (Zoom window)) is = apart (codes "zoom") (codes "view") refl is.0
     reads (Live other another Pipe) is = apart (codes "pipe") (codes "view") refl is.0
     reads (Live other another (Serve port count)) is = apart (codes "serve") (codes "view") refl is.0
-    reads (Make groups seed) is = apart (codes "gen") (codes "view") refl is.0
+    reads (Gen groups seed) is = apart (codes "gen") (codes "view") refl is.0
     reads (Follow other) is = apart (codes "follow") (codes "view") refl is.0
 
 -- words that write no window are no command that tells a zoom timeline
@@ -86,10 +86,10 @@ no_zoom style name words none form = reads form.0 (named (codes "zoom") (style �
     reads (OnTable other Slots) is = apart (codes "slots") (codes "zoom") refl is.0
     reads (OnTable other Gaps) is = apart (codes "gaps") (codes "zoom") refl is.0
     reads (OnTable other (GapView view)) is = apart (codes "gapview") (codes "zoom") refl is.0
-    reads (Judge other slots) is = apart (codes "check") (codes "zoom") refl is.0
-    reads (OnMap other another (ShowMap view)) is = apart (codes "view") (codes "zoom") refl is.0
+    reads (Check other slots) is = apart (codes "check") (codes "zoom") refl is.0
+    reads (OnMap other another (ViewMap view)) is = apart (codes "view") (codes "zoom") refl is.0
     reads (OnMap other another (Zoom window)) is = (let same = is.1.1 in let one : is.1.0 ≡ words = cc in none window (rw one at is.1.2))
     reads (Live other another Pipe) is = apart (codes "pipe") (codes "zoom") refl is.0
     reads (Live other another (Serve port count)) is = apart (codes "serve") (codes "zoom") refl is.0
-    reads (Make groups seed) is = apart (codes "gen") (codes "zoom") refl is.0
+    reads (Gen groups seed) is = apart (codes "gen") (codes "zoom") refl is.0
     reads (Follow other) is = apart (codes "follow") (codes "zoom") refl is.0

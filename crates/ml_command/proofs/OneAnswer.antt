@@ -32,7 +32,7 @@ use Rattle.ml_command.specs.MapInputs.{HasMap, HasStyle}
 use Rattle.ml_command.specs.ViewLine.{view_line}
 use Rattle.ml_command.specs.Zoom.{IsZoomOf, peak_line, zoom_lines}
 use Rattle.ml_command.specs.declared.command.MapTask.{MapTask}
-use Rattle.ml_command.specs.declared.command.MapTask.TheVariants.{ShowMap, Zoom}
+use Rattle.ml_command.specs.declared.command.MapTask.TheVariants.{ViewMap, Zoom}
 use Rattle.ml_command.specs.declared.command.TableTask.{TableTask}
 use Rattle.ml_command.specs.declared.command.TableTask.TheVariants.{Show, Slots, Gaps, GapView}
 
@@ -118,7 +118,7 @@ module _ (styles : (bytes : List ℕ) (one other : Style) → IsStyle bytes one 
     labels_again style features labels others x y = lists style features features labels others (λ f. (λ h. h, λ h. h)) x y
 
     map_text_again : (style : Style) (features : List Feature) (task : MapTask) (a b : List ℕ) → IsTextOf style features task a → IsTextOf style features task b → a ≡ b
-    map_text_again style features (ShowMap view) a b (labels, are, x) (others, were, y) =
+    map_text_again style features (ViewMap view) a b (labels, are, x) (others, were, y) =
         let same : others ≡ labels = labels_again style features others labels were are in
         view_again choice labels view a b x (subst (λ (ls : List Label). IsViewOf ls view b) same y)
     map_text_again style features (Zoom window) a b (labels, are, x) (others, were, y) =

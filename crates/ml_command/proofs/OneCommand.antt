@@ -13,9 +13,9 @@ use Rattle.ml_command.specs.Commands.{name_of, AreRest, Ask}
 use Rattle.ml_command.specs.Once.{plain, plain_name}
 use Rattle.ml_command.specs.Words.{AreViewWords, AreWindowWords, IsNumberFrom}
 use Rattle.ml_command.specs.declared.command.Command.{Command}
-use Rattle.ml_command.specs.declared.command.Command.TheVariants.{OnTable, Judge, OnMap, Live, Make, Follow}
+use Rattle.ml_command.specs.declared.command.Command.TheVariants.{OnTable, Check, OnMap, Live, Gen, Follow}
 use Rattle.ml_command.specs.declared.command.TableTask.TheVariants.{Show, Slots, Gaps, GapView}
-use Rattle.ml_command.specs.declared.command.MapTask.TheVariants.{ShowMap, Zoom}
+use Rattle.ml_command.specs.declared.command.MapTask.TheVariants.{ViewMap, Zoom}
 use Rattle.ml_command.specs.declared.command.LiveTask.TheVariants.{Pipe, Serve}
 
 -- ---- the words behind the name
@@ -89,12 +89,12 @@ kind_of (OnTable table (Show view)) = of_show
 kind_of (OnTable table Slots) = of_slots
 kind_of (OnTable table Gaps) = of_gaps
 kind_of (OnTable table (GapView view)) = of_gapview
-kind_of (Judge table slots) = of_check
-kind_of (OnMap style map (ShowMap view)) = of_view
+kind_of (Check table slots) = of_check
+kind_of (OnMap style map (ViewMap view)) = of_view
 kind_of (OnMap style map (Zoom window)) = of_zoom
 kind_of (Live style map Pipe) = of_pipe
 kind_of (Live style map (Serve port count)) = of_serve
-kind_of (Make groups seed) = of_gen
+kind_of (Gen groups seed) = of_gen
 kind_of (Follow states) = of_follow
 
 -- the kind of a name
@@ -109,12 +109,12 @@ kind_is (OnTable table (Show view)) = refl
 kind_is (OnTable table Slots) = refl
 kind_is (OnTable table Gaps) = refl
 kind_is (OnTable table (GapView view)) = refl
-kind_is (Judge table slots) = refl
-kind_is (OnMap style map (ShowMap view)) = refl
+kind_is (Check table slots) = refl
+kind_is (OnMap style map (ViewMap view)) = refl
 kind_is (OnMap style map (Zoom window)) = refl
 kind_is (Live style map Pipe) = refl
 kind_is (Live style map (Serve port count)) = refl
-kind_is (Make groups seed) = refl
+kind_is (Gen groups seed) = refl
 kind_is (Follow states) = refl
 
 -- what a command of a kind is, as far as these words behind the name tell
@@ -123,12 +123,12 @@ Is of_show rest command = (table : Bor (List ℕ)) × (view : View) × (command 
 Is of_slots rest command = (table : Bor (List ℕ)) × (command ≡ OnTable table Slots) × AreRest (OnTable table Slots) rest
 Is of_gaps rest command = (table : Bor (List ℕ)) × (command ≡ OnTable table Gaps) × AreRest (OnTable table Gaps) rest
 Is of_gapview rest command = (table : Bor (List ℕ)) × (view : View) × (command ≡ OnTable table (GapView view)) × AreRest (OnTable table (GapView view)) rest
-Is of_check rest command = (table : Bor (List ℕ)) × (slots : Bor (List ℕ)) × (command ≡ Judge table slots) × AreRest (Judge table slots) rest
-Is of_view rest command = (style : Bor (List ℕ)) × (map : Bor (List ℕ)) × (view : View) × (command ≡ OnMap style map (ShowMap view)) × AreRest (OnMap style map (ShowMap view)) rest
+Is of_check rest command = (table : Bor (List ℕ)) × (slots : Bor (List ℕ)) × (command ≡ Check table slots) × AreRest (Check table slots) rest
+Is of_view rest command = (style : Bor (List ℕ)) × (map : Bor (List ℕ)) × (view : View) × (command ≡ OnMap style map (ViewMap view)) × AreRest (OnMap style map (ViewMap view)) rest
 Is of_zoom rest command = (style : Bor (List ℕ)) × (map : Bor (List ℕ)) × (window : Window) × (command ≡ OnMap style map (Zoom window)) × AreRest (OnMap style map (Zoom window)) rest
 Is of_pipe rest command = (style : Bor (List ℕ)) × (map : Bor (List ℕ)) × (command ≡ Live style map Pipe) × AreRest (Live style map Pipe) rest
 Is of_serve rest command = (style : Bor (List ℕ)) × (map : Bor (List ℕ)) × (port : ℕ) × (count : ℕ) × (command ≡ Live style map (Serve port count)) × AreRest (Live style map (Serve port count)) rest
-Is of_gen rest command = (groups : ℕ) × (seed : ℕ) × (command ≡ Make groups seed) × AreRest (Make groups seed) rest
+Is of_gen rest command = (groups : ℕ) × (seed : ℕ) × (command ≡ Gen groups seed) × AreRest (Gen groups seed) rest
 Is of_follow rest command = (states : Bor (List ℕ)) × (command ≡ Follow states) × AreRest (Follow states) rest
 
 it_is : (rest : List (List ℕ)) (command : Command) → AreRest command rest → Is (kind_of command) rest command
@@ -136,12 +136,12 @@ it_is rest (OnTable table (Show view)) takes = (table, view, refl, takes)
 it_is rest (OnTable table Slots) takes = (table, refl, takes)
 it_is rest (OnTable table Gaps) takes = (table, refl, takes)
 it_is rest (OnTable table (GapView view)) takes = (table, view, refl, takes)
-it_is rest (Judge table slots) takes = (table, slots, refl, takes)
-it_is rest (OnMap style map (ShowMap view)) takes = (style, map, view, refl, takes)
+it_is rest (Check table slots) takes = (table, slots, refl, takes)
+it_is rest (OnMap style map (ViewMap view)) takes = (style, map, view, refl, takes)
 it_is rest (OnMap style map (Zoom window)) takes = (style, map, window, refl, takes)
 it_is rest (Live style map Pipe) takes = (style, map, refl, takes)
 it_is rest (Live style map (Serve port count)) takes = (style, map, port, count, refl, takes)
-it_is rest (Make groups seed) takes = (groups, seed, refl, takes)
+it_is rest (Gen groups seed) takes = (groups, seed, refl, takes)
 it_is rest (Follow states) takes = (states, refl, takes)
 
 -- ---- the command
@@ -159,13 +159,13 @@ same_parts rest (OnTable table Gaps) other x (named, is, y) =
 same_parts rest (OnTable table (GapView view)) other x (named, seen, is, y) =
     let e : table.now ∷ x.0 ≡ named.now ∷ y.0 = sym x.1 ∙ y.1 in
     ap (λ (t : Bor (List ℕ)). OnTable t (GapView view)) (same_name table named (cc (e))) ∙ ap (λ (v : View). OnTable (plain_name named) (GapView v)) (view_once x.0 y.0 view seen (cc (e)) x.2 y.2) ∙ ap plain (sym is)
-same_parts rest (Judge table slots) other x (named, given, is, y) =
+same_parts rest (Check table slots) other x (named, given, is, y) =
     let e : table.now ∷ slots.now ∷ [] ≡ named.now ∷ given.now ∷ [] = sym x ∙ y in
-    ap (λ (t : Bor (List ℕ)). Judge t (plain_name slots)) (same_name table named (cc (e))) ∙ ap (Judge (plain_name named)) (same_name slots given (cc (e))) ∙ ap plain (sym is)
-same_parts rest (OnMap style map (ShowMap view)) other x (classes, features, seen, is, y) =
+    ap (λ (t : Bor (List ℕ)). Check t (plain_name slots)) (same_name table named (cc (e))) ∙ ap (Check (plain_name named)) (same_name slots given (cc (e))) ∙ ap plain (sym is)
+same_parts rest (OnMap style map (ViewMap view)) other x (classes, features, seen, is, y) =
     let e : style.now ∷ map.now ∷ x.0 ≡ classes.now ∷ features.now ∷ y.0 = sym x.1 ∙ y.1 in
-    ap (λ (t : Bor (List ℕ)). OnMap t (plain_name map) (ShowMap view)) (same_name style classes (cc (e))) ∙ ap (λ (t : Bor (List ℕ)). OnMap (plain_name classes) t (ShowMap view)) (same_name map features (cc (e)))
-    ∙ ap (λ (v : View). OnMap (plain_name classes) (plain_name features) (ShowMap v)) (view_once x.0 y.0 view seen (cc (e)) x.2 y.2) ∙ ap plain (sym is)
+    ap (λ (t : Bor (List ℕ)). OnMap t (plain_name map) (ViewMap view)) (same_name style classes (cc (e))) ∙ ap (λ (t : Bor (List ℕ)). OnMap (plain_name classes) t (ViewMap view)) (same_name map features (cc (e)))
+    ∙ ap (λ (v : View). OnMap (plain_name classes) (plain_name features) (ViewMap v)) (view_once x.0 y.0 view seen (cc (e)) x.2 y.2) ∙ ap plain (sym is)
 same_parts rest (OnMap style map (Zoom window)) other x (classes, features, seen, is, y) =
     let e : style.now ∷ map.now ∷ x.0 ≡ classes.now ∷ features.now ∷ y.0 = sym x.1 ∙ y.1 in
     ap (λ (t : Bor (List ℕ)). OnMap t (plain_name map) (Zoom window)) (same_name style classes (cc (e))) ∙ ap (λ (t : Bor (List ℕ)). OnMap (plain_name classes) t (Zoom window)) (same_name map features (cc (e)))
@@ -178,9 +178,9 @@ same_parts rest (Live style map (Serve port count)) other x (classes, features, 
     ap (λ (t : Bor (List ℕ)). Live t (plain_name map) (Serve port count)) (same_name style classes (cc (e))) ∙ ap (λ (t : Bor (List ℕ)). Live (plain_name classes) t (Serve port count)) (same_name map features (cc (e)))
     ∙ ap (λ (n : ℕ). Live (plain_name classes) (plain_name features) (Serve n count)) (number_once 1 65535 x.0 y.0 port door (cc (e)) x.3 y.3)
     ∙ ap (λ (n : ℕ). Live (plain_name classes) (plain_name features) (Serve door n)) (number_once 1 1000000 x.1 y.1 count most (cc (e)) x.4 y.4) ∙ ap plain (sym is)
-same_parts rest (Make groups seed) other x (number, begun, is, y) =
+same_parts rest (Gen groups seed) other x (number, begun, is, y) =
     let e : x.0 ∷ x.1 ∷ [] ≡ y.0 ∷ y.1 ∷ [] = sym x.2 ∙ y.2 in
-    ap (λ (n : ℕ). Make n seed) (number_once 1 6000 x.0 y.0 groups number (cc (e)) x.3 y.3) ∙ ap (Make number) (number_once 0 4294967295 x.1 y.1 seed begun (cc (e)) x.4 y.4) ∙ ap plain (sym is)
+    ap (λ (n : ℕ). Gen n seed) (number_once 1 6000 x.0 y.0 groups number (cc (e)) x.3 y.3) ∙ ap (Gen number) (number_once 0 4294967295 x.1 y.1 seed begun (cc (e)) x.4 y.4) ∙ ap plain (sym is)
 same_parts rest (Follow states) other x (named, is, y) =
     let e : states.now ∷ [] ≡ named.now ∷ [] = sym x ∙ y in
     ap Follow (same_name states named (cc (e))) ∙ ap plain (sym is)

@@ -22,7 +22,7 @@ use Rattle.ml_command.specs.Zoom.{IsZoomOf}
 use Rattle.ml_command.specs.declared.command.TableTask.{TableTask}
 use Rattle.ml_command.specs.declared.command.TableTask.TheVariants.{Show, Slots, Gaps, GapView}
 use Rattle.ml_command.specs.declared.command.MapTask.{MapTask}
-use Rattle.ml_command.specs.declared.command.MapTask.TheVariants.{ShowMap, Zoom}
+use Rattle.ml_command.specs.declared.command.MapTask.TheVariants.{ViewMap, Zoom}
 
 -- the text is the line of a view of labels: exactly those that are active at the scale, each until its end in the longest choice, and of which a box meets the window
 pub record IsViewOf (labels : List Label) (view : View) (text : List ℕ) : Type 0 where
@@ -55,7 +55,7 @@ IsMapZoom classes features window text = (labels : List Label) × AreLabelsOf cl
 
 -- the text is what is asked of the labels of features under a style
 abbrev pub IsTextOf : Style → List Feature → MapTask → List ℕ → Type 0
-IsTextOf classes features (ShowMap view) text = IsMapView classes features view text
+IsTextOf classes features (ViewMap view) text = IsMapView classes features view text
 IsTextOf classes features (Zoom window) text = IsMapZoom classes features window text
 
 -- the text is what is asked of the named table

@@ -23,7 +23,7 @@ pub enum TableTask {
 #[derive(Clone, Copy)]
 pub enum MapTask {
     /// A view of them.
-    ShowMap(View),
+    ViewMap(View),
     /// At which scales each of them is shown in a window.
     Zoom(Window),
 }
@@ -43,13 +43,13 @@ pub enum Command<'a> {
     /// Something of the labels of the table of this name.
     OnTable(&'a str, TableTask),
     /// The verdict on slots that are given for a table's labels: the names of table and slots.
-    Judge(&'a str, &'a str),
+    Check(&'a str, &'a str),
     /// Something of the labels of a map's features under a style: the names of style and map.
     OnMap(&'a str, &'a str, MapTask),
     /// Connections are served over a map under a style: the names of style and map.
     Live(&'a str, &'a str, LiveTask),
     /// What comes of a generated map that is edited: of how many groups, and of which seed.
-    Make(u32, u32),
+    Gen(u32, u32),
     /// The states of the file of this name are followed.
     Follow(&'a str),
 }
@@ -63,10 +63,10 @@ impl Command<'_> {
     {
         match self {
             Command::OnTable(_, _) => false,
-            Command::Judge(_, _) => false,
+            Command::Check(_, _) => false,
             Command::OnMap(_, _, _) => false,
             Command::Live(_, _, _) => true,
-            Command::Make(_, _) => false,
+            Command::Gen(_, _) => false,
             Command::Follow(_) => true,
         }
     }
@@ -96,7 +96,7 @@ fn command_of<'a>(name: &str, rest: &'a [String]) -> Option<Command<'a>>
         "gapview" => gap_view_command(rest),
         "pipe" => pipe_command(rest),
         "serve" => serve_command(rest),
-        "gen" => make_command(rest),
+        "gen" => gen_command(rest),
         "follow" => follow_command(rest),
         _ => None,
     }
@@ -148,12 +148,12 @@ fn gap_view_command<'a>(rest: &'a [String]) -> Option<Command<'a>>
     }
 }
 
-// The command that judges slots.
+// The command that checks slots.
 fn check_command<'a>(rest: &'a [String]) -> Option<Command<'a>>
     ensures { IsCommandOf (codes "check" ∷ map string_bytes rest.now) result }
 {
     match rest {
-        [table, slots] => Some(Command::Judge(table.as_str(), slots.as_str())),
+        [table, slots] => Some(Command::Check(table.as_str(), slots.as_str())),
         _ => None,
     }
 }
@@ -167,7 +167,7 @@ fn view_command<'a>(rest: &'a [String]) -> Option<Command<'a>>
             Some(view) => Some(Command::OnMap(
                 style.as_str(),
                 map.as_str(),
-                MapTask::ShowMap(view),
+                MapTask::ViewMap(view),
             )),
             None => None,
         },
@@ -228,7 +228,7 @@ fn serve_at<'a>(style: &'a str, map: &'a str, port: &str, count: &str) -> Option
 }
 
 // The command that generates a map.
-fn make_command<'a>(rest: &'a [String]) -> Option<Command<'a>>
+fn gen_command<'a>(rest: &'a [String]) -> Option<Command<'a>>
     ensures { IsCommandOf (codes "gen" ∷ map string_bytes rest.now) result }
 {
     match rest {
@@ -237,7 +237,7 @@ fn make_command<'a>(rest: &'a [String]) -> Option<Command<'a>>
                 read_number(groups.as_str(), 1, 6000),
                 read_number(seed.as_str(), 0, 4294967295),
             ) {
-                (Some(groups), Some(seed)) => Some(Command::Make(groups, seed)),
+                (Some(groups), Some(seed)) => Some(Command::Gen(groups, seed)),
                 _ => None,
             }
         }

@@ -54,7 +54,7 @@ fn map_text(
     ensures { IfOk result (IsTextOf classes features task) }
 {
     match task {
-        MapTask::ShowMap(view) => map_line(alloc, classes, features, &view),
+        MapTask::ViewMap(view) => map_line(alloc, classes, features, &view),
         MapTask::Zoom(window) => map_zoom(alloc, &classes, features.as_slice(), &window),
     }
 }

@@ -2,7 +2,7 @@ use Rattle.std.proofs.Common.{inl, inr, refl, ap}
 use Rattle.ml_io.specs.Files.{seen}
 use Rattle.maplabel.specs.Run.{lending}
 use Rattle.maplabel.proofs.RunLemmas.{text_end, verdict_end, making_keeps}
-use Rattle.ml_command.specs.declared.command.Command.TheVariants.{OnTable, Judge, OnMap, Live, Make, Follow}
+use Rattle.ml_command.specs.declared.command.Command.TheVariants.{OnTable, Check, OnMap, Live, Gen, Follow}
 use Rattle.maplabel.proofs.run.run.Goals as goal
 
 pub returns-in-Some-OnTable-clause-end : goal.returns-in-Some-OnTable-clause-end
@@ -12,12 +12,12 @@ returns-in-Some-OnTable-clause-end g c =
     let is = c.on_table.ensures in
     inl (OnTable c.in-Some-OnTable.table c.in-Some-OnTable.task, asks, (text_end saw _ _ _ c.on_table.result _ is.ok is.stop is.kept c.print_answer.ensures.printed, refl))
 
-pub returns-in-Some-Judge-clause-end : goal.returns-in-Some-Judge-clause-end
-returns-in-Some-Judge-clause-end g c =
-    let asks = rw c.in-Some-Judge.field-0-is at c.in-Some-Judge.ensures in
+pub returns-in-Some-Check-clause-end : goal.returns-in-Some-Check-clause-end
+returns-in-Some-Check-clause-end g c =
+    let asks = rw c.in-Some-Check.field-0-is at c.in-Some-Check.ensures in
     let saw = seen g.F.Files.told g.F.Files.faults g.F.Files.failed_name c.args.files.now c.check.new.files in
     let is = c.check.ensures in
-    inl (Judge c.in-Some-Judge.table c.in-Some-Judge.slots, asks, (verdict_end saw _ _ _ c.check.result _ is.ok is.stop is.kept c.print_verdict.ensures.printed, refl))
+    inl (Check c.in-Some-Check.table c.in-Some-Check.slots, asks, (verdict_end saw _ _ _ c.check.result _ is.ok is.stop is.kept c.print_verdict.ensures.printed, refl))
 
 pub returns-in-Some-OnMap-clause-end : goal.returns-in-Some-OnMap-clause-end
 returns-in-Some-OnMap-clause-end g c =
@@ -56,13 +56,13 @@ returns-in-Err-clause-end g c =
       inl ((c.in-Err.stop, why.stop, why.kept, c.print_stop.ensures.printed), refl),
     )
 
-pub returns-in-Some-Make-clause-end : goal.returns-in-Some-Make-clause-end
-returns-in-Some-Make-clause-end g c =
-    let asks = rw c.in-Some-Make.field-0-is at c.in-Some-Make.ensures in
+pub returns-in-Some-Gen-clause-end : goal.returns-in-Some-Gen-clause-end
+returns-in-Some-Gen-clause-end g c =
+    let asks = rw c.in-Some-Gen.field-0-is at c.in-Some-Gen.ensures in
     let saw = seen g.F.Files.told g.F.Files.faults g.F.Files.failed_name c.args.files.now c.args.files.now in
     let is = c.totals_of.ensures in
     let kept = making_keeps saw c.totals_of.result (refl, refl) is.stop in
-    inl (Make c.in-Some-Make.groups c.in-Some-Make.seed, asks, (text_end saw _ _ _ c.totals_of.result _ is.ok is.stop kept c.print_answer-in-Some-Make.ensures.printed, refl))
+    inl (Gen c.in-Some-Gen.groups c.in-Some-Gen.seed, asks, (text_end saw _ _ _ c.totals_of.result _ is.ok is.stop kept c.print_answer-in-Some-Gen.ensures.printed, refl))
 
 pub returns-in-Some-Follow-clause-end : goal.returns-in-Some-Follow-clause-end
 returns-in-Some-Follow-clause-end g c =
