@@ -23,7 +23,7 @@ use Rattle.ml_style.specs.declared.fault.StyleFault.TheVariants as styles
 use Rattle.ml_style.specs.declared.style.Style.{Style}
 use Rattle.ml_command.specs.Following.{HasStates, AreNoStates}
 use Rattle.ml_command.specs.Inputs.{most_bytes, HasTable, IsNoTable, IsTableLine, HasSlots, AreNoSlots}
-use Rattle.maplabel.specs.Making.{sample_style, IsSampleRefused}
+use Rattle.maplabel.specs.Generating.{sample_style, IsSampleRefused}
 use Rattle.ml_command.specs.MapInputs.{HasStyle, IsNoStyle, IsStyleLine, HasMap, IsNoMap, IsMapLine}
 
 -- what the laws below say of files: what is accepted is refused only when memory runs out; a table has one reading, and a map file has the same features only

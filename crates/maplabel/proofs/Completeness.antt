@@ -19,7 +19,7 @@ use Rattle.ml_serve.specs.declared.serve_end.ServeEnd.{ServeEnd}
 use Rattle.ml_serve.specs.declared.serve_end.ServeEnd.TheVariants as serving
 use Rattle.ml_command.specs.Following.{Following, HasStates, IsEndOfFollowing, IsStatesStop}
 use Rattle.ml_command.specs.Inputs.{HasTable, IsTableStop, IsSlotsStop, IsCheckStop}
-use Rattle.maplabel.specs.Making.{sample_style, IsMakingStop}
+use Rattle.maplabel.specs.Generating.{sample_style, IsGenStop}
 use Rattle.ml_command.specs.MapInputs.{IsStyleStop, IsMapStop, IsMapAnswerStop}
 use Rattle.ml_command.specs.declared.following.FollowEnd.{FollowEnd}
 use Rattle.ml_command.specs.declared.following.FollowEnd.TheVariants as follow_end
@@ -115,7 +115,7 @@ module _ (known : KnownFiles) (files : FileSet) {S D I O W : Type 0} (r : Call S
   by_both style map are s (inl why) = by_style style are.0 s why
   by_both style map are s (inr why) = by_map map are.1 s why.2
 
-  by_sample : ((style : Style) × IsStyle sample_style style) → (s : Stop) → IsMakingStop s → s ≡ stop.Memory
+  by_sample : ((style : Style) × IsStyle sample_style style) → (s : Stop) → IsGenStop s → s ≡ stop.Memory
   by_sample is (stop.StyleRefused line) why = absurd (sample_or_not known is.0 line is.1 why)
   by_sample is (stop.InputRefused line) why = absurd why
   by_sample is stop.FileFault why = absurd why

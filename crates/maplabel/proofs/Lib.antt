@@ -1,6 +1,6 @@
 mod Accepted
 mod Completeness
-mod Makings
+mod GenStops
 mod RunLemmas
-mod OneMaking
+mod OneTotals
 mod OneRun

@@ -40,7 +40,7 @@ use Rattle.ml_command.specs.declared.following.FollowEnd.{FollowEnd}
 use Rattle.ml_command.specs.declared.following.FollowEnd.TheVariants as follow_end
 use Rattle.ml_command.specs.declared.stop.Stop.{Stop}
 use Rattle.ml_command.specs.declared.stop.Stop.TheVariants as stop
-use Rattle.maplabel.specs.Making.{IsTotalsOf}
+use Rattle.maplabel.specs.Generating.{IsTotalsOf}
 use Rattle.maplabel.specs.Once.{DoAlike, FindAlike, FindLinks, ReadAlike, ServeAlike, TellAlike, TellBytes}
 use Rattle.maplabel.specs.Outcome.{IsCheckAnswer, IsPrinted, IsStopLine, IsStopPrinted, status_of, usage_line}
 use Rattle.maplabel.specs.Run.{AreFollowed, Call, IsDone, IsRun, IsStopped, IsTextEnd, status_of_following, watchers_of}

@@ -1,10 +1,10 @@
--- What a run comes to where an answer was due, and what making a map keeps.
+-- What a run comes to where an answer was due, and what generating a map keeps.
 use Rattle.std.proofs.Common.{◌≡◌, ℕ, List, Ok, Err, refl, inl, inr}
 use Rattle.std.specs.Prelude.{◌⊎◌, Result, IfOk, IfErr}
 use Rattle.ml_io.specs.Calls.{Put}
 use Rattle.ml_io.specs.Files.{Seen, KeptName}
 use Rattle.ml_command.specs.Inputs.{Keeps}
-use Rattle.maplabel.specs.Making.{IsMakingStop}
+use Rattle.maplabel.specs.Generating.{IsGenStop}
 use Rattle.ml_cert.specs.declared.verdict.Verdict.{Verdict}
 use Rattle.maplabel.specs.Outcome.{IsAnswerPrinted, IsVerdictPrinted, status_of}
 use Rattle.maplabel.specs.Run.{IsTold, IsStopped}
@@ -27,11 +27,11 @@ pub verdict_end : (saw : Seen) (out : Put) (due : Verdict → List ℕ → Type 
 verdict_end saw out due stops (Ok verdict) status is why kept printed = inl (status_of verdict.0, verdict.1, (verdict.0, is, refl), kept, printed)
 verdict_end saw out due stops (Err s) status is why kept printed = inr (s, why, kept, printed)
 
--- making a map loads no file
-pub making_keeps : (saw : Seen) (answer : Result (List ℕ) Stop) → KeptName saw → IfErr answer IsMakingStop → Keeps saw answer
-making_keeps saw (Ok text) kept why = kept
-making_keeps saw (Err (stop.StyleRefused line)) kept why = kept
-making_keeps saw (Err (stop.InputRefused line)) kept why = kept
-making_keeps saw (Err stop.FileFault) kept why = absurd why
-making_keeps saw (Err stop.TooLong) kept why = kept
-making_keeps saw (Err stop.Memory) kept why = kept
+-- generating a map loads no file
+pub gen_keeps : (saw : Seen) (answer : Result (List ℕ) Stop) → KeptName saw → IfErr answer IsGenStop → Keeps saw answer
+gen_keeps saw (Ok text) kept why = kept
+gen_keeps saw (Err (stop.StyleRefused line)) kept why = kept
+gen_keeps saw (Err (stop.InputRefused line)) kept why = kept
+gen_keeps saw (Err stop.FileFault) kept why = absurd why
+gen_keeps saw (Err stop.TooLong) kept why = kept
+gen_keeps saw (Err stop.Memory) kept why = kept

@@ -1,5 +1,5 @@
 pub mod Codes
-pub mod Making
+pub mod Generating
 pub mod Once
 pub mod Outcome
 pub mod Program

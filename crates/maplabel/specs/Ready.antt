@@ -11,7 +11,7 @@ use Rattle.ml_style.specs.declared.style.Style.{Style}
 use Rattle.ml_command.specs.Commands.{Ask, IsForm}
 use Rattle.ml_command.specs.Following.{HasStates}
 use Rattle.ml_command.specs.Inputs.{HasTable, HasSlots}
-use Rattle.maplabel.specs.Making.{sample_style}
+use Rattle.maplabel.specs.Generating.{sample_style}
 use Rattle.ml_command.specs.MapInputs.{HasStyle, HasMap}
 use Rattle.maplabel.specs.Run.{Call}
 use Rattle.ml_command.specs.declared.command.Command.{Command}

@@ -10,7 +10,7 @@ use Rattle.ml_command.specs.Commands.{Ask, IsForm}
 use Rattle.ml_command.specs.Following.{HasStates, IsStatesStop, IsFollowed}
 use Rattle.ml_command.specs.Loading.{IsFirstState}
 use Rattle.ml_command.specs.Inputs.{IsTableStop, IsCheckStop, StopKeeps}
-use Rattle.maplabel.specs.Making.{IsTotalsOf, IsMakingStop}
+use Rattle.maplabel.specs.Generating.{IsTotalsOf, IsGenStop}
 use Rattle.ml_command.specs.MapInputs.{IsMapAnswerStop}
 use Rattle.maplabel.specs.Outcome.{IsCheckAnswer, IsPrinted, IsStopPrinted, usage_line}
 use Rattle.maplabel.specs.Serving.{IsPiped, IsAllServed, Watched, watched}
@@ -89,7 +89,7 @@ abbrev pub IsDone : {S D I O W : Type 0} → Call S D I O W → Command → Stat
 IsDone r (OnTable table task) status = IsTextEnd r (λ now text. IsTableAnswer r.files.told table.now task text × (now ≡ Done)) (IsTableStop r.files table.now) status
 IsDone r (Check table slots) status = IsTextEnd r (λ now text. IsCheckAnswer r.files.told table.now slots.now now text) (IsCheckStop r.files table.now slots.now) status
 IsDone r (OnMap style map task) status = IsTextEnd r (λ now text. IsMapAnswer r.files.told style.now map.now task text × (now ≡ Done)) (IsMapAnswerStop r.files style.now map.now) status
-IsDone r (Gen groups seed) status = IsTextEnd r (λ now text. IsTotalsOf groups seed text × (now ≡ Done)) IsMakingStop status
+IsDone r (Gen groups seed) status = IsTextEnd r (λ now text. IsTotalsOf groups seed text × (now ≡ Done)) IsGenStop status
 IsDone r (Live style map task) status =
     (IsStopped r.files r.out (IsMapAnswerStop r.files style.now map.now) status × (r.new ≡ r.old))
     ⊎ ((first : State) × IsFirstState r.files.told style.now map.now first × KeptName r.files × IsSiteServed r task first status)

@@ -6,7 +6,7 @@ ghost use Rattle.ml_command.specs.Commands.{Ask};
 ghost use Rattle.ml_command.specs.declared.command.Command.{Command};
 ghost use Rattle.ml_editor.specs.State.{State, IsState};
 ghost use Rattle.ml_io.specs.Files.{FileSet};
-ghost use Rattle.maplabel.specs.Making.{IsTotalsOf};
+ghost use Rattle.maplabel.specs.Generating.{IsTotalsOf};
 ghost use Rattle.maplabel.specs.Once.{DoAlike, FindAlike};
 ghost use Rattle.maplabel.specs.Ready.{AreReady, EndsWell, IsCalm};
 ghost use Rattle.maplabel.specs.Run.{Call, IsRun};

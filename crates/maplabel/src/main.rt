@@ -3,15 +3,15 @@
 //! - [`start`]: the whole program over what the process was given ([`start`](start::start)), which `main`
 //!   calls with real objects; [`program`]: the program over the objects that it works on; [`run`]: the top
 //!   call ([`run`](run::run)); [`status`]: how it ends;
-//! - [`serving`]: one connection, or those of a door; [`making`]: maps that are generated, edited and
+//! - [`serving`]: one connection, or those of a door; [`generating`]: maps that are generated, edited and
 //!   counted; [`printing`]: what is printed;
 //! - [`laws`]: laws of what a run comes to.
 //!
 //! What the words ask for, and what is answered of files alone, is in `ml_command`.
 #![tactic(auto)]
 
+pub mod generating;
 pub mod laws;
-pub mod making;
 pub mod printing;
 pub mod program;
 pub mod run;

@@ -4,7 +4,7 @@ ghost use Rattle.ml_io.specs.Files.{seen};
 ghost use Rattle.ml_io.specs.Calls.{put, taken, passed, link_ends};
 ghost use Rattle.maplabel.specs.Run.{IsFollowEnd, IsRun, lending, status_of_following};
 
-use crate::making::totals_of;
+use crate::generating::totals_of;
 use crate::printing::{print_answer, print_stop, print_usage, print_verdict};
 use crate::serving::{pipe, serve_at};
 use crate::status::Status;

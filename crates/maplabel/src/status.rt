@@ -5,7 +5,7 @@
 pub enum Status {
     /// The command was done.
     Done,
-    /// The slots that were judged are not the longest choice with its blockers.
+    /// The slots that were checked are not the longest choice with its blockers.
     NotBest,
     /// The words are none of the forms.
     Usage,

@@ -213,7 +213,7 @@ impl Subject for OverTable {
 }
 
 #[test]
-fn tables_are_shown_chosen_and_judged(rt: HostRuntime) {
+fn tables_are_shown_chosen_and_checked(rt: HostRuntime) {
     each_holds::<OverTable>(&rt, rt.alloc(), TABLE_RUNS)
 }
 

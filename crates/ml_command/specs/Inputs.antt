@@ -91,7 +91,7 @@ AreNoSlots told labels name line =
 abbrev pub IsSlotsStop : Seen → List Label → List ℕ → Stop → Type 0
 IsSlotsStop seen labels name s = IsReadStop IsNoLine (AreNoSlots seen.told labels name) seen name s
 
--- why slots were not judged: the table was not read, or it was and the slots were not
+-- why slots were not checked: the table was not read, or it was and the slots were not
 abbrev pub IsCheckStop : Seen → List ℕ → List ℕ → Stop → Type 0
 IsCheckStop seen table slots s =
     IsTableStop seen table s ⊎ ((labels : List Label) × HasTable seen.told table labels × IsSlotsStop seen labels slots s)

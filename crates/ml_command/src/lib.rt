@@ -2,7 +2,7 @@
 //!
 //! - [`command`]: what the words ask for ([`read_command`]); `words`: words that write a view, a
 //!   window or a number;
-//! - [`table`], [`map`], [`judging`]: what is asked of a table and of a map, and the verdict on slots;
+//! - [`table`], [`map`], [`checking`]: what is asked of a table and of a map, and the verdict on slots;
 //! - [`loading`]: the map that connections are served over;
 //! - [`laws`]: that each command has one answer;
 //! - [`following`]: states of a map that are followed; `follow_lines`: the lines that say what became
@@ -14,13 +14,13 @@
 //!   a zoom timeline.
 #![tactic(auto)]
 
+pub mod checking;
 mod choice;
 pub mod command;
 mod follow_lines;
 pub mod following;
 mod gap_lines;
 pub mod inputs;
-pub mod judging;
 pub mod laws;
 pub mod loading;
 pub mod map;
@@ -34,9 +34,9 @@ mod words;
 mod zoom;
 mod zoom_text;
 
+pub use checking::check;
 pub use command::{Command, LiveTask, MapTask, TableTask, read_command};
 pub use following::{FollowEnd, follow, load_states};
-pub use judging::check;
 pub use loading::{Site, load_editor};
 pub use map::on_map;
 pub use stop::Stop;

@@ -1,9 +1,9 @@
-use Rattle.maplabel.proofs.OneMaking.{KnownMaking, one_totals}
+use Rattle.maplabel.proofs.OneTotals.{KnownMaps, one_totals}
 use Rattle.maplabel.proofs.laws.one_totals.Goals as goal
 
 pub returns : goal.returns
 returns c =
-    let known : KnownMaking = record {
+    let known : KnownMaps = record {
       one_style = c.one_style.ensures;
       one_map = c.one_map.ensures;
       same_is_one = c.same_is_one.ensures;

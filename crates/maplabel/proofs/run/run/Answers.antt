@@ -1,7 +1,7 @@
 use Rattle.std.proofs.Common.{inl, inr, refl, ap}
 use Rattle.ml_io.specs.Files.{seen}
 use Rattle.maplabel.specs.Run.{lending}
-use Rattle.maplabel.proofs.RunLemmas.{text_end, verdict_end, making_keeps}
+use Rattle.maplabel.proofs.RunLemmas.{text_end, verdict_end, gen_keeps}
 use Rattle.ml_command.specs.declared.command.Command.TheVariants.{OnTable, Check, OnMap, Live, Gen, Follow}
 use Rattle.maplabel.proofs.run.run.Goals as goal
 
@@ -61,7 +61,7 @@ returns-in-Some-Gen-clause-end g c =
     let asks = rw c.in-Some-Gen.field-0-is at c.in-Some-Gen.ensures in
     let saw = seen g.F.Files.told g.F.Files.faults g.F.Files.failed_name c.args.files.now c.args.files.now in
     let is = c.totals_of.ensures in
-    let kept = making_keeps saw c.totals_of.result (refl, refl) is.stop in
+    let kept = gen_keeps saw c.totals_of.result (refl, refl) is.stop in
     inl (Gen c.in-Some-Gen.groups c.in-Some-Gen.seed, asks, (text_end saw _ _ _ c.totals_of.result _ is.ok is.stop kept c.print_answer-in-Some-Gen.ensures.printed, refl))
 
 pub returns-in-Some-Follow-clause-end : goal.returns-in-Some-Follow-clause-end

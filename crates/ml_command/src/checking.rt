@@ -1,4 +1,4 @@
-//! Slots that are judged.
+//! Slots that are checked.
 ghost use Rattle.std.specs.Prelude.{◌≡◌, ◌≤◌, IfOk, IfErr};
 ghost use Rattle.ml_io.specs.Files.{seen};
 ghost use Rattle.ml_command.specs.Answers.{IsVerdictTold};

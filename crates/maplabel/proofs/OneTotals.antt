@@ -32,10 +32,10 @@ use Rattle.ml_gen.specs.declared.counts.Counts.{Counts}
 use Rattle.ml_gen.specs.declared.group.Group.{Group}
 use Rattle.ml_gen.specs.declared.totals.Totals.{Totals}
 use Rattle.ml_http.proofs.lemmas.SameChanges.{SameEnds, changes_moved}
-use Rattle.maplabel.specs.Making.{IsTotalsOf, sample_style}
+use Rattle.maplabel.specs.Generating.{IsTotalsOf, sample_style}
 
 -- what is known of maps and edits
-pub record KnownMaking : Type 0 where
+pub record KnownMaps : Type 0 where
   pub one_style : (bytes : List ℕ) (one other : Style) → IsStyle bytes one → IsStyle bytes other → one ≡ other
   pub one_map : (bytes : List ℕ) (features others : List Feature) → IsMap bytes features → IsMap bytes others → features ≡ others
   pub same_is_one : (one other : Feature) → one.id ≡ other.id → some_shape_of one.geometry ≡ some_shape_of other.geometry → one.props ≡ other.props → one ≡ other
@@ -48,7 +48,7 @@ pub record KnownMaking : Type 0 where
 heads : {X : Type 0} (x y : X) (xs ys : List X) → x ∷ xs ≡ y ∷ ys → (x ≡ y) × (xs ≡ ys)
 heads x y xs ys e = (cc (e), cc (e))
 
-module _ (known : KnownMaking) where
+module _ (known : KnownMaps) where
   -- ---- features and the states that they make
 
   feature_again : (f g : Feature) → thing_of f ≡ thing_of g → f ≡ g

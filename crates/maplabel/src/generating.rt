@@ -1,7 +1,7 @@
 //! Maps that are generated, edited and counted.
 ghost use Rattle.std.specs.Prelude.{◌≡◌, ◌≤◌, IfOk, IfErr};
 ghost use Rattle.ml_style.specs.StyleTable.{IsStyle};
-ghost use Rattle.maplabel.specs.Making.{IsMakingStop, IsTotalsOf, sample_style};
+ghost use Rattle.maplabel.specs.Generating.{IsGenStop, IsTotalsOf, sample_style};
 
 use ml_command::Stop;
 use ml_command::map_inputs::style_refusal;
@@ -19,7 +19,7 @@ pub fn totals_of(alloc: Global, groups: u32, seed: u32) -> Result<Seq<u8>, Stop>
     requires some { 1 ≤ groups }
     requires few { groups ≤ 6000 }
     ensures ok { IfOk result (IsTotalsOf groups seed) }
-    ensures stop { IfErr result IsMakingStop }
+    ensures stop { IfErr result IsGenStop }
 {
     let style = sample(alloc)?;
     let totals = make_totals(alloc, style, groups, seed)?;
@@ -29,7 +29,7 @@ pub fn totals_of(alloc: Global, groups: u32, seed: u32) -> Result<Seq<u8>, Stop>
 // The sample style.
 fn sample(alloc: Global) -> Result<Style, Stop>
     ensures ok { IfOk result (IsStyle sample_style) }
-    ensures stop { IfErr result IsMakingStop }
+    ensures stop { IfErr result IsGenStop }
 {
     match read_style(alloc, sample_text()) {
         Ok(style) => Ok(style),

@@ -1,7 +1,7 @@
 use Rattle.std.proofs.Common.{subst}
 use Rattle.ml_style.specs.StyleTable.{IsStyle}
-use Rattle.maplabel.proofs.Makings.{sample_refused}
-use Rattle.maplabel.proofs.making.sample.Goals as goal
+use Rattle.maplabel.proofs.GenStops.{sample_refused}
+use Rattle.maplabel.proofs.generating.sample.Goals as goal
 
 pub returns-in-Ok-clause-ok : goal.returns-in-Ok-clause-ok
 returns-in-Ok-clause-ok c = subst (λ bytes. IsStyle bytes c.in-Ok.style) c.sample_text.ensures c.in-Ok.ensures.ok

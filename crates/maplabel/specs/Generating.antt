@@ -27,9 +27,9 @@ abbrev pub IsSampleRefused : List ℕ → Type 0
 IsSampleRefused line = (fault : StyleFault) × style_answer.IsRefusal sample_style fault × IsStyleLine fault line
 
 -- why there is no map: its style is refused, or memory was wanting
-abbrev pub IsMakingStop : Stop → Type 0
-IsMakingStop (stop.StyleRefused line) = IsSampleRefused line
-IsMakingStop (stop.InputRefused line) = ⊥
-IsMakingStop stop.FileFault = ⊥
-IsMakingStop stop.TooLong = ⊥
-IsMakingStop stop.Memory = Unit {0}
+abbrev pub IsGenStop : Stop → Type 0
+IsGenStop (stop.StyleRefused line) = IsSampleRefused line
+IsGenStop (stop.InputRefused line) = ⊥
+IsGenStop stop.FileFault = ⊥
+IsGenStop stop.TooLong = ⊥
+IsGenStop stop.Memory = Unit {0}
