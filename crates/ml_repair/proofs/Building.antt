@@ -1,6 +1,6 @@
 -- Rows made of labels in priority order, each with its slot and its place as its number.
 use Rattle.std.proofs.Common.{◌≡◌, ℕ, ◌+◌, ◌<◌, ◌≤◌, List, [], ◌∷◌, ◌++◌, length, get_or, take, reverse, map, inl, inr, sym, ap, ◌∙◌, arith}
-use Rattle.std.specs.Prelude.{All, Box, box_value}
+use Rattle.std.specs.Prelude.{Box, box_value}
 use Rattle.std.specs.declared.alloc.Global.{Global}
 use Rattle.std.proofs.lemmas.Bool.{cases_lt}
 use Rattle.std.proofs.lemmas.List.{map-append, append_assoc, reverse-append, length-append, length-map, get_or-map, get_or_push, take_more}
@@ -10,8 +10,9 @@ use Rattle.ml_cone.specs.Slots.{Rival, IsOwnSlot, AreSlots, row, no_slot}
 use Rattle.ml_cone.specs.declared.label.Label.{Label}
 use Rattle.ml_cone.specs.declared.slot.Slot.{Slot}
 use Rattle.ml_store.specs.Boxes.{unboxed}
-use Rattle.ml_store.specs.Rows.{numbers_in, labels_in, slots_in, number_at, AreInTurn, HaveOwnNumbers, HaveOwnIds}
+use Rattle.ml_store.specs.Rows.{numbers_in, labels_in, slots_in, number_at, AreInTurn, HaveOwnIds}
 use Rattle.ml_store.specs.declared.row.Row.{Row}
+use Rattle.ml_store.proofs.lemmas.Numbered.{numbered_in_turn}
 use Rattle.ml_repair.specs.Settled.{IsSettled}
 use Rattle.ml_repair.proofs.Edited.{OwnLaw}
 use Rattle.ml_repair.proofs.Present.{length-labels}
@@ -86,14 +87,16 @@ numbered_alike own_law like one other labels slots alike are =
     })
 
 -- rows in turn with the slots of the longest choice are settled
-pub in_turn_settled : OwnLaw → LikeRivals → (rows : List Row) (labels : List Label) (slots : List Slot) → length rows ≤ 32768 → HaveOwnNumbers rows → All (λ n. n < 32768) (numbers_in rows) → AreInTurn rows →
+pub in_turn_settled : OwnLaw → LikeRivals → (rows : List Row) (labels : List Label) (slots : List Slot) → length labels ≤ 32768 → AreInTurn rows →
     IsLabelList labels → labels_in rows ≡ labels → slots_in rows ≡ slots → AreSlots (λ j. j) labels slots → IsSettled rows
-in_turn_settled own_law like rows labels slots few differ low turn up are_labels are_slots are = record {
-  few = few;
-  in_order = rw are_labels up;
-  own_numbers = differ;
-  low_numbers = low_rows rows low;
-  slots =
-      let many = length-labels rows in
-      rw (are_labels, are_slots) (numbered_alike own_law like (λ j. j) (number_at rows) labels slots (λ j lt. sym (turn j (let n = ap length are_labels in omega arith))) are);
-}
+in_turn_settled own_law like rows labels slots few turn up are_labels are_slots are =
+    let many = length-labels rows in
+    let long = ap length are_labels in
+    let numbered = numbered_in_turn rows (omega arith) turn in
+    record {
+      few = numbered.few;
+      in_order = rw are_labels up;
+      own_numbers = numbered.differ;
+      low_numbers = low_rows rows numbered.low;
+      slots = rw (are_labels, are_slots) (numbered_alike own_law like (λ j. j) (number_at rows) labels slots (λ j lt. sym (turn j (omega arith))) are);
+    }

@@ -1,13 +1,13 @@
 -- What a search finds in a list of which one row may go, and into which one may come.
 use Rattle.std.proofs.Common.{◌≡◌, ◌≢◌, ℕ, zero, suc, ◌+◌, ◌-◌, ◌*◌, ◌^◌, ◌<◌, ◌≤◌, List, [], ◌∷◌, length, get_or, take, Contains, ◌⊎◌, inl, inr, refl, sym, ap, ◌∙◌, subst, arith, Option, Some, None}
-use Rattle.std.specs.Prelude.{insert, All, IfSome, IsSome, remove}
+use Rattle.std.specs.Prelude.{insert, All, IfSome, IsSome}
 use denote.Ref.{Bor}
 use Rattle.std.proofs.lemmas.Bool.{cases_lt, cases_eq, false≢true}
-use Rattle.std.proofs.lemmas.List.{get_or_default, get_or-map, length-map, take_more, take_all}
+use Rattle.std.proofs.lemmas.List.{get_or_default, get_or-map, take_more, take_all}
 use Rattle.std.proofs.lemmas.Nat.{mul-le}
 use Rattle.std.proofs.Math.Nat.{pow-le-pow_right}
 use Rattle.std.proofs.lemmas.List.Edits.{length-insert, get_or-insert_at, get_or-insert_below}
-use Rattle.std.proofs.lemmas.List.Elements.{Contains-append_left, Contains-push, Contains-push_cases, All-cons, All-contains, All-tail}
+use Rattle.std.proofs.lemmas.List.Elements.{Contains-append_left, Contains-push, Contains-push_cases, All-contains}
 use Rattle.ml_ratio.specs.Fraction.{value_of, IsAtMost}
 use Rattle.ml_ratio.specs.declared.ratio.Ratio.{Ratio}
 use Rattle.ml_cone.specs.Cell.{IsLastBand}
@@ -15,15 +15,15 @@ use Rattle.ml_cone.specs.Slots.{no_slot}
 use Rattle.ml_cone.specs.Outline.{OverlapIn}
 use Rattle.ml_cone.specs.declared.label.Label.{Label}
 use Rattle.ml_cone.specs.declared.slot.Slot.{Slot}
-use Rattle.ml_store.specs.Rows.{numbers_in, labels_in, slots_in, IsFresh, HaveOwnNumbers}
+use Rattle.ml_store.specs.Numbered.{AreNumbered}
+use Rattle.ml_store.specs.Rows.{labels_in, slots_in}
 use Rattle.ml_store.specs.Search.{IsFoundIn, IsNumberWith, Gathers, AreOverlapping, AreAcross, NoneOverlaps}
 use Rattle.ml_store.specs.Table.{IsRowAt}
 use Rattle.ml_store.specs.declared.row.Row.{Row}
-use Rattle.ml_repair.specs.Roster.{left_rows, joined_rows, AreNumbered, AreFound, AreOverlapped, AreMet, NoneBefore, PlacesCame}
-use Rattle.ml_repair.proofs.Rosters.{joined_above, left_most}
-use Rattle.ml_ratio.proofs.lemmas.Lists.{map_insert, map_remove, map_read, different_insert, remove_has}
-use Rattle.std.proofs.lemmas.List.Quantifiers.{all_pairs_remove}
-use Rattle.std.proofs.lemmas.List.Sorted.{All-permutation, IsPermutation-insert, IsPermutation-remove}
+use Rattle.ml_repair.specs.Roster.{left_rows, joined_rows, AreFound, AreOverlapped, AreMet, NoneBefore, PlacesCame}
+use Rattle.ml_store.proofs.lemmas.Numbered.{numbered_removed}
+use Rattle.ml_repair.proofs.Rosters.{joined_above}
+use Rattle.ml_ratio.proofs.lemmas.Lists.{map_read, remove_has}
 
 -- at each place of the list stands a row
 pub row_there : (rows : List Row) (j : ℕ) → j < length rows → (r : Row) × (r ≡ get_or rows j r)
@@ -229,34 +229,7 @@ places_all rows numbers before places k le so_far = rw (take_all k numbers le) a
 
 -- ---- a list with one that is to come
 
-left_differ : (gone : Option ℕ) (rows : List Row) → IfSome gone (λ g. g < length rows) → HaveOwnNumbers rows → HaveOwnNumbers (left_rows gone rows)
-left_differ None rows in' differ = differ
-left_differ (Some g) rows in' differ =
-    let many = length-map rows (λ (r : Row). r.number) in
-    rw (map_remove (λ (r : Row). r.number) rows g) (all_pairs_remove (λ (a : ℕ) (b : ℕ). a ≢ b) (numbers_in rows) g (omega arith) differ)
-
-left_low : (gone : Option ℕ) (rows : List Row) → IfSome gone (λ g. g < length rows) → All (λ n. n < 32768) (numbers_in rows) → All (λ n. n < 32768) (numbers_in (left_rows gone rows))
-left_low None rows in' all = all
-left_low (Some g) rows in' all =
-    let many = length-map rows (λ (r : Row). r.number) in
-    let n : ℕ = get_or (numbers_in rows) g 0 in
-    rw (map_remove (λ (r : Row). r.number) rows g) (All-tail (λ n. n < 32768) n (remove (numbers_in rows) g) (All-permutation (λ n. n < 32768) (numbers_in rows) (n ∷ remove (numbers_in rows) g) (IsPermutation-remove (numbers_in rows) g n (omega arith) (get_or_default (numbers_in rows) g 0 n (omega arith))) all))
-
 -- the rows that are left are not too many, and each has a low number of its own
-pub numbered_left : (gone : Option ℕ) (rows : List Row) → IfSome gone (λ g. g < length rows) → length rows ≤ 32768 → HaveOwnNumbers rows → All (λ n. n < 32768) (numbers_in rows) → AreNumbered (left_rows gone rows)
-numbered_left gone rows in' few differ all = record {
-  few = (let n = left_most gone rows in' in omega arith);
-  differ = left_differ gone rows in' differ;
-  low = left_low gone rows in' all;
-}
-
--- the same of these rows and one that comes, if there is room for it, its number is low and none of them has it
-pub numbered_with : (gone : Option ℕ) (rows : List Row) (row : Row) (at : ℕ) → IfSome gone (λ g. g < length rows) → at ≤ length (left_rows gone rows) → length (left_rows gone rows) < 32768 → IsFresh row.number (left_rows gone rows) → row.number < 32768 →
-    HaveOwnNumbers rows → All (λ n. n < 32768) (numbers_in rows) → AreNumbered (insert (left_rows gone rows) at row)
-numbered_with gone rows row at in' le few fresh low differ all = record {
-  few = (let n = length-insert (left_rows gone rows) at row le in omega arith);
-  differ =
-      let many = length-map (left_rows gone rows) (λ (r : Row). r.number) in
-      rw (map_insert (λ (r : Row). r.number) (left_rows gone rows) at row) (different_insert (numbers_in (left_rows gone rows)) at row.number (omega arith) fresh (left_differ gone rows in' differ));
-  low = rw (map_insert (λ (r : Row). r.number) (left_rows gone rows) at row) (All-permutation (λ n. n < 32768) (row.number ∷ numbers_in (left_rows gone rows)) (insert (numbers_in (left_rows gone rows)) at row.number) (IsPermutation-insert (numbers_in (left_rows gone rows)) at row.number) (All-cons (λ n. n < 32768) row.number (numbers_in (left_rows gone rows)) low (left_low gone rows in' all)));
-}
+pub numbered_left : (gone : Option ℕ) (rows : List Row) → IfSome gone (λ g. g < length rows) → AreNumbered rows → AreNumbered (left_rows gone rows)
+numbered_left None rows in' numbered = numbered
+numbered_left (Some g) rows in' numbered = numbered_removed rows g numbered in'

@@ -10,6 +10,7 @@ use Rattle.ml_cone.specs.declared.label.Label.{Label}
 use Rattle.ml_cone.specs.declared.slot.Slot.{Slot}
 use Rattle.ml_cone.specs.declared.slot.Span.{Span}
 use Rattle.ml_watch.specs.declared.change.Change.{Change}
+use Rattle.ml_store.specs.Numbered.{AreNumbered}
 use Rattle.ml_store.specs.Rows.{numbers_in, labels_in, slots_in, HasId, IsFresh}
 use Rattle.ml_store.specs.declared.row.Row.{Row}
 use Rattle.std.proofs.lemmas.List.Edits.{length-insert, get_or-insert_at}
@@ -19,7 +20,6 @@ use Rattle.ml_repair.specs.Edit.{IsEdited}
 use Rattle.ml_repair.specs.Placed.{IsPlaceFor}
 use Rattle.ml_repair.specs.Plan.{Planned, IsPlanFor, AreNewIn, CanBeMade, KeepNumbers, edited_id, planned_rows, kept_rows, rows_with, with_row, without_id, moved_row, moved_rows, slot_for}
 use Rattle.ml_repair.specs.Repair.{AreSettled}
-use Rattle.ml_repair.specs.Roster.{AreNumbered}
 use Rattle.ml_repair.specs.Settled.{IsSettled}
 use Rattle.ml_repair.specs.Stays.{IsStayChange, IsChangeBetween}
 use Rattle.ml_repair.specs.Touched.{AreTouched}
@@ -29,12 +29,12 @@ use Rattle.ml_store.specs.declared.moved.Moved.{Moved}
 use Rattle.ml_repair.proofs.Changing.{ranged, standing, is_absent, are_changes, edited_change, change_same}
 use Rattle.ml_repair.proofs.Placing.{list_insert, list_remove}
 use Rattle.ml_store.proofs.lemmas.Moved.{moved_none}
-use Rattle.ml_repair.proofs.NearRosters.{numbered_left, numbered_with}
+use Rattle.ml_store.proofs.lemmas.Numbered.{numbered_inserted, numbered_removed}
 use Rattle.ml_repair.proofs.Present.{labels-moved, length-labels, low_number}
 use Rattle.std.proofs.lemmas.List.{length-map}
 use Rattle.std.proofs.lemmas.List.Elements.{Contains-get_or}
 use Rattle.ml_repair.proofs.OneRow.{one_id}
-use Rattle.ml_repair.proofs.Shapes.{AreLeft, AreJoinedBy, label_of, edit_is, edited_is, settled_after, left_remove, left_all, left_no_id, without_remove_is, joined_none, joined_some, come_is, place_of_id, no_id, low_of_rows}
+use Rattle.ml_repair.proofs.Shapes.{AreLeft, AreJoinedBy, label_of, edit_is, edited_is, settled_after, left_remove, left_all, left_no_id, without_remove_is, joined_none, joined_some, come_is, place_of_id, no_id, low_of_rows, numbered}
 use Rattle.ml_ratio.proofs.lemmas.Lists.{contains_map, map_contains, map_insert, map_remove, removed_gone, map_read, insert_there}
 
 -- new slots of these rows that make the same of them as others, each of them a new one
@@ -199,7 +199,7 @@ module _ (rows : List Row) (at : ℕ) (row : Row) (boxed : Box Row Global) (move
   at_most = let many = length-labels rows in let le = place.within in omega arith
 
   numbered_in : AreNumbered (insert rows at row)
-  numbered_in = numbered_with None rows row at tt at_most few fresh low settled.own_numbers (low_of_rows rows settled.low_numbers)
+  numbered_in = numbered_inserted rows at row (numbered rows settled) at_most few fresh low
 
   up_in : IsLabelList (labels_in (insert rows at row))
   up_in = rw (map_insert (λ (r : Row). r.label) rows at row) (list_insert (labels_in rows) at row.label place new settled.in_order)
@@ -225,7 +225,7 @@ module _ (rows : List Row) (at : ℕ) (row : Row) (boxed : Box Row Global) (move
 module _ (rows : List Row) (at : ℕ) (id : List ℕ) (moved : List Moved) (changes : List Change) (n : ℕ) (settled : IsSettled rows) (lt : at < length rows) (here : (d : Row) → (get_or rows at d).label.order.id ≡ id)
     (has : HasId (labels_in rows) id) (slots : AreSettled (remove rows at) moved) where
   numbered_out : AreNumbered (remove rows at)
-  numbered_out = numbered_left (Some at) rows lt settled.few settled.own_numbers (low_of_rows rows settled.low_numbers)
+  numbered_out = numbered_removed rows at (numbered rows settled) lt
 
   -- without the label that goes the labels are in priority order, with different ids
   pub up_out : IsLabelList (labels_in (remove rows at))
@@ -268,7 +268,7 @@ module _ (rows : List Row) (at to : ℕ) (row : Row) (boxed : Box Row Global) (m
   up_left = rw (map_remove (λ (r : Row). r.label) rows at) (list_remove (labels_in rows) at (let many = length-labels rows in omega arith) settled.in_order)
 
   numbered_instead : AreNumbered (insert (remove rows at) to row)
-  numbered_instead = numbered_with (Some at) rows row to lt to_most few fresh low settled.own_numbers (low_of_rows rows settled.low_numbers)
+  numbered_instead = numbered_inserted (remove rows at) to row (numbered_removed rows at (numbered rows settled) lt) to_most few fresh low
 
   up_instead : IsLabelList (labels_in (insert (remove rows at) to row))
   up_instead = rw (map_insert (λ (r : Row). r.label) (remove rows at) to row) (list_insert (labels_in (remove rows at)) to row.label place none_left up_left)

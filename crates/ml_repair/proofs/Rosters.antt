@@ -101,8 +101,3 @@ left_above out g rows at d is in' le = rw is (get_or-remove_above rows g d at le
 -- where a row goes, one row less is left
 pub left_length : (gone : Option ℕ) (g : ℕ) (rows : List Row) → gone ≡ Some g → g < length rows → length (left_rows gone rows) + 1 ≡ length rows
 left_length out g rows is in' = rw is (length-remove rows g in')
-
--- no more rows are left than there were
-pub left_most : (gone : Option ℕ) (rows : List Row) → IfSome gone (λ g. g < length rows) → length (left_rows gone rows) ≤ length rows
-left_most None rows in' = omega arith
-left_most (Some g) rows in' = let n = length-remove rows g in' in omega arith

@@ -10,13 +10,13 @@ use Rattle.ml_cone.specs.Places.{IsPlaceOf, IsNoId}
 use Rattle.ml_cone.specs.Slots.{AreSlots}
 use Rattle.ml_cone.specs.declared.label.Label.{Label}
 use Rattle.ml_cone.specs.declared.slot.Slot.{Slot}
+use Rattle.ml_store.specs.Numbered.{AreNumbered}
 use Rattle.ml_store.specs.Rows.{numbers_in, labels_in, slots_in, number_at, HasId}
 use Rattle.ml_store.specs.declared.row.Row.{Row}
 use Rattle.ml_repair.specs.Edit.{IsEdited}
 use Rattle.ml_repair.specs.Placed.{IsPlaceFor}
 use Rattle.ml_repair.specs.Plan.{moved_row, moved_rows, slot_for, with_row, without_id}
 use Rattle.ml_repair.specs.Repair.{AreSettled}
-use Rattle.ml_repair.specs.Roster.{AreNumbered}
 use Rattle.ml_repair.specs.Settled.{IsSettled}
 use Rattle.ml_store.specs.declared.moved.Moved.{Moved}
 use Rattle.ml_repair.proofs.Changing.{IsEdit}

@@ -1,12 +1,11 @@
 -- The labels that an edit is planned over: the live ones but one that is passed over, and one that is to come.
 use Rattle.std.specs.Prelude.{ℕ, ◌≡◌, ◌+◌, ◌<◌, ◌≤◌, List, length, All, insert, remove, slice_index_or, Option, Some, None, Contains, ◌⊎◌, ◌↔◌}
-use Rattle.ml_ratio.specs.Limits.{most_labels}
 use denote.Ref.{Bor}
 use Rattle.ml_ratio.specs.Fraction.{value_of, IsAtMost}
 use Rattle.ml_ratio.specs.declared.ratio.Ratio.{Ratio}
 use Rattle.ml_cone.specs.Slots.{ends}
 use Rattle.ml_cone.specs.Outline.{OverlapIn}
-use Rattle.ml_store.specs.Rows.{numbers_in, labels_in, slots_in, HaveOwnNumbers}
+use Rattle.ml_store.specs.Rows.{labels_in, slots_in}
 use Rattle.ml_store.specs.Search.{IsFoundIn}
 use Rattle.ml_store.specs.Table.{IsRowAt}
 use Rattle.ml_cone.specs.declared.label.Label.{Label}
@@ -21,12 +20,6 @@ left_rows (Some at) rows = remove rows at
 abbrev pub joined_rows : Option (Bor Row) → ℕ → List Row → List Row
 joined_rows None at rows = rows
 joined_rows (Some row) at rows = insert rows at row.now
-
--- there are not too many rows, and each has a low number of its own
-pub record AreNumbered (rows : List Row) : Type 0 where
-  pub few : length rows ≤ most_labels
-  pub differ : HaveOwnNumbers rows
-  pub low : All (λ n. n < most_labels) (numbers_in rows)
 
 -- a search for the label in band k finds that at the place
 abbrev pub IsFoundAt : List Row → Label → ℕ → ℕ → Type 0

@@ -81,9 +81,7 @@ fn settle_all(alloc: Global, labels: Vec<Label>) -> Result<Store, AllocError>
     same_rivals();
     let slots = assign(alloc, labels.as_slice())?;
     let rows = rows_of(alloc, labels, slots.as_slice())?;
-    let store = Store::of(alloc, rows)?;
-    let _many = store.len();
-    Ok(store)
+    Store::of(alloc, rows)
 }
 
 /// The labels with the slots of the longest choice. They may come in any order.

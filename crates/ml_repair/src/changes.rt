@@ -50,7 +50,6 @@ fn stay_changes(
     ensures are { IfOk result (λ changes. (c : Change) → Contains changes.items c ↔ IsStayChange roster.now moves.now c) }
     ensures own { IfOk result (λ changes. HaveOwnIds changes.items) }
 {
-    let _many = roster.len();
     let moved = moves.as_slice();
     let mut out = Vec::new(alloc);
     for m in moved {

@@ -1,5 +1,6 @@
 //! Labels at some places as the rivals of a label.
 ghost use Rattle.std.specs.Prelude.{ℕ, ◌≡◌, ◌<◌, All, List, length, map};
+ghost use Rattle.ml_store.specs.Numbered.{AreNumbered};
 ghost use Rattle.ml_repair.specs.Repair.{present_at};
 
 use crate::moves::Moves;
@@ -21,9 +22,9 @@ pub struct Chosen<'a> {
 /// The present slot of the label at a place.
 pub fn present_slot(roster: &Roster<'_>, moves: &Moves, place: usize) -> Slot
     requires { place < length roster.now }
-    ensures { result ≡ present_at roster.now moves.now place }
+    ensures slot { result ≡ present_at roster.now moves.now place }
+    ensures numbered { AreNumbered roster.now }
 {
-    let _many = roster.len();
     let row = roster.row(place);
     moves.slot(row.number, row.slot)
 }

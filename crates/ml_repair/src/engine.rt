@@ -96,7 +96,6 @@ impl Engine {
         ensures slot { (r : Row) → Contains self.now.rows r → r.number ≡ number → result ≡ r.slot }
         ensures blocker { IfSome result.blocker (IsLive self.now.rows) }
     {
-        let _many = self.store.len();
         row_at(&self.store, number).slot
     }
 

@@ -156,7 +156,6 @@ fn sift_moved_one(
     if !sought.low.min().is_less(&moved.slot.until) {
         return Ok(bound);
     }
-    let _many = sought.roster.len();
     match sought.roster.place_of(moved.number) {
         Some(place) => sift_one(sought, place as u32, bound, out),
         None => Ok(bound),

@@ -47,7 +47,6 @@ fn staying(
 ) -> Option<usize>
     ensures { IfSome result (IsStaying roster.now changed.now edited.at i number) }
 {
-    let _many = roster.len();
     match roster.place_of(number) {
         Some(b) => {
             if b < i && b != edited.at && !has(changed, b) {
@@ -109,7 +108,6 @@ fn settle_among<L: Ledger>(
     ensures left { IfOk result (IsLeftBy roster.now moves.now i (λ p. Contains changed.now p ⊎ (blocker ≡ Some p))) }
     ensures spent { IfOk result (λ _. steps.new ≡ steps.old + 1) }
 {
-    let _many = roster.len();
     let row = roster.row(i);
     let low = &row.label;
     let places = places_with(alloc, changed, blocker)?;
@@ -145,7 +143,6 @@ pub fn settle_again<L: Ledger>(
 {
     smaller_ends();
     same_limits();
-    let _many = roster.len();
     if changed.len() > FEW_CHANGED {
         return settle(alloc, roster, moves, edited, true, i, steps);
     }

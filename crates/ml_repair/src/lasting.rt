@@ -16,7 +16,6 @@ use std::alloc::{AllocError, Global};
 fn is_new(roster: &Roster<'_>, m: &Moved) -> bool
     ensures { MatchBool result (IsNewIn roster.now m.now) ((r : Row) → Contains roster.now r → r.number ≡ m.now.number → r.slot ≡ m.now.slot) }
 {
-    let _many = roster.len();
     match roster.place_of(m.number) {
         Some(at) => !same_slots(&roster.row(at).slot, &m.slot),
         None => false,

@@ -44,7 +44,6 @@ pub fn pass_out<L: Ledger>(
     own_slots();
     carried();
     let roster = Roster::of_all(store);
-    let _many = roster.len();
     repair(alloc, &roster, moves, at, false, steps)
 }
 
@@ -115,6 +114,5 @@ pub fn pass_in<L: Ledger>(
     carried();
     settle_coming(alloc, store, gone, row, at, moves, steps)?;
     let roster = Roster::with(store, gone, row, at);
-    let _many = roster.len();
     repair(alloc, &roster, moves, at, true, steps)
 }

@@ -30,7 +30,6 @@ pub fn place_of_id(store: &Store, id: &Text) -> usize
     ensures place { result < length store.now.rows }
     ensures here { (d : Row) → (slice_index_or store.now.rows result d).label.order.id ≡ id.now }
 {
-    let _many = store.len();
     match store.number_of(id) {
         Some(number) => match store.place_of(number) {
             Some(at) => at,

@@ -12,7 +12,6 @@ pub fn row_at(store: &Store, number: u32) -> &Row
     requires { IsLive store.now.rows number }
     ensures { (r : Row) → Contains store.now.rows r → r.number ≡ number → result.now ≡ r }
 {
-    let _many = store.len();
     match store.place_of(number) {
         Some(at) => store.row(at),
         None => unreachable!(),
@@ -27,7 +26,6 @@ pub fn numbers_of(alloc: Global, store: &Store, places: &[u32]) -> Result<Seq<u3
     requires { All (λ p. p < length store.now.rows) places.now }
     ensures { IfOk result (λ numbers. numbers ≡ map (number_at store.now.rows) places.now) }
 {
-    let _many = store.len();
     let mut numbers = Seq::new(alloc);
     for place in places {
         numbers.push(store.row(*place as usize).number)?;

@@ -39,7 +39,6 @@ fn put_slot(roster: &Roster<'_>, moves: &mut Moves, i: usize, slot: Slot) -> Res
     requires { i < length roster.now }
     ensures { IfOk result (λ _. IsMovedAt roster.now i slot moves.old moves.new) }
 {
-    let _many = roster.len();
     let row = roster.row(i);
     moves.put(row.number, slot)
 }
@@ -101,12 +100,12 @@ fn note(
 ) -> Result<(), AllocError>
     requires one_each { length waits.old.items ≡ length roster.now }
     requires is_place { i < length roster.now }
+    requires low { i < most_labels }
     ensures one_each { IfOk result (λ _. length waits.new.items ≡ length roster.now) }
     ensures woken { IfOk result (λ _. (k : ℕ) → k < length roster.now →
         IsTrue (slice_index_or waits.new.items k false) ↔ (IsTrue (slice_index_or waits.old.items k false) ⊎ IsRivalBefore (labels_in roster.now) i k)) }
     ensures noted { IfOk result (λ _. changed.new.items ≡ changed.old.items ++ i ∷ []) }
 {
-    let _many = roster.len();
     wake_more(alloc, roster, changed.len() > FEW_WOKE, i, waits)?;
     changed.push(i as u32)?;
     Ok(())

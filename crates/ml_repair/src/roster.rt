@@ -3,10 +3,11 @@ ghost use Rattle.std.specs.Prelude.{ℕ, ◌≡◌, ◌+◌, ◌<◌, ◌≤◌,
 ghost use Rattle.ml_ratio.specs.Limits.{most_labels};
 ghost use Rattle.ml_cone.specs.Cell.{IsLastBand};
 ghost use Rattle.ml_cone.specs.declared.label.Label.{Label};
+ghost use Rattle.ml_store.specs.Numbered.{AreNumbered};
 ghost use Rattle.ml_store.specs.Rows.{number_at, labels_in, IsFresh};
 ghost use Rattle.ml_store.specs.Search.{Gathers};
 ghost use Rattle.ml_store.specs.Table.{IsRowAt, IsPlaceIn, slot_at};
-ghost use Rattle.ml_repair.specs.Roster.{left_rows, joined_rows, AreNumbered, AreFound, AreOverlapped, AreMet, NoneBefore, PlacesCame, IsPlaceWithout};
+ghost use Rattle.ml_repair.specs.Roster.{left_rows, joined_rows, AreFound, AreOverlapped, AreMet, NoneBefore, PlacesCame, IsPlaceWithout};
 
 use ml_cone::{Label, last_band};
 use ml_ratio::{Ratio, Seq};
@@ -38,8 +39,9 @@ pub struct Roster<'a> {
 
 impl<'a> Model for Roster<'a> {
     ghost use Rattle.std.specs.Prelude.{List, ◌<◌, ◌≤◌, length, IfSome};
+    ghost use Rattle.ml_store.specs.Numbered.{AreNumbered};
     ghost use Rattle.ml_store.specs.declared.row.Row.{Row};
-    ghost use Rattle.ml_repair.specs.Roster.{left_rows, joined_rows, AreNumbered};
+    ghost use Rattle.ml_repair.specs.Roster.{left_rows, joined_rows};
 
     ghost Value = { List Row };
 
@@ -52,10 +54,10 @@ impl<'a> Model for Roster<'a> {
 // The row at a place of those that are left.
 fn left_row(store: &Store, gone: Option<usize>, at: usize) -> &Row
     requires within { at < length (left_rows gone store.now.rows) }
+    requires few { length (left_rows gone store.now.rows) ≤ most_labels }
     requires gone { IfSome gone (λ g. g < length store.now.rows) }
     ensures { HoldsAt (λ r. r ≡ result.now) (left_rows gone store.now.rows) at }
 {
-    let _many = store.len();
     match gone {
         Some(g) => {
             if at < g {
@@ -73,7 +75,6 @@ fn left_place(store: &Store, gone: Option<usize>, number: u32) -> Option<usize>
     requires gone { IfSome gone (λ g. g < length store.now.rows) }
     ensures { IsPlaceIn (left_rows gone store.now.rows) number result }
 {
-    let _many = store.len();
     match store.place_of(number) {
         Some(at) => place_without(gone, at),
         None => None,
@@ -146,6 +147,7 @@ fn joined_row<'a>(
     requires gone { IfSome gone (λ g. g < length store.now.rows) }
     requires at { IfSome come (λ row. at ≤ length (left_rows gone store.now.rows)) }
     requires within { place < length (joined_rows come at (left_rows gone store.now.rows)) }
+    requires few { length (joined_rows come at (left_rows gone store.now.rows)) ≤ most_labels }
     ensures { HoldsAt (λ r. r ≡ result.now) (joined_rows come.entry at (left_rows gone store.now.rows)) place }
 {
     match come {
@@ -166,7 +168,6 @@ fn joined_row<'a>(
 fn push_place(roster: &Roster<'_>, number: u32, out: &mut Seq<u32>) -> Result<(), AllocError>
     ensures { IfOk result (λ _. Gathers (IsRowAt roster.now number) out.old out.new) }
 {
-    let _many = roster.len();
     match roster.place_of(number) {
         Some(at) => {
             out.push(at as u32)?;
@@ -210,21 +211,17 @@ fn push_come(come: Option<&Row>, at: usize, out: &mut Seq<u32>) -> Result<(), Al
 impl<'a> Roster<'a> {
     /// The live labels.
     pub fn of_all(store: &'a Store) -> Roster<'a>
-        ensures { result ≡ store.now.rows }
+        ensures rows { result ≡ store.now.rows }
+        ensures numbered { AreNumbered result }
     {
-        let _many = store.len();
-        Roster {
-            store,
-            gone: None,
-            come: None,
-            at: 0,
-        }
+        Roster::left(store, None)
     }
 
     /// The live labels but that at `gone`, if one is given.
     pub fn left(store: &'a Store, gone: Option<usize>) -> Roster<'a>
         requires { IfSome gone (λ g. g < length store.now.rows) }
-        ensures { result ≡ left_rows gone store.now.rows }
+        ensures rows { result ≡ left_rows gone store.now.rows }
+        ensures numbered { AreNumbered result }
     {
         let _many = store.len();
         Roster {
@@ -242,7 +239,8 @@ impl<'a> Roster<'a> {
         requires few { length (left_rows gone store.now.rows) < most_labels }
         requires fresh { IsFresh come.now.number (left_rows gone store.now.rows) }
         requires low { come.now.number < most_labels }
-        ensures { result ≡ insert (left_rows gone store.now.rows) at come.now }
+        ensures rows { result ≡ insert (left_rows gone store.now.rows) at come.now }
+        ensures numbered { AreNumbered result }
     {
         let _many = store.len();
         Roster {
@@ -275,13 +273,15 @@ impl<'a> Roster<'a> {
         ensures number { number_at self.now place ≡ result.now.number }
         ensures label { (d : Label) → slice_index_or (labels_in self.now) place d ≡ result.now.label }
         ensures slot { slot_at self.now place ≡ result.now.slot }
+        ensures numbered { AreNumbered self.now }
     {
         joined_row(self.store, self.gone, self.come, self.at, place)
     }
 
     /// The place of the label with this number; none where no label has it.
     pub fn place_of(&self, number: u32) -> Option<usize>
-        ensures { IsPlaceIn self.now number result }
+        ensures place { IsPlaceIn self.now number result }
+        ensures numbered { AreNumbered self.now }
     {
         joined_place(self.store, self.gone, self.come, self.at, number)
     }

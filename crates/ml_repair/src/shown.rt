@@ -36,7 +36,6 @@ fn push_shown(
 ) -> Result<(), AllocError>
     ensures { IfOk result (λ _. (p : ℕ) → Contains places.new p ↔ (Contains places.old p ⊎ (IsRowAt store.now.rows number p × IsShownIn store.now.rows view.now p))) }
 {
-    let _many = store.len();
     match store.place_of(number) {
         Some(at) => {
             if is_shown(store.row(at), view) {

@@ -8,22 +8,25 @@ use Rattle.ml_ratio.specs.Lists.{IsAdded}
 use Rattle.ml_cone.specs.declared.slot.Slot.{Slot}
 use Rattle.ml_store.specs.Boxes.{unboxed}
 use Rattle.ml_store.specs.Rows.{numbers_in, labels_in, HasId, IsFresh, IsNumberOf}
+use Rattle.ml_store.specs.Numbered.{AreNumbered}
 use Rattle.ml_store.specs.Names.{Name, naming_of, names_in, AreByName, HaveId}
 use Rattle.ml_store.specs.Table.{IsTable, IsRowAt, with_slot, slot_at}
 use Rattle.ml_store.specs.declared.row.Row.{Row}
 use Rattle.ml_ratio.proofs.lemmas.Lists.{contains_map, map_contains, map_insert, map_remove, added_insert}
 
 -- when a row, its number and its name come in, the numbers are still those of the rows, in their order and in byte order of ids
-pub table_in : (rows : List Row) (numbers ids ids' : List ℕ) (at : ℕ) (r : Row) → IsTable rows numbers ids →
+pub table_in : (rows : List Row) (numbers ids ids' : List ℕ) (at : ℕ) (r : Row) → IsTable rows numbers ids → AreNumbered (insert rows at r) →
     ((names : List Name) → IsAdded (naming_of r) (names_in rows) names → AreByName names ids') → IsTable (insert rows at r) (insert numbers at r.number) ids'
-table_in rows numbers ids ids' at r t by = record {
+table_in rows numbers ids ids' at r t numbered by = record {
+  numbered = numbered;
   numbers_are = ap (λ ns. insert ns at r.number) t.numbers_are ∙ sym (map_insert (λ (s : Row). s.number) rows at r);
   by_name = rw (map_insert naming_of rows at r) (by (insert (names_in rows) at (naming_of r)) (added_insert (names_in rows) at (naming_of r)));
 }
 
 -- when a row, its number and its name go, the numbers are still those of the rows, in their order and in byte order of ids
-pub table_out : (rows : List Row) (numbers ids ids' : List ℕ) (at : ℕ) → IsTable rows numbers ids → AreByName (remove (names_in rows) at) ids' → IsTable (remove rows at) (remove numbers at) ids'
-table_out rows numbers ids ids' at t by = record {
+pub table_out : (rows : List Row) (numbers ids ids' : List ℕ) (at : ℕ) → IsTable rows numbers ids → AreNumbered (remove rows at) → AreByName (remove (names_in rows) at) ids' → IsTable (remove rows at) (remove numbers at) ids'
+table_out rows numbers ids ids' at t numbered by = record {
+  numbered = numbered;
   numbers_are = ap (λ ns. remove ns at) t.numbers_are ∙ sym (map_remove (λ (s : Row). s.number) rows at);
   by_name = rw (map_remove naming_of rows at) by;
 }
@@ -61,6 +64,11 @@ length-with_slot (r ∷ rows) (suc i) slot = ap suc (length-with_slot rows i slo
 -- when a row gets another slot, the numbers are still those of the rows, in their order and in byte order of ids
 pub table_moved : (rows : List Row) (numbers ids : List ℕ) (at : ℕ) (slot : Slot) → IsTable rows numbers ids → IsTable (with_slot rows at slot) numbers ids
 table_moved rows numbers ids at slot t = record {
+  numbered = record {
+    few = (let n = length-with_slot rows at slot in let m = t.numbered.few in omega arith);
+    differ = rw (numbers-with_slot rows at slot) t.numbered.differ;
+    low = rw (numbers-with_slot rows at slot) t.numbered.low;
+  };
   numbers_are = t.numbers_are ∙ sym (numbers-with_slot rows at slot);
   by_name = rw (names-with_slot rows at slot) t.by_name;
 }

@@ -1,4 +1,5 @@
 pub mod Rows
+pub mod Numbered
 pub mod Pairs
 pub mod Numbers
 pub mod Names

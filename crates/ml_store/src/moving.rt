@@ -59,7 +59,6 @@ fn write_one(table: &mut Table, grid: &mut Grid, pairs: &mut Pairs, m: &Moved)
     ensures cells { grid.new.spare ≡ grid.old.spare }
     ensures blocks { pairs.old.spare ≤ pairs.new.spare + pair_count m.now.slot.blocker }
 {
-    let _many = table.len();
     match table.place_of(m.number) {
         Some(at) => write_slot(table, grid, pairs, at, m.slot),
         None => {}

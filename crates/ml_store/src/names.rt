@@ -2,7 +2,7 @@
 ghost use Rattle.std.specs.Prelude.{ℕ, ◌≡◌, ◌≢◌, ◌+◌, ◌<◌, ◌≤◌, ◌↔◌, IsTrue, MatchOption, Contains, List, length, remove, slice_index_or, vec_len};
 ghost use Rattle.std.specs.Vec.{vec_capacity};
 ghost use Rattle.ml_ratio.specs.Lists.{IsAdded};
-ghost use Rattle.ml_store.specs.Rows.{numbers_in};
+ghost use Rattle.ml_store.specs.Rows.{numbers_in, HaveOwnNumbers};
 ghost use Rattle.ml_store.specs.Names.{Name, names_in, AreByName, IsIdBefore, IsIdPlace, HaveId};
 ghost use Rattle.ml_store.specs.Boxes.{unboxed};
 
@@ -17,7 +17,6 @@ fn id_of<'a>(rows: &'a [Box<Row>], numbers: &Numbers, number: u32) -> &'a Text
     requires live { Contains numbers.now number }
     ensures { (name : Name) → Contains (names_in (unboxed rows.now)) name → name.number ≡ number → result.now ≡ name.id }
 {
-    let _many = numbers.len();
     match numbers.place_of(number) {
         Some(at) => rows[at].label.id(),
         None => unreachable!(),
@@ -39,10 +38,10 @@ fn is_before(rows: &[Box<Row>], numbers: &Numbers, number: u32, id: &Text) -> bo
 // Where the id stands, or is to stand, among numbers in byte order of ids.
 fn id_place(rows: &[Box<Row>], numbers: &Numbers, ids: &[u32], id: &Text) -> usize
     requires numbers { numbers.now ≡ numbers_in (unboxed rows.now) }
+    requires differ { HaveOwnNumbers (unboxed rows.now) }
     requires by_name { AreByName (names_in (unboxed rows.now)) ids.now }
     ensures { IsIdPlace (names_in (unboxed rows.now)) ids.now id.now result }
 {
-    let _many = numbers.len();
     let mut low = 0;
     let mut high = ids.len();
     while low < high {
@@ -59,10 +58,10 @@ fn id_place(rows: &[Box<Row>], numbers: &Numbers, ids: &[u32], id: &Text) -> usi
 /// The number of the label with this id; none where no label has it.
 pub fn find_id(rows: &[Box<Row>], numbers: &Numbers, ids: &[u32], id: &Text) -> Option<u32>
     requires numbers { numbers.now ≡ numbers_in (unboxed rows.now) }
+    requires differ { HaveOwnNumbers (unboxed rows.now) }
     requires by_name { AreByName (names_in (unboxed rows.now)) ids.now }
     ensures { MatchOption result (¬ (HaveId (names_in (unboxed rows.now)) id.now)) (λ n. Contains (names_in (unboxed rows.now)) (record { number = n; id = id.now })) }
 {
-    let _many = numbers.len();
     let at = id_place(rows, numbers, ids, id);
     if at < ids.len() && has_id(rows, numbers, ids[at], id) {
         Some(ids[at])
@@ -83,6 +82,7 @@ fn has_id(rows: &[Box<Row>], numbers: &Numbers, number: u32, id: &Text) -> bool
 /// The number of a label with a new id comes in.
 pub fn put_name(rows: &[Box<Row>], numbers: &Numbers, ids: &mut Vec<u32>, number: u32, id: &Text)
     requires numbers { numbers.now ≡ numbers_in (unboxed rows.now) }
+    requires differ { HaveOwnNumbers (unboxed rows.now) }
     requires by_name { AreByName (names_in (unboxed rows.now)) ids.old.items }
     requires new { ¬ (HaveId (names_in (unboxed rows.now)) id.now) }
     requires room { vec_len ids.old < vec_capacity ids.old }
@@ -90,7 +90,6 @@ pub fn put_name(rows: &[Box<Row>], numbers: &Numbers, ids: &mut Vec<u32>, number
     ensures len { vec_len ids.new ≡ vec_len ids.old + 1 }
     ensures capacity { vec_capacity ids.new ≡ vec_capacity ids.old }
 {
-    let _many = numbers.len();
     let at = id_place(rows, numbers, ids, id);
     match ids.insert(at, number) {
         Ok(()) => {}
@@ -101,6 +100,7 @@ pub fn put_name(rows: &[Box<Row>], numbers: &Numbers, ids: &mut Vec<u32>, number
 /// The number of the label with this id goes.
 pub fn take_name(rows: &[Box<Row>], numbers: &Numbers, ids: &mut Vec<u32>, id: &Text)
     requires numbers { numbers.now ≡ numbers_in (unboxed rows.now) }
+    requires differ { HaveOwnNumbers (unboxed rows.now) }
     requires by_name { AreByName (names_in (unboxed rows.now)) ids.old.items }
     requires live { HaveId (names_in (unboxed rows.now)) id.now }
     ensures by_name { (at : ℕ) (d : Name) → at < length (names_in (unboxed rows.now)) → (slice_index_or (names_in (unboxed rows.now)) at d).id ≡ id.now →
@@ -108,7 +108,6 @@ pub fn take_name(rows: &[Box<Row>], numbers: &Numbers, ids: &mut Vec<u32>, id: &
     ensures len { vec_len ids.new + 1 ≡ vec_len ids.old }
     ensures capacity { vec_capacity ids.new ≡ vec_capacity ids.old }
 {
-    let _many = numbers.len();
     let at = id_place(rows, numbers, ids, id);
     let _number = ids.remove(at);
 }

@@ -157,7 +157,8 @@ impl Numbers {
 
     /// The place of a number; none where it is not in use.
     pub fn place_of(&self, number: u32) -> Option<usize>
-        ensures { MatchOption result (¬ (Contains self.now number)) (IsAt self.now number) }
+        ensures place { MatchOption result (¬ (Contains self.now number)) (IsAt self.now number) }
+        ensures differ { AreDifferent self.now }
     {
         find(&self.order, &self.places, self.used, number)
     }
@@ -176,7 +177,8 @@ impl Numbers {
         requires is_place { at ≤ length self.old }
         requires free { ¬ (Contains self.old number) }
         requires low { number < most_labels }
-        ensures { self.new ≡ insert self.old at number }
+        ensures inserted { self.new ≡ insert self.old at number }
+        ensures few { length self.old < most_labels }
     {
         put_in(&mut self.order, &mut self.places, self.used, at, number);
         self.used += 1;

@@ -10,7 +10,8 @@ ghost use Rattle.ml_store.specs.Moved.{moved_rows, moved_pairs};
 ghost use Rattle.ml_store.specs.Pairs.{pair_count};
 ghost use Rattle.ml_cone.specs.declared.label.Label.{Label};
 ghost use Rattle.ml_store.specs.Boxes.{unboxed};
-ghost use Rattle.ml_store.specs.Rows.{numbers_in, number_at, labels_in, AreInTurn, IsLive, IsFresh, HasId, HaveOwnNumbers, HaveOwnIds, IsNumberOf};
+ghost use Rattle.ml_store.specs.Numbered.{AreNumbered};
+ghost use Rattle.ml_store.specs.Rows.{number_at, labels_in, AreInTurn, IsLive, IsFresh, HasId, HaveOwnIds, IsNumberOf};
 ghost use Rattle.ml_store.specs.Search.{IsFoundIn, IsNumberWith, Gathers, AreOverlapping, AreAcross, NoneOverlaps, AreNearNumbers};
 ghost use Rattle.ml_store.specs.Store.{IsStored, AreWithin};
 ghost use Rattle.ml_store.specs.Table.{IsPlaceIn, with_slot, slot_at};
@@ -98,9 +99,7 @@ impl Store {
     /// How many labels there are: at most 32,768, with different numbers below that.
     pub fn len(&self) -> usize
         ensures count { result ≡ length self.now.rows }
-        ensures few { length self.now.rows ≤ most_labels }
-        ensures low { All (λ n. n < most_labels) (numbers_in self.now.rows) }
-        ensures differ { HaveOwnNumbers self.now.rows }
+        ensures numbered { AreNumbered self.now.rows }
     {
         self.table.len()
     }
@@ -112,13 +111,15 @@ impl Store {
         ensures number { number_at self.now.rows at ≡ result.now.number }
         ensures label { (d : Label) → slice_index_or (labels_in self.now.rows) at d ≡ result.now.label }
         ensures slot { slot_at self.now.rows at ≡ result.now.slot }
+        ensures numbered { AreNumbered self.now.rows }
     {
         self.table.row(at)
     }
 
     /// The place of the label with this number; none where no label has it.
     pub fn place_of(&self, number: u32) -> Option<usize>
-        ensures { IsPlaceIn self.now.rows number result }
+        ensures place { IsPlaceIn self.now.rows number result }
+        ensures numbered { AreNumbered self.now.rows }
     {
         self.table.place_of(number)
     }

@@ -1,10 +1,11 @@
 //! The table of live labels: rows in order, found by number and by id.
-ghost use Rattle.std.specs.Prelude.{ℕ, ◌≡◌, ◌+◌, ◌<◌, ◌≤◌, [], List, length, All, MatchOption, OnOk, IfOk, HoldsAt, insert, remove, vec_len};
+ghost use Rattle.std.specs.Prelude.{ℕ, ◌≡◌, ◌+◌, ◌<◌, ◌≤◌, [], List, length, MatchOption, OnOk, IfOk, HoldsAt, insert, remove, vec_len};
 ghost use Rattle.std.specs.Vec.{vec_capacity};
 ghost use Rattle.ml_ratio.specs.Limits.{most_labels};
 ghost use Rattle.ml_store.specs.Boxes.{unboxed};
 ghost use Rattle.ml_store.specs.Names.{names_in, HaveId};
-ghost use Rattle.ml_store.specs.Rows.{numbers_in, labels_in, AreInTurn, HaveOwnNumbers, HaveOwnIds, HasId, IsFresh, IsNumberOf};
+ghost use Rattle.ml_store.specs.Numbered.{AreNumbered};
+ghost use Rattle.ml_store.specs.Rows.{labels_in, AreInTurn, HaveOwnIds, HasId, IsFresh, IsNumberOf};
 ghost use Rattle.ml_store.specs.Table.{IsTable, IsPlaceIn, with_slot};
 ghost use Rattle.ml_store.specs.declared.row.Row.{Row};
 
@@ -144,9 +145,7 @@ impl Table {
     /// How many rows there are: at most 32,768, whose numbers are different ones and below that.
     pub fn len(&self) -> usize
         ensures count { result ≡ length self.now.rows }
-        ensures few { length self.now.rows ≤ most_labels }
-        ensures low { All (λ n. n < most_labels) (numbers_in self.now.rows) }
-        ensures differ { HaveOwnNumbers self.now.rows }
+        ensures numbered { AreNumbered self.now.rows }
     {
         self.numbers.len()
     }
@@ -154,14 +153,16 @@ impl Table {
     /// The row at a place.
     pub fn row(&self, at: usize) -> &Row
         requires { at < length self.now.rows }
-        ensures { HoldsAt (λ r. r ≡ result.now) self.now.rows at }
+        ensures row { HoldsAt (λ r. r ≡ result.now) self.now.rows at }
+        ensures numbered { AreNumbered self.now.rows }
     {
         &self.rows[at]
     }
 
     /// The place of the row with this number; none where no row has it.
     pub fn place_of(&self, number: u32) -> Option<usize>
-        ensures { IsPlaceIn self.now.rows number result }
+        ensures place { IsPlaceIn self.now.rows number result }
+        ensures numbered { AreNumbered self.now.rows }
     {
         self.numbers.place_of(number)
     }
@@ -248,7 +249,6 @@ impl NextEnd<Ratio, u32> for Table {
     ghost next = { λ table. end_in table.rows };
 
     fn next_end(&self, number: &u32, end: Ratio) -> Ratio {
-        let _many = self.len();
         match self.place_of(*number) {
             Some(at) => self.row(at).slot.until,
             None => end,

@@ -20,11 +20,11 @@ loop-m-preserved c =
     elim c.match-place_of.branch [
       | in-Some+in_ok-push_moved-in-Some w ↦
           let r : Row = w.row.result.now in
-          rw w.out-is (noted_more rows moved k c.loop-m.out.items c.loop-m.invariant m r w.push_moved.new.out.items c.as_slice-moved.ensures.differ lt read c.len-many.ensures.numbered.differ c.requires
-          (w.in-Some.at, w.in-Some.ensures.0, w.row.ensures.row r) (sym (w.row.ensures.number) ∙ w.in-Some.ensures.1) w.in_ok-push_moved-in-Some.ensures)
+          rw w.out-is (noted_more rows moved k c.loop-m.out.items c.loop-m.invariant m r w.push_moved.new.out.items c.as_slice-moved.ensures.differ lt read w.row.ensures.numbered.differ c.requires
+          (w.in-Some.at, w.in-Some.ensures.place.0, w.row.ensures.row r) (sym (w.row.ensures.number) ∙ w.in-Some.ensures.place.1) w.in_ok-push_moved-in-Some.ensures)
       | in-None w ↦
           let number : get_or (numbers_of moved) k 0 ≡ m.number = get_or-map (λ (x : Moved). x.number) moved k m 0 lt ∙ ap (λ (x : Moved). x.number) read in
-          rw w.out-is (noted_fresh rows moved k c.loop-m.out.items c.loop-m.invariant (rw number w.in-None.ensures))
+          rw w.out-is (noted_fresh rows moved k c.loop-m.out.items c.loop-m.invariant (rw number w.in-None.ensures.place))
     ]
 
 pub returns-clause-are : goal.returns-clause-are

@@ -15,7 +15,7 @@ settle-requires-clause-ends g c =
     let all = insert left c.args.at c.args.row.now in
     let long = length-insert left c.args.at c.args.row.now c.requires.is_place in
     let many = length-labels all in
-    rw c.with-roster.ensures
+    rw c.with-roster.ensures.rows
     (come_ends (number_at all) (labels_in all) (present_slots all c.args.moves.now) c.args.at (omega arith)
     (come_start c.own_slots.ensures c.carried.ensures left c.args.at c.args.row.now c.args.moves.now c.args.moves.now c.requires.is_place c.requires.before))
 
@@ -23,4 +23,4 @@ pub returns-clause-own : goal.returns-clause-own
 returns-clause-own g c =
     let left = left_rows c.args.gone c.args.store.now.rows in
     let row : Row = record { number = c.args.row.now.number; label = c.args.row.now.label; slot = c.in_ok-slot.slot } in
-    come_here c.own_slots.ensures c.carried.ensures left c.args.at c.args.row.now row c.args.moves.now c.requires.is_place refl refl c.in_ok-slot.slot refl c.requires.kept (rw c.with-roster.ensures at c.in_ok-slot.ensures.own)
+    come_here c.own_slots.ensures c.carried.ensures left c.args.at c.args.row.now row c.args.moves.now c.requires.is_place refl refl c.in_ok-slot.slot refl c.requires.kept (rw c.with-roster.ensures.rows at c.in_ok-slot.ensures.own)

@@ -17,7 +17,7 @@ pub pass_out-requires-clause-before : goal.pass_out-requires-clause-before
 pass_out-requires-clause-before g c = start_settled c.args.store.now.rows c.new-moves.result c.new-moves.ensures c.requires.settled
 
 pub place_for-to-requires : goal.place_for-to-requires
-place_for-to-requires g c = rw c.left-roster.ensures (up_removed c.args.store.now.rows c.place_of_id-at.result c.requires.settled c.place_of_id-at.ensures.place)
+place_for-to-requires g c = rw c.left-roster.ensures.rows (up_removed c.args.store.now.rows c.place_of_id-at.result c.requires.settled c.place_of_id-at.ensures.place)
 
 pub pass_in-requires-clause-few : goal.pass_in-requires-clause-few
 pass_in-requires-clause-few g c =
@@ -47,14 +47,14 @@ change_between-requires g c =
     ap (λ (t : Row). t.label.order.id) (sym (c.row-old.ensures.row old)) ∙ c.place_of_id-at.ensures.here old ∙ c.id.ensures ∙ ap (λ (l : Label). l.order.id) (sym label)
 
 pub edit_changes-requires-clause-up : goal.edit_changes-requires-clause-up
-edit_changes-requires-clause-up g c = rw c.left-roster.ensures (up_removed c.args.store.now.rows c.place_of_id-at.result c.requires.settled c.place_of_id-at.ensures.place)
+edit_changes-requires-clause-up g c = rw c.left-roster.ensures.rows (up_removed c.args.store.now.rows c.place_of_id-at.result c.requires.settled c.place_of_id-at.ensures.place)
 
 pub edit_changes-requires-clause-own : goal.edit_changes-requires-clause-own
 edit_changes-requires-clause-own g c =
     let rows = c.args.store.now.rows in
     let label : c.pass_in.new.row.label ≡ c.args.label = c.pass_in.ensures.label ∙ c.row_for-row.ensures.label in
     let id : c.id.result.now ≡ c.pass_in.new.row.label.order.id = c.id.ensures ∙ ap (λ (l : Label). l.order.id) (sym label) in
-    rw c.left-roster.ensures
+    rw c.left-roster.ensures.rows
     (between_own c.row-old.result.now c.pass_in.new.row c.in_ok-edited.edited (labels_in (remove rows c.place_of_id-at.result)) c.in_ok-edited.ensures
     (rw id at (left_no_id rows c.place_of_id-at.result c.id.result.now c.requires.settled.in_order c.place_of_id-at.ensures.place c.place_of_id-at.ensures.here)))
 
@@ -72,9 +72,9 @@ returns g c =
     let is_row : c.in_ok-row.row.value ≡ row = c.in_ok-row.ensures.ok in
     let here : (d : Row) → (get_or rows at d).label.order.id ≡ row.label.order.id = λ d. c.place_of_id-at.ensures.here d ∙ c.id.ensures ∙ ap (λ (l : Label). l.order.id) (sym label) in
     let few : length (remove rows at) < 32768 = (let n = length-remove rows at lt in let few = c.requires.settled.few in omega arith) in
-    let place : IsPlaceFor (labels_in (remove rows at)) row.label.order to = rw (label, ← c.order.ensures) (rw c.left-roster.ensures at c.place_for-to.ensures) in
+    let place : IsPlaceFor (labels_in (remove rows at)) row.label.order to = rw (label, ← c.order.ensures) (rw c.left-roster.ensures.rows at c.place_for-to.ensures) in
     instead_plan rows at to row c.in_ok-row.row c.pass_in.new.moves c.in_ok-changes.changes c.in_ok-gone.gone c.in_ok-come.come c.requires.settled lt here (rw label c.requires.live) few
     (rw number (number_gone rows at old c.requires.settled lt read)) (rw number (number_low rows at old c.requires.settled lt read)) place c.in_ok-come.ensures.after c.in_ok-come.ensures.kept is_row
-    c.in_ok-moved.moved.items (record { same = rw c.left-roster.ensures at c.in_ok-moved.ensures.rows; new = rw c.left-roster.ensures at c.in_ok-moved.ensures.new })
+    c.in_ok-moved.moved.items (record { same = rw c.left-roster.ensures.rows at c.in_ok-moved.ensures.rows; new = rw c.left-roster.ensures.rows at c.in_ok-moved.ensures.new })
     old c.in_ok-edited.edited c.args.label _ _ (at, lt, sym read) (ap (λ (t : Row). t.label.order.id) read ∙ here old) (λ d. ap (λ (t : Row). t.number) (c.row-old.ensures.row d) ∙ sym number) c.in_ok-edited.ensures c.in_ok-changes.ensures.ascending
-    (rw c.left-roster.ensures at c.in_ok-changes.ensures.same) c.in_ok-gone.ensures.touched c.in_ok-come.ensures.touched label (spent_both _ _ _ _ _ c.in_ok-gone.ensures.spent c.in_ok-come.ensures.spent)
+    (rw c.left-roster.ensures.rows at c.in_ok-changes.ensures.same) c.in_ok-gone.ensures.touched c.in_ok-come.ensures.touched label (spent_both _ _ _ _ _ c.in_ok-gone.ensures.spent c.in_ok-come.ensures.spent)

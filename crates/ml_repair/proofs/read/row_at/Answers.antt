@@ -7,5 +7,5 @@ pub returns : goal.returns
 returns c r there same =
     let rows = c.args.store.now.rows in
     let s : Row = c.row.result.now in
-    let lt = c.in-Some.ensures.0 in
-    one_number rows s r (c.in-Some.at, lt, c.row.ensures.row s) there c.len-many.ensures.differ (sym (c.row.ensures.number) ∙ c.in-Some.ensures.1 ∙ sym same)
+    let lt = c.in-Some.ensures.place.0 in
+    one_number rows s r (c.in-Some.at, lt, c.row.ensures.row s) there c.row.ensures.numbered.differ (sym (c.row.ensures.number) ∙ c.in-Some.ensures.place.1 ∙ sym same)

@@ -2,13 +2,6 @@ use Rattle.std.proofs.Common.{◌∙◌, arith}
 use Rattle.ml_repair.proofs.Rosters.{left_above, left_length}
 use Rattle.ml_repair.proofs.roster.left_row.Goals as goal
 
-pub overflow_add-at : goal.overflow_add-at
-overflow_add-at c =
-    let in' = rw c.in-Some.is at c.requires.gone in
-    let n = left_length c.args.gone c.in-Some.g c.args.store.now.rows c.in-Some.is in' in
-    let w = c.requires.within in let f = c.len-many.ensures.few in
-    omega arith
-
 pub row-requires-else-at-g : goal.row-requires-else-at-g
 row-requires-else-at-g c =
     let in' = rw c.in-Some.is at c.requires.gone in

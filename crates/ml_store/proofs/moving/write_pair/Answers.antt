@@ -11,25 +11,25 @@ pub change_pair-requires-clause-its : goal.change_pair-requires-clause-its
 change_pair-requires-clause-its c =
     let rows = c.args.table.now.rows in
     let r : Row = c.row-row.result.now in
-    let read : r ≡ get_or rows c.args.at r = sym (c.row-row.ensures r) in
+    let read : r ≡ get_or rows c.args.at r = sym (c.row-row.ensures.row r) in
     let fresh = fresh_removed rows c.args.at r c.requires.differ c.requires.is_place read in
     index_its (λ (p : Pair). p.value) IsPairIn pair_number c.args.pairs.now.entries (added_remove rows c.args.at r c.requires.is_place read) fresh c.requires.paired
 
 pub change_pair-requires-clause-room : goal.change_pair-requires-clause-room
 change_pair-requires-clause-room c =
-    let e = slot_read c.args.table.now.rows c.args.at c.row-row.result.now c.requires.is_place (sym (c.row-row.ensures c.row-row.result.now)) in
+    let e = slot_read c.args.table.now.rows c.args.at c.row-row.result.now c.requires.is_place (sym (c.row-row.ensures.row c.row-row.result.now)) in
     rw (← e) c.requires.room
 
 pub returns-clause-blocks : goal.returns-clause-blocks
 returns-clause-blocks c =
-    let e = slot_read c.args.table.now.rows c.args.at c.row-row.result.now c.requires.is_place (sym (c.row-row.ensures c.row-row.result.now)) in
+    let e = slot_read c.args.table.now.rows c.args.at c.row-row.result.now c.requires.is_place (sym (c.row-row.ensures.row c.row-row.result.now)) in
     rw e c.change_pair.ensures.spare
 
 pub returns-clause-paired : goal.returns-clause-paired
 returns-clause-paired c =
     let rows = c.args.table.now.rows in
     let r : Row = c.row-row.result.now in
-    let read : r ≡ get_or rows c.args.at r = sym (c.row-row.ensures r) in
+    let read : r ≡ get_or rows c.args.at r = sym (c.row-row.ensures.row r) in
     let a = added_remove rows c.args.at r c.requires.is_place read in
     let s : Row = record r { slot = c.args.slot } in
     let b = added_set rows c.args.at s c.requires.is_place in

@@ -12,7 +12,7 @@ pub move_entries-requires : goal.move_entries-requires
 move_entries-requires c =
     let rows = c.args.table.now.rows in
     let r : Row = c.row-row.result.now in
-    let read : r ≡ get_or rows c.args.at r = sym (c.row-row.ensures r) in
+    let read : r ≡ get_or rows c.args.at r = sym (c.row-row.ensures.row r) in
     let fresh = fresh_removed rows c.args.at r c.requires.stored.differ c.requires.is_place read in
     record { its = index_its (λ (e : Entry). e.value) IsEntryIn entry_number c.args.grid.now.entries (added_remove rows c.args.at r c.requires.is_place read) fresh c.requires.stored.kept }
 
@@ -20,7 +20,7 @@ pub returns-clause-stored : goal.returns-clause-stored
 returns-clause-stored c =
     let rows = c.args.table.now.rows in
     let r : Row = c.row-row.result.now in
-    let read : r ≡ get_or rows c.args.at r = sym (c.row-row.ensures r) in
+    let read : r ≡ get_or rows c.args.at r = sym (c.row-row.ensures.row r) in
     let a = added_remove rows c.args.at r c.requires.is_place read in
     let s : Row = record r { slot = c.args.slot } in
     let b = added_set rows c.args.at s c.requires.is_place in

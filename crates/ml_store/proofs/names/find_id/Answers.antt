@@ -17,14 +17,14 @@ remade name n id names e f there = subst (λ (x : Name). Contains names x) (ap (
 pub has_id-requires-clause-live : goal.has_id-requires-clause-live
 has_id-requires-clause-live c =
     let rows = unboxed c.args.rows.now in
-    let own = unique_names rows (rw c.requires.numbers at c.len-many.ensures.differ) in
+    let own = unique_names rows c.requires.differ in
     let some = some_name (names_in rows) c.args.ids.now own c.requires.by_name c.id_place-at.result c.if-at-ids.true in
     rw (c.requires.numbers, some.2) (number_there rows some.0 some.1)
 
 pub returns-then-has_id : goal.returns-then-has_id
 returns-then-has_id c =
     let rows = unboxed c.args.rows.now in
-    let own = unique_names rows (rw c.requires.numbers at c.len-many.ensures.differ) in
+    let own = unique_names rows c.requires.differ in
     let some = some_name (names_in rows) c.args.ids.now own c.requires.by_name c.id_place-at.result c.if-at-ids.true in
     let yes = (c.if-has_id.ensures some.0 some.1 (sym some.2)).0 refl in
     remade some.0 _ c.args.id.now (names_in rows) some.2 yes some.1
@@ -32,7 +32,7 @@ returns-then-has_id c =
 pub returns-else-at-ids : goal.returns-else-at-ids
 returns-else-at-ids c have =
     let rows = unboxed c.args.rows.now in
-    let own = unique_names rows (rw c.requires.numbers at c.len-many.ensures.differ) in
+    let own = unique_names rows c.requires.differ in
     let here = found_at (names_in rows) c.args.ids.now own c.requires.by_name c.args.id.now c.id_place-at.result have.0 c.id_place-at.ensures have.1 have.2 in
     elim c.else-at-ids.branch [
       | else-at-ids-via-then-at-ids+else-has_id w ↦ false≢true ((w.if-has_id.ensures have.0 have.1 (sym here.1)).1 have.2)

@@ -12,10 +12,10 @@ returns c name there same =
     let rows = unboxed c.args.rows.now in
     let many = length-map c.args.rows.now box_value in
     let more = length-map rows (λ (t : Row). t.number) in
-    let at = rw c.requires.numbers at c.in-Some.ensures in
+    let at = rw c.requires.numbers at c.in-Some.ensures.place in
     let lt : c.in-Some.at < length rows = (let h = at.0 in omega arith) in
     let r : Row = c.deref.result.now in
     let read = boxed_read c.args.rows.now c.in-Some.at c.index-rows-at.result r (omega arith) c.index-rows-at.is c.deref.ensures in
     let number : r.number ≡ name.number = sym (number_read rows c.in-Some.at r lt read) ∙ at.1 ∙ sym same in
-    let e = same_name rows c.in-Some.at r name (rw c.requires.numbers at c.len-many.ensures.differ) lt read number there in
+    let e = same_name rows c.in-Some.at r name (rw c.requires.numbers at c.in-Some.ensures.differ) lt read number there in
     c.id.ensures ∙ ap (λ (x : Name). x.id) e

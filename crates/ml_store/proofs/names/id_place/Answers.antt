@@ -9,7 +9,7 @@ use Rattle.ml_store.proofs.names.id_place.Goals as goal
 pub is_before-requires-clause-live : goal.is_before-requires-clause-live
 is_before-requires-clause-live c =
     let rows = unboxed c.args.rows.now in
-    let own = unique_names rows (rw c.requires.numbers at c.len-many.ensures.differ) in
+    let own = unique_names rows c.requires.differ in
     let middle = c.loop-low.low + (c.loop-low.high - c.loop-low.low) / 2 in
     let b = c.loop-low.invariant.bound in
     let some = some_name (names_in rows) c.args.ids.now own c.requires.by_name middle (omega arith) in
@@ -18,7 +18,7 @@ is_before-requires-clause-live c =
 pub loop-low-preserved-then-is_before : goal.loop-low-preserved-then-is_before
 loop-low-preserved-then-is_before c =
     let rows = unboxed c.args.rows.now in
-    let own = unique_names rows (rw c.requires.numbers at c.len-many.ensures.differ) in
+    let own = unique_names rows c.requires.differ in
     let middle = c.loop-low.low + (c.loop-low.high - c.loop-low.low) / 2 in
     let b = c.loop-low.invariant.bound in
     let lt : middle < length c.args.ids.now = omega arith in
@@ -34,7 +34,7 @@ loop-low-preserved-then-is_before c =
 pub loop-low-preserved : goal.loop-low-preserved
 loop-low-preserved c =
     let rows = unboxed c.args.rows.now in
-    let own = unique_names rows (rw c.requires.numbers at c.len-many.ensures.differ) in
+    let own = unique_names rows c.requires.differ in
     let middle = c.loop-low.low + (c.loop-low.high - c.loop-low.low) / 2 in
     let b = c.loop-low.invariant.bound in
     let lt : middle < length c.args.ids.now = omega arith in

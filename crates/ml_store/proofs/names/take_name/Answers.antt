@@ -11,7 +11,7 @@ use Rattle.ml_ratio.proofs.lemmas.Lists.{added_remove}
 pub remove-number-requires : goal.remove-number-requires
 remove-number-requires c =
     let rows = unboxed c.args.rows.now in
-    let own = unique_names rows (rw c.requires.numbers at c.len-many.ensures.differ) in
+    let own = unique_names rows c.requires.differ in
     let place = rw c.deref.ensures.value at c.id_place-at.ensures in
     let live = c.requires.live in
     let here = found_at (names_in rows) c.args.ids.now.items own c.requires.by_name c.args.id.now c.id_place-at.result live.0 place live.1 live.2 in
@@ -21,10 +21,9 @@ remove-number-requires c =
 pub returns-clause-by_name : goal.returns-clause-by_name
 returns-clause-by_name c at d lt same =
     let rows = unboxed c.args.rows.now in
-    let differ = rw c.requires.numbers at c.len-many.ensures.differ in
-    let own = unique_names rows differ in
+    let own = unique_names rows c.requires.differ in
     let place = rw c.deref.ensures.value at c.id_place-at.ensures in
     let name : Name = get_or (names_in rows) at d in
     let here = found_at (names_in rows) c.args.ids.now.items own c.requires.by_name c.args.id.now c.id_place-at.result name place (Contains-get_or (names_in rows) at d lt) same in
     rw c.remove-number.ensures.items
-    (named_out (names_in rows) c.args.ids.now.items own c.requires.by_name name c.id_place-at.result _ here.0 here.1 (name_gone rows at d differ lt) (added_remove (names_in rows) at name lt (get_or_default (names_in rows) at d name lt)))
+    (named_out (names_in rows) c.args.ids.now.items own c.requires.by_name name c.id_place-at.result _ here.0 here.1 (name_gone rows at d c.requires.differ lt) (added_remove (names_in rows) at name lt (get_or_default (names_in rows) at d name lt)))

@@ -6,6 +6,7 @@ use Rattle.ml_store.specs.Names.{Name, naming_of, names_in, AreByName}
 use Rattle.ml_store.specs.declared.row.Row.{Row}
 use Rattle.ml_store.proofs.Naming.{boxed_read}
 use Rattle.ml_store.proofs.Tables.{table_out}
+use Rattle.ml_store.proofs.lemmas.Numbered.{numbered_removed}
 use Rattle.ml_store.proofs.table.take_out.Goals as goal
 use Rattle.ml_ratio.proofs.lemmas.Lists.{map_remove}
 
@@ -33,7 +34,7 @@ returns-clause-table c =
     let is : get_or (names_in rows) c.args.at (naming_of r) ≡ naming_of r = get_or-map naming_of rows c.args.at r (naming_of r) lt ∙ ap naming_of (sym read) in
     let by : AreByName (remove (names_in rows) c.args.at) c.take_name.new.ids.items = (rw c.deref.ensures.value at c.take_name.ensures.by_name) c.args.at (naming_of r) (omega arith) (ap (λ (x : Name). x.id) is ∙ sym c.id.ensures) in
     rw (c.remove-2.ensures.items, map_remove box_value boxes c.args.at, c.remove.ensures)
-    (table_out rows c.args.numbers.now c.args.ids.now.items c.take_name.new.ids.items c.args.at c.requires.table by)
+    (table_out rows c.args.numbers.now c.args.ids.now.items c.take_name.new.ids.items c.args.at c.requires.table (numbered_removed rows c.args.at c.requires.table.numbered lt) by)
 
 pub returns-clause-rows : goal.returns-clause-rows
 returns-clause-rows c = rw c.remove-2.ensures.items (map_remove box_value c.args.rows.now.items c.args.at)
