@@ -28,7 +28,8 @@ use Rattle.ml_repair.proofs.Enough.{contained_or_not}
 use Rattle.ml_repair.proofs.Moving.{slot_kept, slot_new}
 use Rattle.ml_repair.proofs.NearRosters.{row_there}
 use Rattle.ml_repair.proofs.Present.{present_read}
-use Rattle.ml_repair.specs.Repair.{Stands, IsBoundBy, IsUnmoved, ReachesBand, AreReaching, IsClear, Counts, AreEnough, AreSifted, present_slots}
+use Rattle.ml_repair.specs.Repair.{Stands, IsBoundBy, IsUnmoved, ReachesBand, AreReaching, IsClear, Counts, AreEnoughFor, AreSifted, present_slots}
+use Rattle.ml_repair.specs.declared.sought.Sought.{Sought}
 
 -- ---- bands
 
@@ -158,249 +159,270 @@ module _ (rows : List Row) (moved : List Moved) (low : Label) where
   counts_more bound next few many all upto p h =
       elim h [ inl there ↦ inl (all p there) | inr none ↦ inr (λ d f limit below. at_most_less (value_of next) (value_of bound) f upto (none d f limit below)) ]
 
-  module _ (at : ℕ) (comes : Bool) (i : ℕ) where
-    -- none of them has to come in
-    pub sifted_same : (those : ℕ → Type 0) (bound : Ratio) (places : List ℕ) → ((p : ℕ) → those p → Stands comes true at i p → Counts rows moved low bound places p) → AreSifted rows moved low at comes i those bound bound places places
-    sifted_same those bound places count = record {
-      kept = λ p h. h;
-      sound = λ p h. inl h;
-      bound_is = λ h. h;
-      upto = omega arith;
-      whole = count;
-    }
-
-    -- some and then others
-    pub sifted_both : (one two' all : ℕ → Type 0) (before middle after : List ℕ) (bound mid next : Ratio) → AreSifted rows moved low at comes i one bound mid before middle → AreSifted rows moved low at comes i two' mid next middle after →
-        ((p : ℕ) → all p → one p ⊎ two' p) → AreSifted rows moved low at comes i all bound next before after
-    sifted_both one two' all before middle after bound mid next first then' either = record {
-      kept = λ p h. then'.kept p (first.kept p h);
-      sound = λ p h. elim (then'.sound p h) [ inl old ↦ first.sound p old | inr new ↦ inr new ];
-      bound_is = λ h. then'.bound_is (first.bound_is h);
-      upto = at_most_trans (value_of next) (value_of mid) (value_of bound) then'.upto first.upto;
-      whole = λ p h s. elim (either p h) [
-        | inl old ↦ counts_more mid next middle after then'.kept then'.upto p (first.whole p old s)
-        | inr new ↦ then'.whole p new s
-      ];
-    }
-
-    -- fewer of them
-    pub sifted_fewer : (those fewer : ℕ → Type 0) (before after : List ℕ) (bound next : Ratio) → AreSifted rows moved low at comes i those bound next before after → ((p : ℕ) → fewer p → those p) → AreSifted rows moved low at comes i fewer bound next before after
-    sifted_fewer those fewer before after bound next are among = record {
-      kept = are.kept;
-      sound = are.sound;
-      bound_is = are.bound_is;
-      upto = are.upto;
-      whole = λ p h s. are.whole p (among p h) s;
-    }
-
-    -- a place that does not stand before i
-    pub sifted_apart : (place : ℕ) (bound : Ratio) (places : List ℕ) → ¬ (Stands comes true at i place) → AreSifted rows moved low at comes i (λ p. p ≡ place) bound bound places places
-    sifted_apart place bound places apart = sifted_same (λ p. p ≡ place) bound places (λ p h s. absurd (apart (subst (Stands comes true at i) h s)))
-
-    -- a place whose label sets no limit up to the bound
-    pub sifted_idle : (place : ℕ) (bound : Ratio) (places : List ℕ) → ((d : Label) → SetsNoneUpTo low (get_or (labels_in rows) place d) (ends (present_slots rows moved) place) (value_of bound)) →
-        AreSifted rows moved low at comes i (λ p. p ≡ place) bound bound places places
-    sifted_idle place bound places none = sifted_same (λ p. p ≡ place) bound places (λ p h s. subst (Counts rows moved low bound places) (sym h) (inr none))
-
-    -- a place whose label sets a limit up to the bound
-    pub sifted_limit : (place : ℕ) (bound limit : Ratio) (before after : List ℕ) → Stands comes true at i place → ((d : Label) → IsLimit low (get_or (labels_in rows) place d) (ends (present_slots rows moved) place) (value_of limit)) →
-        IsAtMost (value_of limit) (value_of bound) → after ≡ before ++ place ∷ [] → AreSifted rows moved low at comes i (λ p. p ≡ place) bound limit before after
-    sifted_limit place bound limit before after stands sets upto pushed =
-        let there : Contains after place = subst (λ (xs : List ℕ). Contains xs place) (sym pushed) (Contains-push before place) in
-        record {
-          kept = λ p h. subst (λ (xs : List ℕ). Contains xs p) (sym pushed) (Contains-append_left before (place ∷ []) p h);
-          sound = λ p h.
-              elim (Contains-push_cases before place p (subst (λ (xs : List ℕ). Contains xs p) pushed h)) [
-                | inl old ↦ inl old
-                | inr same ↦ inr (subst (Stands comes true at i) same stands)
-              ];
-          bound_is = λ h. inr (place, there, sets);
-          upto = upto;
-          whole = λ p h s. inl (subst (Contains after) (sym h) there);
-        }
-
-    -- ---- the places of a list
-
-    -- before the first place of the list nothing has to come in
-    pub sifted_none : (found : List ℕ) (bound : Ratio) (places : List ℕ) → AreSifted rows moved low at comes i (Contains (take 0 found)) bound bound places places
-    sifted_none found bound places = sifted_same (Contains (take 0 found)) bound places (λ p h s. absurd (let lt : h.0 < 0 = h.1 in omega arith))
-
-    -- one more place
-    pub sifted_more : (found before middle after : List ℕ) (bound mid next : Ratio) (k : ℕ) → k < length found → AreSifted rows moved low at comes i (Contains (take k found)) bound mid before middle →
-        AreSifted rows moved low at comes i (λ p. p ≡ get_or found k 0) mid next middle after → AreSifted rows moved low at comes i (Contains (take (k + 1) found)) bound next before after
-    sifted_more found before middle after bound mid next k lt one two' =
-        let q : ℕ = get_or found k 0 in
-        let e = take_more found k 0 lt in
-        sifted_both (Contains (take k found)) (λ p. p ≡ q) (Contains (take (k + 1) found)) before middle after bound mid next one two'
-        (λ p h. elim (Contains-push_cases (take k found) q p (rw e at h)) [ inl old ↦ inl old | inr same ↦ inr (sym same) ])
-
-    -- ---- the labels with new slots
-
-    -- that with a number has its new slot
-    new_end : (n : ℕ) (slot : Slot) (p : ℕ) → ((own : Slot) → slot_for n own moved ≡ slot) → IsRowAt rows n p → get_or (present_slots rows moved) p no_slot ≡ slot
-    new_end n slot p is here =
-        let s = row_there rows p here.0 in
-        let r : Row = s.0 in
-        let number : r.number ≡ n = sym (map_read (λ (t : Row). t.number) rows p r 0 here.0 s.1) ∙ here.1 in
-        present_read rows moved p r here.0 s.1 ∙ ap (λ m. slot_for m r.slot moved) number ∙ is r.slot
-
-    -- and sets no limit where it ends early
-    pub sifted_early : (n : ℕ) (slot : Slot) (bound : Ratio) (places : List ℕ) → ((own : Slot) → slot_for n own moved ≡ slot) → IsAtMost (value_of slot.until) (value_of low.min) →
-        AreSifted rows moved low at comes i (IsRowAt rows n) bound bound places places
-    sifted_early n slot bound places is early =
-        sifted_same (IsRowAt rows n) bound places
-        (λ p h s. inr (λ d. ended_before low (get_or (labels_in rows) p d) (ends (present_slots rows moved) p) (value_of bound) (subst (λ (t : Slot). IsAtMost (value_of t.until) (value_of low.min)) (sym (new_end n slot p is h)) early)))
-
-    -- no row has a number
-    pub sifted_absent : (n : ℕ) (bound : Ratio) (places : List ℕ) → IsFresh n rows → AreSifted rows moved low at comes i (IsRowAt rows n) bound bound places places
-    sifted_absent n bound places fresh =
-        let many = length-map rows (λ (t : Row). t.number) in
-        sifted_same (IsRowAt rows n) bound places (λ p h s. absurd (fresh (p, (let lt : p < length rows = h.0 in omega arith), get_or_default (numbers_in rows) p n 0 (let lt : p < length rows = h.0 in omega arith) ∙ h.1)))
-
-    -- no other row has the number, so sifting the place of its row is sifting the number
-    pub sifted_number : (n place : ℕ) (before after : List ℕ) (bound next : Ratio) → HaveOwnNumbers rows → IsRowAt rows n place → AreSifted rows moved low at comes i (λ p. p ≡ place) bound next before after →
-        AreSifted rows moved low at comes i (IsRowAt rows n) bound next before after
-    sifted_number n place before after bound next differ here are =
-        let many = length-map rows (λ (t : Row). t.number) in
-        sifted_fewer (λ p. p ≡ place) (IsRowAt rows n) before after bound next are
-        (λ p h. same_place (numbers_in rows) p place 0 differ (let a = h.0 in omega arith) (let b = here.0 in omega arith) (h.1 ∙ sym here.1))
-
-    -- before the first label with a new slot nothing has to come in
-    pub moved_none : (bound : Ratio) (places : List ℕ) → AreSifted rows moved low at comes i (AmongMoved rows moved 0) bound bound places places
-    moved_none bound places = sifted_same (AmongMoved rows moved 0) bound places (λ p h s. absurd (let lt : h.1.0 < 0 = h.1.1 in omega arith))
-
-    -- one more label with a new slot is sifted: the one with the next number
-    pub moved_more : (before middle after : List ℕ) (bound mid next : Ratio) (k n : ℕ) → k < length moved → get_or (numbers_of moved) k 0 ≡ n → AreSifted rows moved low at comes i (AmongMoved rows moved k) bound mid before middle →
-        AreSifted rows moved low at comes i (IsRowAt rows n) mid next middle after → AreSifted rows moved low at comes i (AmongMoved rows moved (k + 1)) bound next before after
-    moved_more before middle after bound mid next k n lt is one two' =
-        let many = length-map moved (λ (m : Moved). m.number) in
-        let e = take_more (numbers_of moved) k 0 (omega arith) in
-        sifted_both (AmongMoved rows moved k) (IsRowAt rows n) (AmongMoved rows moved (k + 1)) before middle after bound mid next one two'
-        (λ p h. elim (Contains-push_cases (take k (numbers_of moved)) (get_or (numbers_of moved) k 0) (number_at rows p) (rw e at h.1)) [
-          | inl old ↦ inl (h.0, old)
-          | inr same ↦ inr (h.0, sym same ∙ is)
-        ])
-
-    -- once the number of each new slot is sifted, all labels with new slots are
-    pub moved_all : (before after : List ℕ) (bound next : Ratio) (k : ℕ) → length moved ≤ k → AreSifted rows moved low at comes i (AmongMoved rows moved k) bound next before after →
-        AreSifted rows moved low at comes i (λ p. (p < length rows) × Contains (numbers_of moved) (number_at rows p)) bound next before after
-    moved_all before after bound next k all are =
-        let many = length-map moved (λ (m : Moved). m.number) in
-        let e : take k (numbers_of moved) ≡ numbers_of moved = take_all k (numbers_of moved) (omega arith) in
-        sifted_fewer (AmongMoved rows moved k) (λ p. (p < length rows) × Contains (numbers_of moved) (number_at rows p)) before after bound next are (λ p h. (h.0, subst (λ (ns : List ℕ). Contains ns (number_at rows p)) (sym e) h.1))
-
 -- the new slot of one of them
 pub new_slot : (moved : List Moved) (k : ℕ) (m : Moved) → AreDifferent (numbers_of moved) → k < length moved → m ≡ get_or moved k m → (own : Slot) → slot_for m.number own moved ≡ m.slot
 new_slot moved k m differ lt read own = slot_new m.number own moved k m differ lt (number_read moved k m lt read) ∙ ap (λ (x : Moved). x.slot) (sym read)
 
--- ---- all bands up to that of the bound
-
 -- what is gathered in the bands before one
-pub record GatheredBands (rows : List Row) (moved : List Moved) (low : Label) (at : ℕ) (comes : Bool) (i first band : ℕ) (bound : Ratio) (places : List ℕ) : Type 0 where
-  pub stand : (p : ℕ) → Contains places p → Stands comes true at i p
-  pub bound_is : IsBoundBy rows moved low places bound
-  pub whole : (p k : ℕ) → Stands comes true at i p → OverlapsAt rows low k p → ReachesBand k (ends (present_slots rows moved) p) → first ≤ k → k < band → Counts rows moved low bound places p
+pub record GatheredBands (sought : Sought) (first band : ℕ) (bound : Ratio) (places : List ℕ) : Type 0 where
+  pub stand : (p : ℕ) → Contains places p → Stands sought.edited.comes true sought.edited.at sought.place p
+  pub bound_is : IsBoundBy sought.roster.now sought.moves.now sought.low.now places bound
+  pub whole : (p k : ℕ) → Stands sought.edited.comes true sought.edited.at sought.place p → OverlapsAt sought.roster.now sought.low.now k p → ReachesBand k (ends (present_slots sought.roster.now sought.moves.now) p) → first ≤ k → k < band →
+      Counts sought.roster.now sought.moves.now sought.low.now bound places p
 
 -- and of the labels with new slots
-pub record GatheredBelow (rows : List Row) (moved : List Moved) (low : Label) (at : ℕ) (comes : Bool) (i first band : ℕ) (bound : Ratio) (places : List ℕ) : Type 0 where
-  pub bands : GatheredBands rows moved low at comes i first band bound places
-  pub new_ones : (p : ℕ) → Stands comes true at i p → p < length rows → Contains (numbers_of moved) (number_at rows p) → Counts rows moved low bound places p
+pub record GatheredBelow (sought : Sought) (first band : ℕ) (bound : Ratio) (places : List ℕ) : Type 0 where
+  pub bands : GatheredBands sought first band bound places
+  pub new_ones : (p : ℕ) → Stands sought.edited.comes true sought.edited.at sought.place p → p < length sought.roster.now → Contains (numbers_of sought.moves.now) (number_at sought.roster.now p) →
+      Counts sought.roster.now sought.moves.now sought.low.now bound places p
 
 -- a fraction is less than another, or at least that
 less_or_not : (a b : Fraction) → IsLess a b ⊎ IsAtMost b a
 less_or_not a b = elim (cases_lt (a.num * b.den) (b.num * a.den)) [ inl less ↦ inl less | inr more ↦ inr more ]
 
-module _ (rows : List Row) (moved : List Moved) (low : Label) (at : ℕ) (comes : Bool) (i first : ℕ) where
-  bands_none : (found : ℕ → Type 0) (more : List ℕ) (next : Ratio) → AreSifted rows moved low at comes i found low.max next [] more → GatheredBands rows moved low at comes i first first next more
-  bands_none found more next are = record {
-    stand = λ p h. elim (are.sound p h) [ inl old ↦ absurd (let lt : old.0 < 0 = old.1 in omega arith) | inr new ↦ new ];
-    bound_is = are.bound_is (inl refl);
-    whole = λ p k s f r a b. absurd (omega arith);
+module _ (sought : Sought) where
+  -- what is sought, part by part
+  abbrev rows : List Row
+  rows = sought.roster.now
+
+  abbrev moved : List Moved
+  moved = sought.moves.now
+
+  abbrev low : Label
+  low = sought.low.now
+
+  abbrev at : ℕ
+  at = sought.edited.at
+
+  abbrev comes : Bool
+  comes = sought.edited.comes
+
+  abbrev i : ℕ
+  i = sought.place
+
+  -- none of them has to come in
+  pub sifted_same : (those : ℕ → Type 0) (bound : Ratio) (places : List ℕ) → ((p : ℕ) → those p → Stands comes true at i p → Counts rows moved low bound places p) → AreSifted sought those bound bound places places
+  sifted_same those bound places count = record {
+    kept = λ p h. h;
+    sound = λ p h. inl h;
+    bound_is = λ h. h;
+    upto = omega arith;
+    whole = count;
   }
 
-  -- some more bands: each place in them that the earlier ones do not have counts
-  bands_over : (found : ℕ → Type 0) (band until : ℕ) (bound next : Ratio) (places more : List ℕ) → GatheredBands rows moved low at comes i first band bound places → AreSifted rows moved low at comes i found bound next places more →
-      ((p k : ℕ) → band ≤ k → k < until → Stands comes true at i p → OverlapsAt rows low k p → ReachesBand k (ends (present_slots rows moved) p) → Counts rows moved low next more p) → GatheredBands rows moved low at comes i first until next more
-  bands_over found band until bound next places more so_far are here = record {
-    stand = λ p h. elim (are.sound p h) [ inl old ↦ so_far.stand p old | inr new ↦ new ];
-    bound_is = are.bound_is so_far.bound_is;
-    whole = λ p k s f r a b. elim (cases_lt k band) [
-      | inl less ↦ counts_more rows moved low bound next places more are.kept are.upto p (so_far.whole p k s f r a less)
-      | inr from ↦ here p k from b s f r
+  -- some and then others
+  pub sifted_both : (one two' all : ℕ → Type 0) (before middle after : List ℕ) (bound mid next : Ratio) → AreSifted sought one bound mid before middle → AreSifted sought two' mid next middle after →
+      ((p : ℕ) → all p → one p ⊎ two' p) → AreSifted sought all bound next before after
+  sifted_both one two' all before middle after bound mid next first then' either = record {
+    kept = λ p h. then'.kept p (first.kept p h);
+    sound = λ p h. elim (then'.sound p h) [ inl old ↦ first.sound p old | inr new ↦ inr new ];
+    bound_is = λ h. then'.bound_is (first.bound_is h);
+    upto = at_most_trans (value_of next) (value_of mid) (value_of bound) then'.upto first.upto;
+    whole = λ p h s. elim (either p h) [
+      | inl old ↦ counts_more rows moved low mid next middle after then'.kept then'.upto p (first.whole p old s)
+      | inr new ↦ then'.whole p new s
     ];
   }
 
-  -- one more band
-  bands_more : (found : ℕ → Type 0) (band : ℕ) (bound next : Ratio) (places more : List ℕ) → GatheredBands rows moved low at comes i first band bound places → AreSifted rows moved low at comes i found bound next places more →
-      ((p : ℕ) → Stands comes true at i p → OverlapsAt rows low band p → ReachesBand band (ends (present_slots rows moved) p) → Counts rows moved low next more p) → GatheredBands rows moved low at comes i first (band + 1) next more
-  bands_more found band bound next places more so_far are here =
-      bands_over found band (band + 1) bound next places more so_far are
-      (λ p k from upto s f r.
-      let e : k ≡ band = omega arith in
-      here p s (subst (λ (b : ℕ). OverlapsAt rows low b p) e f) (subst (λ (b : ℕ). ReachesBand b (ends (present_slots rows moved) p)) e r))
-
-  -- the labels with new slots
-  pub gathered_new : (more : List ℕ) (next : Ratio) → AreSifted rows moved low at comes i (λ p. (p < length rows) × Contains (numbers_of moved) (number_at rows p)) low.max next [] more → GatheredBelow rows moved low at comes i first first next more
-  gathered_new more next are = record {
-    bands = bands_none (λ p. (p < length rows) × Contains (numbers_of moved) (number_at rows p)) more next are;
-    new_ones = λ p s lt m. are.whole p (lt, m) s;
+  -- fewer of them
+  pub sifted_fewer : (those fewer : ℕ → Type 0) (before after : List ℕ) (bound next : Ratio) → AreSifted sought those bound next before after → ((p : ℕ) → fewer p → those p) → AreSifted sought fewer bound next before after
+  sifted_fewer those fewer before after bound next are among = record {
+    kept = are.kept;
+    sound = are.sound;
+    bound_is = are.bound_is;
+    upto = are.upto;
+    whole = λ p h s. are.whole p (among p h) s;
   }
 
-  -- one more band is gathered, once the labels without a new slot that reach into it are sifted
-  pub gathered_more : (band : ℕ) (bound next : Ratio) (places more found : List ℕ) → GatheredBelow rows moved low at comes i first band bound places → AreReaching rows moved low band found →
-      AreSifted rows moved low at comes i (Contains found) bound next places more → GatheredBelow rows moved low at comes i first (band + 1) next more
-  gathered_more band bound next places more found so_far all are = record {
-    bands = bands_more (Contains found) band bound next places more so_far.bands are
-        (λ p s f r. elim (contained_or_not (numbers_of moved) (number_at rows p)) [
-          | inl m ↦ counts_more rows moved low bound next places more are.kept are.upto p (so_far.new_ones p s f.0 m)
-          | inr unmoved ↦ elim (less_or_not (value_of low.min) (ends (present_slots rows moved) p)) [
-            | inl later ↦ are.whole p (all.whole p f unmoved r later) s
-            | inr early ↦ inr (λ d. ended_before low (get_or (labels_in rows) p d) (ends (present_slots rows moved) p) (value_of next) early)
-          ]
-        ]);
-    new_ones = λ p s lt m. counts_more rows moved low bound next places more are.kept are.upto p (so_far.new_ones p s lt m);
-  }
+  -- a place that does not stand before i
+  pub sifted_apart : (place : ℕ) (bound : Ratio) (places : List ℕ) → ¬ (Stands comes true at i place) → AreSifted sought (λ p. p ≡ place) bound bound places places
+  sifted_apart place bound places apart = sifted_same (λ p. p ≡ place) bound places (λ p h s. absurd (apart (subst (Stands comes true at i) h s)))
 
-  -- bands in which there is nothing to gather
-  pub gathered_clear : (band : ℕ) (bound : Ratio) (places : List ℕ) → GatheredBelow rows moved low at comes i first band bound places → IsClear rows moved low i band (band + 3) → GatheredBelow rows moved low at comes i first (band + 4) bound places
-  gathered_clear band bound places so_far clear = record {
-    bands = record {
-      stand = so_far.bands.stand;
-      bound_is = so_far.bands.bound_is;
+  -- a place whose label sets no limit up to the bound
+  pub sifted_idle : (place : ℕ) (bound : Ratio) (places : List ℕ) → ((d : Label) → SetsNoneUpTo low (get_or (labels_in rows) place d) (ends (present_slots rows moved) place) (value_of bound)) →
+      AreSifted sought (λ p. p ≡ place) bound bound places places
+  sifted_idle place bound places none = sifted_same (λ p. p ≡ place) bound places (λ p h s. subst (Counts rows moved low bound places) (sym h) (inr none))
+
+  -- a place whose label sets a limit up to the bound
+  pub sifted_limit : (place : ℕ) (bound limit : Ratio) (before after : List ℕ) → Stands comes true at i place → ((d : Label) → IsLimit low (get_or (labels_in rows) place d) (ends (present_slots rows moved) place) (value_of limit)) →
+      IsAtMost (value_of limit) (value_of bound) → after ≡ before ++ place ∷ [] → AreSifted sought (λ p. p ≡ place) bound limit before after
+  sifted_limit place bound limit before after stands sets upto pushed =
+      let there : Contains after place = subst (λ (xs : List ℕ). Contains xs place) (sym pushed) (Contains-push before place) in
+      record {
+        kept = λ p h. subst (λ (xs : List ℕ). Contains xs p) (sym pushed) (Contains-append_left before (place ∷ []) p h);
+        sound = λ p h.
+            elim (Contains-push_cases before place p (subst (λ (xs : List ℕ). Contains xs p) pushed h)) [
+              | inl old ↦ inl old
+              | inr same ↦ inr (subst (Stands comes true at i) same stands)
+            ];
+        bound_is = λ h. inr (place, there, sets);
+        upto = upto;
+        whole = λ p h s. inl (subst (Contains after) (sym h) there);
+      }
+
+  -- ---- the places of a list
+
+  -- before the first place of the list nothing has to come in
+  pub sifted_none : (found : List ℕ) (bound : Ratio) (places : List ℕ) → AreSifted sought (Contains (take 0 found)) bound bound places places
+  sifted_none found bound places = sifted_same (Contains (take 0 found)) bound places (λ p h s. absurd (let lt : h.0 < 0 = h.1 in omega arith))
+
+  -- one more place
+  pub sifted_more : (found before middle after : List ℕ) (bound mid next : Ratio) (k : ℕ) → k < length found → AreSifted sought (Contains (take k found)) bound mid before middle →
+      AreSifted sought (λ p. p ≡ get_or found k 0) mid next middle after → AreSifted sought (Contains (take (k + 1) found)) bound next before after
+  sifted_more found before middle after bound mid next k lt one two' =
+      let q : ℕ = get_or found k 0 in
+      let e = take_more found k 0 lt in
+      sifted_both (Contains (take k found)) (λ p. p ≡ q) (Contains (take (k + 1) found)) before middle after bound mid next one two'
+      (λ p h. elim (Contains-push_cases (take k found) q p (rw e at h)) [ inl old ↦ inl old | inr same ↦ inr (sym same) ])
+
+  -- ---- the labels with new slots
+
+  -- that with a number has its new slot
+  new_end : (n : ℕ) (slot : Slot) (p : ℕ) → ((own : Slot) → slot_for n own moved ≡ slot) → IsRowAt rows n p → get_or (present_slots rows moved) p no_slot ≡ slot
+  new_end n slot p is here =
+      let s = row_there rows p here.0 in
+      let r : Row = s.0 in
+      let number : r.number ≡ n = sym (map_read (λ (t : Row). t.number) rows p r 0 here.0 s.1) ∙ here.1 in
+      present_read rows moved p r here.0 s.1 ∙ ap (λ m. slot_for m r.slot moved) number ∙ is r.slot
+
+  -- and sets no limit where it ends early
+  pub sifted_early : (n : ℕ) (slot : Slot) (bound : Ratio) (places : List ℕ) → ((own : Slot) → slot_for n own moved ≡ slot) → IsAtMost (value_of slot.until) (value_of low.min) →
+      AreSifted sought (IsRowAt rows n) bound bound places places
+  sifted_early n slot bound places is early =
+      sifted_same (IsRowAt rows n) bound places
+      (λ p h s. inr (λ d. ended_before low (get_or (labels_in rows) p d) (ends (present_slots rows moved) p) (value_of bound) (subst (λ (t : Slot). IsAtMost (value_of t.until) (value_of low.min)) (sym (new_end n slot p is h)) early)))
+
+  -- no row has a number
+  pub sifted_absent : (n : ℕ) (bound : Ratio) (places : List ℕ) → IsFresh n rows → AreSifted sought (IsRowAt rows n) bound bound places places
+  sifted_absent n bound places fresh =
+      let many = length-map rows (λ (t : Row). t.number) in
+      sifted_same (IsRowAt rows n) bound places (λ p h s. absurd (fresh (p, (let lt : p < length rows = h.0 in omega arith), get_or_default (numbers_in rows) p n 0 (let lt : p < length rows = h.0 in omega arith) ∙ h.1)))
+
+  -- no other row has the number, so sifting the place of its row is sifting the number
+  pub sifted_number : (n place : ℕ) (before after : List ℕ) (bound next : Ratio) → HaveOwnNumbers rows → IsRowAt rows n place → AreSifted sought (λ p. p ≡ place) bound next before after →
+      AreSifted sought (IsRowAt rows n) bound next before after
+  sifted_number n place before after bound next differ here are =
+      let many = length-map rows (λ (t : Row). t.number) in
+      sifted_fewer (λ p. p ≡ place) (IsRowAt rows n) before after bound next are
+      (λ p h. same_place (numbers_in rows) p place 0 differ (let a = h.0 in omega arith) (let b = here.0 in omega arith) (h.1 ∙ sym here.1))
+
+  -- before the first label with a new slot nothing has to come in
+  pub moved_none : (bound : Ratio) (places : List ℕ) → AreSifted sought (AmongMoved rows moved 0) bound bound places places
+  moved_none bound places = sifted_same (AmongMoved rows moved 0) bound places (λ p h s. absurd (let lt : h.1.0 < 0 = h.1.1 in omega arith))
+
+  -- one more label with a new slot is sifted: the one with the next number
+  pub moved_more : (before middle after : List ℕ) (bound mid next : Ratio) (k n : ℕ) → k < length moved → get_or (numbers_of moved) k 0 ≡ n → AreSifted sought (AmongMoved rows moved k) bound mid before middle →
+      AreSifted sought (IsRowAt rows n) mid next middle after → AreSifted sought (AmongMoved rows moved (k + 1)) bound next before after
+  moved_more before middle after bound mid next k n lt is one two' =
+      let many = length-map moved (λ (m : Moved). m.number) in
+      let e = take_more (numbers_of moved) k 0 (omega arith) in
+      sifted_both (AmongMoved rows moved k) (IsRowAt rows n) (AmongMoved rows moved (k + 1)) before middle after bound mid next one two'
+      (λ p h. elim (Contains-push_cases (take k (numbers_of moved)) (get_or (numbers_of moved) k 0) (number_at rows p) (rw e at h.1)) [
+        | inl old ↦ inl (h.0, old)
+        | inr same ↦ inr (h.0, sym same ∙ is)
+      ])
+
+  -- once the number of each new slot is sifted, all labels with new slots are
+  pub moved_all : (before after : List ℕ) (bound next : Ratio) (k : ℕ) → length moved ≤ k → AreSifted sought (AmongMoved rows moved k) bound next before after →
+      AreSifted sought (λ p. (p < length rows) × Contains (numbers_of moved) (number_at rows p)) bound next before after
+  moved_all before after bound next k all are =
+      let many = length-map moved (λ (m : Moved). m.number) in
+      let e : take k (numbers_of moved) ≡ numbers_of moved = take_all k (numbers_of moved) (omega arith) in
+      sifted_fewer (AmongMoved rows moved k) (λ p. (p < length rows) × Contains (numbers_of moved) (number_at rows p)) before after bound next are (λ p h. (h.0, subst (λ (ns : List ℕ). Contains ns (number_at rows p)) (sym e) h.1))
+
+  -- ---- all bands up to that of the bound
+
+  module _ (first : ℕ) where
+    bands_none : (found : ℕ → Type 0) (more : List ℕ) (next : Ratio) → AreSifted sought found low.max next [] more → GatheredBands sought first first next more
+    bands_none found more next are = record {
+      stand = λ p h. elim (are.sound p h) [ inl old ↦ absurd (let lt : old.0 < 0 = old.1 in omega arith) | inr new ↦ new ];
+      bound_is = are.bound_is (inl refl);
+      whole = λ p k s f r a b. absurd (omega arith);
+    }
+
+    -- some more bands: each place in them that the earlier ones do not have counts
+    bands_over : (found : ℕ → Type 0) (band until : ℕ) (bound next : Ratio) (places more : List ℕ) → GatheredBands sought first band bound places → AreSifted sought found bound next places more →
+        ((p k : ℕ) → band ≤ k → k < until → Stands comes true at i p → OverlapsAt rows low k p → ReachesBand k (ends (present_slots rows moved) p) → Counts rows moved low next more p) → GatheredBands sought first until next more
+    bands_over found band until bound next places more so_far are here = record {
+      stand = λ p h. elim (are.sound p h) [ inl old ↦ so_far.stand p old | inr new ↦ new ];
+      bound_is = are.bound_is so_far.bound_is;
       whole = λ p k s f r a b. elim (cases_lt k band) [
-        | inl less ↦ so_far.bands.whole p k s f r a less
-        | inr here ↦ elim (contained_or_not (numbers_of moved) (number_at rows p)) [
-          | inl m ↦ so_far.new_ones p s f.0 m
-          | inr unmoved ↦ absurd (clear p k s.0 here (omega arith) f unmoved r)
-        ]
+        | inl less ↦ counts_more rows moved low bound next places more are.kept are.upto p (so_far.whole p k s f r a less)
+        | inr from ↦ here p k from b s f r
       ];
-    };
-    new_ones = so_far.new_ones;
-  }
+    }
 
-  -- all labels, whether they have new slots or not
-  pub gathered_start : GatheredBands rows moved low at comes i first first low.max []
-  gathered_start = bands_none (λ p. ⊥) [] low.max (sifted_same rows moved low at comes i (λ p. ⊥) low.max [] (λ p h s. absurd h))
+    -- one more band
+    bands_more : (found : ℕ → Type 0) (band : ℕ) (bound next : Ratio) (places more : List ℕ) → GatheredBands sought first band bound places → AreSifted sought found bound next places more →
+        ((p : ℕ) → Stands comes true at i p → OverlapsAt rows low band p → ReachesBand band (ends (present_slots rows moved) p) → Counts rows moved low next more p) → GatheredBands sought first (band + 1) next more
+    bands_more found band bound next places more so_far are here =
+        bands_over found band (band + 1) bound next places more so_far are
+        (λ p k from upto s f r.
+        let e : k ≡ band = omega arith in
+        here p s (subst (λ (b : ℕ). OverlapsAt rows low b p) e f) (subst (λ (b : ℕ). ReachesBand b (ends (present_slots rows moved) p)) e r))
 
-  -- some more bands are gathered, once all labels that the label overlaps in them are sifted
-  pub gathered_all : (band until : ℕ) (bound next : Ratio) (places more found : List ℕ) → GatheredBands rows moved low at comes i first band bound places → AreMet rows low band until [] found →
-      AreSifted rows moved low at comes i (Contains found) bound next places more → GatheredBands rows moved low at comes i first until next more
-  gathered_all band until bound next places more found so_far all are = bands_over (Contains found) band until bound next places more so_far are (λ p k from upto s f r. are.whole p (all.whole p k from upto f) s)
+    -- the labels with new slots
+    pub gathered_new : (more : List ℕ) (next : Ratio) → AreSifted sought (λ p. (p < length rows) × Contains (numbers_of moved) (number_at rows p)) low.max next [] more → GatheredBelow sought first first next more
+    gathered_new more next are = record {
+      bands = bands_none (λ p. (p < length rows) × Contains (numbers_of moved) (number_at rows p)) more next are;
+      new_ones = λ p s lt m. are.whole p (lt, m) s;
+    }
 
-  -- places gathered in all bands up to that of the bound are enough for the label's slot, in whatever order
-  pub gathered_enough : (band b : ℕ) (bound : Ratio) (places sorted : List ℕ) → GatheredBands rows moved low at comes i first band bound places → IsInBand (value_of low.min) first → IsInBand (value_of bound) b → (b < band) ⊎ (28 ≤ band) →
-      ((p : ℕ) → Contains sorted p ↔ Contains places p) → AreEnough rows moved low at comes i sorted
-  gathered_enough band b bound places sorted done starts ends' stop same = record {
-    stand = λ p h. done.stand p ((same p).0 h);
-    bound = bound;
-    bound_is = bound_more rows moved low places sorted bound (λ p h. (same p).1 h) done.bound_is;
-    whole = λ p k s f meets r.
-        let from = band_from (value_of low.min) (value_of bound) k first meets starts in
-        let upto = band_up_to (value_of low.min) (value_of bound) k b meets ends' in
-        let few : k < 28 = (f.1 low).low in
-        let below : k < band = elim stop [ inl h ↦ omega arith | inr h ↦ omega arith ] in
-        counts_more rows moved low bound bound places sorted (λ q h. (same q).1 h) (omega arith) p (done.whole p k s f r from below);
-  }
+    -- one more band is gathered, once the labels without a new slot that reach into it are sifted
+    pub gathered_more : (band : ℕ) (bound next : Ratio) (places more found : List ℕ) → GatheredBelow sought first band bound places → AreReaching rows moved low band found →
+        AreSifted sought (Contains found) bound next places more → GatheredBelow sought first (band + 1) next more
+    gathered_more band bound next places more found so_far all are = record {
+      bands = bands_more (Contains found) band bound next places more so_far.bands are
+          (λ p s f r. elim (contained_or_not (numbers_of moved) (number_at rows p)) [
+            | inl m ↦ counts_more rows moved low bound next places more are.kept are.upto p (so_far.new_ones p s f.0 m)
+            | inr unmoved ↦ elim (less_or_not (value_of low.min) (ends (present_slots rows moved) p)) [
+              | inl later ↦ are.whole p (all.whole p f unmoved r later) s
+              | inr early ↦ inr (λ d. ended_before low (get_or (labels_in rows) p d) (ends (present_slots rows moved) p) (value_of next) early)
+            ]
+          ]);
+      new_ones = λ p s lt m. counts_more rows moved low bound next places more are.kept are.upto p (so_far.new_ones p s lt m);
+    }
+
+    -- bands in which there is nothing to gather
+    pub gathered_clear : (band : ℕ) (bound : Ratio) (places : List ℕ) → GatheredBelow sought first band bound places → IsClear rows moved low i band (band + 3) → GatheredBelow sought first (band + 4) bound places
+    gathered_clear band bound places so_far clear = record {
+      bands = record {
+        stand = so_far.bands.stand;
+        bound_is = so_far.bands.bound_is;
+        whole = λ p k s f r a b. elim (cases_lt k band) [
+          | inl less ↦ so_far.bands.whole p k s f r a less
+          | inr here ↦ elim (contained_or_not (numbers_of moved) (number_at rows p)) [
+            | inl m ↦ so_far.new_ones p s f.0 m
+            | inr unmoved ↦ absurd (clear p k s.0 here (omega arith) f unmoved r)
+          ]
+        ];
+      };
+      new_ones = so_far.new_ones;
+    }
+
+    -- all labels, whether they have new slots or not
+    pub gathered_start : GatheredBands sought first first low.max []
+    gathered_start = bands_none (λ p. ⊥) [] low.max (sifted_same (λ p. ⊥) low.max [] (λ p h s. absurd h))
+
+    -- some more bands are gathered, once all labels that the label overlaps in them are sifted
+    pub gathered_all : (band until : ℕ) (bound next : Ratio) (places more found : List ℕ) → GatheredBands sought first band bound places → AreMet rows low band until [] found →
+        AreSifted sought (Contains found) bound next places more → GatheredBands sought first until next more
+    gathered_all band until bound next places more found so_far all are = bands_over (Contains found) band until bound next places more so_far are (λ p k from upto s f r. are.whole p (all.whole p k from upto f) s)
+
+    -- places gathered in all bands up to that of the bound are enough for the label's slot, in whatever order
+    pub gathered_enough : (band b : ℕ) (bound : Ratio) (places sorted : List ℕ) → GatheredBands sought first band bound places → IsInBand (value_of low.min) first → IsInBand (value_of bound) b → (b < band) ⊎ (28 ≤ band) →
+        ((p : ℕ) → Contains sorted p ↔ Contains places p) → AreEnoughFor sought sorted
+    gathered_enough band b bound places sorted done starts ends' stop same = record {
+      stand = λ p h. done.stand p ((same p).0 h);
+      bound = bound;
+      bound_is = bound_more rows moved low places sorted bound (λ p h. (same p).1 h) done.bound_is;
+      whole = λ p k s f meets r.
+          let from = band_from (value_of low.min) (value_of bound) k first meets starts in
+          let upto = band_up_to (value_of low.min) (value_of bound) k b meets ends' in
+          let few : k < 28 = (f.1 low).low in
+          let below : k < band = elim stop [ inl h ↦ omega arith | inr h ↦ omega arith ] in
+          counts_more rows moved low bound bound places sorted (λ q h. (same q).1 h) (omega arith) p (done.whole p k s f r from below);
+    }
 
 -- the places that stand before i are places of the list
 pub all_within : (rows : List Row) (at : ℕ) (comes : Bool) (i : ℕ) (places : List ℕ) → i < length rows → ((p : ℕ) → Contains places p → Stands comes true at i p) → All (λ p. p < length rows) places

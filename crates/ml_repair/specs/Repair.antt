@@ -16,6 +16,7 @@ use Rattle.ml_repair.specs.Moves.{numbers_of}
 use Rattle.ml_repair.specs.Plan.{moved_rows, slot_for}
 use Rattle.ml_repair.specs.Roster.{OverlapsAt}
 use Rattle.ml_repair.specs.Touched.{IsRivalBefore}
+use Rattle.ml_repair.specs.declared.sought.Sought.{Sought}
 
 -- the slots of the rows, with the new ones
 abbrev pub present_slots : List Row → List Moved → List Slot
@@ -79,13 +80,17 @@ pub record AreEnough (rows : List Row) (moved : List Moved) (low : Label) (at : 
   pub whole : (p k : ℕ) → Stands comes true at i p → OverlapsAt rows low k p → MeetsBand k (value_of low.min) (value_of bound) → ReachesBand k (ends (present_slots rows moved) p) →
       Counts rows moved low bound places p
 
--- of the places with the property some came in, and the bound went down to their limits: only such as stand before that of the label, and each of these counts from then on
-pub record AreSifted (rows : List Row) (moved : List Moved) (low : Label) (at : ℕ) (comes : Bool) (i : ℕ) (those : ℕ → Type 0) (bound next : Ratio) (before after : List ℕ) : Type 0 where
+-- the places are enough for the slot of the label that is sought
+abbrev pub AreEnoughFor : Sought → List ℕ → Type 0
+AreEnoughFor sought places = AreEnough sought.roster.now sought.moves.now sought.low.now sought.edited.at sought.edited.comes sought.place places
+
+-- of the places with the property some came in, and the bound went down to their limits: only such as stand before that of the label that is sought, and each of these counts from then on
+pub record AreSifted (sought : Sought) (those : ℕ → Type 0) (bound next : Ratio) (before after : List ℕ) : Type 0 where
   pub kept : (p : ℕ) → Contains before p → Contains after p
-  pub sound : (p : ℕ) → Contains after p → Contains before p ⊎ Stands comes true at i p
-  pub bound_is : IsBoundBy rows moved low before bound → IsBoundBy rows moved low after next
+  pub sound : (p : ℕ) → Contains after p → Contains before p ⊎ Stands sought.edited.comes true sought.edited.at sought.place p
+  pub bound_is : IsBoundBy sought.roster.now sought.moves.now sought.low.now before bound → IsBoundBy sought.roster.now sought.moves.now sought.low.now after next
   pub upto : IsAtMost (value_of next) (value_of bound)
-  pub whole : (p : ℕ) → those p → Stands comes true at i p → Counts rows moved low next after p
+  pub whole : (p : ℕ) → those p → Stands sought.edited.comes true sought.edited.at sought.place p → Counts sought.roster.now sought.moves.now sought.low.now next after p
 
 -- places of the list, among them those of all rivals of the label
 pub record AreSuspects (rows : List Row) (a : Label) (places : List ℕ) : Type 0 where

@@ -4,7 +4,7 @@ ghost use Rattle.std.specs.List.Sorted.{IsStrictlyIncreasing};
 ghost use Rattle.ml_store.specs.Rows.{number_at};
 ghost use Rattle.ml_repair.specs.Moves.{numbers_of};
 ghost use Rattle.ml_repair.specs.Plan.{slot_for};
-ghost use Rattle.ml_repair.specs.Repair.{Stands, ReachesBand, AreReaching, IsClear, AreEnough, AreSifted};
+ghost use Rattle.ml_repair.specs.Repair.{Stands, ReachesBand, AreReaching, IsClear, AreEnoughFor, AreSifted};
 ghost use Rattle.ml_store.specs.Table.{IsRowAt};
 ghost use Rattle.ml_ratio.specs.Fraction.{value_of, IsLess, IsAtMost};
 ghost use Rattle.ml_ratio.specs.declared.ratio.Ratio.{Ratio};
@@ -105,8 +105,7 @@ fn sift_one(
     out: &mut Seq<u32>,
 ) -> Result<Ratio, AllocError>
     requires { place < length sought.now.roster.now }
-    ensures { IfOk result (λ next.
-        AreSifted sought.now.roster.now sought.now.moves.now sought.now.low.now sought.now.edited.at sought.now.edited.comes sought.now.place (λ p. p ≡ place) bound next out.old out.new) }
+    ensures { IfOk result (λ next. AreSifted sought.now (λ p. p ≡ place) bound next out.old out.new) }
 {
     if stands(sought.edited, sought.place, place as usize) {
         let row = sought.roster.row(place as usize);
@@ -131,8 +130,7 @@ fn sift(
     out: &mut Seq<u32>,
 ) -> Result<Ratio, AllocError>
     requires { All (λ p. p < length sought.now.roster.now) found.now }
-    ensures { IfOk result (λ next.
-        AreSifted sought.now.roster.now sought.now.moves.now sought.now.low.now sought.now.edited.at sought.now.edited.comes sought.now.place (Contains found.now) bound next out.old out.new) }
+    ensures { IfOk result (λ next. AreSifted sought.now (Contains found.now) bound next out.old out.new) }
 {
     let mut next = bound;
     for place in found {
@@ -150,8 +148,7 @@ fn sift_moved_one(
     out: &mut Seq<u32>,
 ) -> Result<Ratio, AllocError>
     requires { (own : Slot) → slot_for moved.now.number own sought.now.moves.now ≡ moved.now.slot }
-    ensures { IfOk result (λ next.
-        AreSifted sought.now.roster.now sought.now.moves.now sought.now.low.now sought.now.edited.at sought.now.edited.comes sought.now.place (IsRowAt sought.now.roster.now moved.now.number) bound next out.old out.new) }
+    ensures { IfOk result (λ next. AreSifted sought.now (IsRowAt sought.now.roster.now moved.now.number) bound next out.old out.new) }
 {
     if !sought.low.min().is_less(&moved.slot.until) {
         return Ok(bound);
@@ -164,8 +161,7 @@ fn sift_moved_one(
 
 // Those of the labels with new slots come in that stand before the label and may set its end.
 fn sift_moved(sought: &Sought<'_>, bound: Ratio, out: &mut Seq<u32>) -> Result<Ratio, AllocError>
-    ensures { IfOk result (λ next.
-        AreSifted sought.now.roster.now sought.now.moves.now sought.now.low.now sought.now.edited.at sought.now.edited.comes sought.now.place (λ p. (p < length sought.now.roster.now) × Contains (numbers_of sought.now.moves.now) (number_at sought.now.roster.now p)) bound next out.old out.new) }
+    ensures { IfOk result (λ next. AreSifted sought.now (λ p. (p < length sought.now.roster.now) × Contains (numbers_of sought.now.moves.now) (number_at sought.now.roster.now p)) bound next out.old out.new) }
 {
     let mut next = bound;
     let all = sought.moves.as_slice();
@@ -180,8 +176,7 @@ fn sift_moved(sought: &Sought<'_>, bound: Ratio, out: &mut Seq<u32>) -> Result<R
 fn gather_all(alloc: Global, sought: &Sought<'_>) -> Result<Vec<u32>, AllocError>
     requires { sought.now.place < length sought.now.roster.now }
     ensures ascending { IfOk result (λ places. IsStrictlyIncreasing places.items) }
-    ensures enough { IfOk result (λ places.
-        AreEnough sought.now.roster.now sought.now.moves.now sought.now.low.now sought.now.edited.at sought.now.edited.comes sought.now.place places.items) }
+    ensures enough { IfOk result (λ places. AreEnoughFor sought.now places.items) }
 {
     let mut places = Seq::new(alloc);
     let low = sought.low;
@@ -206,8 +201,7 @@ fn gather_all(alloc: Global, sought: &Sought<'_>) -> Result<Vec<u32>, AllocError
 pub fn gather(alloc: Global, sought: &Sought<'_>) -> Result<Vec<u32>, AllocError>
     requires { sought.now.place < length sought.now.roster.now }
     ensures ascending { IfOk result (λ places. IsStrictlyIncreasing places.items) }
-    ensures enough { IfOk result (λ places.
-        AreEnough sought.now.roster.now sought.now.moves.now sought.now.low.now sought.now.edited.at sought.now.edited.comes sought.now.place places.items) }
+    ensures enough { IfOk result (λ places. AreEnoughFor sought.now places.items) }
 {
     if sought.many {
         return gather_all(alloc, sought);

@@ -8,7 +8,7 @@ pub loop-band-init : goal.loop-band-init
 loop-band-init c = (
   c.band-band.result,
   rw c.min.ensures at c.band-band.ensures.band,
-  rw (c.max-bound.ensures, c.new-places.ensures) (gathered_start c.args.sought.now.roster.now c.args.sought.now.moves.now c.args.sought.now.low.now c.args.sought.now.edited.at c.args.sought.now.edited.comes c.args.sought.now.place c.band-band.result),
+  rw (c.max-bound.ensures, c.new-places.ensures) (gathered_start c.args.sought.now c.band-band.result),
 )
 
 pub across-requires-clause-from : goal.across-requires-clause-from
@@ -30,7 +30,7 @@ loop-band-preserved c =
     let i = c.loop-band.invariant in (
       i.0,
       i.1,
-      gathered_all c.args.sought.now.roster.now c.args.sought.now.moves.now c.args.sought.now.low.now c.args.sought.now.edited.at c.args.sought.now.edited.comes c.args.sought.now.place i.0 c.loop-band.band c.in_ok-band.band c.loop-band.bound c.in_ok-bound.bound c.loop-band.places c.sift.new.out c.across.new.out i.2
+      gathered_all c.args.sought.now i.0 c.loop-band.band c.in_ok-band.band c.loop-band.bound c.in_ok-bound.bound c.loop-band.places c.sift.new.out c.across.new.out i.2
           (rw c.in_ok-found.ensures at c.in_ok-band.ensures.met) (rw c.as_slice.ensures at c.in_ok-bound.ensures),
     )
 
@@ -42,4 +42,4 @@ returns-clause-enough c =
       | then-loop-band-test+else-band-lt28 w ↦ inr w.if-band-lt28.false
       | else-loop-band-test w ↦ inl w.loop-band-test.false
     ] in
-    gathered_enough c.args.sought.now.roster.now c.args.sought.now.moves.now c.args.sought.now.low.now c.args.sought.now.edited.at c.args.sought.now.edited.comes c.args.sought.now.place i.0 c.loop-band.band c.band.result c.loop-band.bound c.loop-band.places c.ascending.result.items i.2 i.1 c.band.ensures.band stop c.ascending.ensures.same
+    gathered_enough c.args.sought.now i.0 c.loop-band.band c.band.result c.loop-band.bound c.loop-band.places c.ascending.result.items i.2 i.1 c.band.ensures.band stop c.ascending.ensures.same

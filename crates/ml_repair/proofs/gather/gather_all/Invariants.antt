@@ -5,7 +5,7 @@ use Rattle.ml_repair.proofs.Gathering.{GatheredBands}
 use Rattle.ml_repair.proofs.gather.gather_all.Given as goal
 
 abbrev pub invariant-loop-band : goal.invariant-loop-band
-invariant-loop-band l = (first : ℕ) × IsInBand (value_of l.sought.low.now.min) first × GatheredBands l.sought.roster.now l.sought.moves.now l.sought.low.now l.sought.edited.at l.sought.edited.comes l.sought.place first l.band l.bound l.places
+invariant-loop-band l = (first : ℕ) × IsInBand (value_of l.sought.low.now.min) first × GatheredBands l.sought first l.band l.bound l.places
 
 abbrev pub decreases-loop-band : goal.decreases-loop-band
 decreases-loop-band l = 28 - l.band

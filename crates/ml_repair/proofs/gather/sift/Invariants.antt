@@ -3,4 +3,4 @@ use Rattle.ml_repair.specs.Repair.{AreSifted}
 use Rattle.ml_repair.proofs.gather.sift.Given as goal
 
 abbrev pub invariant-loop-place : goal.invariant-loop-place
-invariant-loop-place l = AreSifted l.sought.roster.now l.sought.moves.now l.sought.low.now l.sought.edited.at l.sought.edited.comes l.sought.place (Contains (take l.place-index l.found)) l.initial.next l.next l.initial.out l.out
+invariant-loop-place l = AreSifted l.sought (Contains (take l.place-index l.found)) l.initial.next l.next l.initial.out l.out

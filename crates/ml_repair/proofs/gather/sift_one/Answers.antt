@@ -7,18 +7,18 @@ use Rattle.ml_repair.proofs.Gathering.{sifted_apart, sifted_idle, sifted_limit}
 use Rattle.ml_repair.proofs.gather.sift_one.Goals as goal
 
 pub returns-else-stands : goal.returns-else-stands
-returns-else-stands c = sifted_apart c.args.sought.now.roster.now c.args.sought.now.moves.now c.args.sought.now.low.now c.args.sought.now.edited.at c.args.sought.now.edited.comes c.args.sought.now.place c.args.place c.args.bound c.args.out.now (λ s. let e = c.stands.ensures.1 s in absurd (let no = c.if-stands.false in false≢true (sym no ∙ e)))
+returns-else-stands c = sifted_apart c.args.sought.now c.args.place c.args.bound c.args.out.now (λ s. let e = c.stands.ensures.1 s in absurd (let no = c.if-stands.false in false≢true (sym no ∙ e)))
 
 pub returns-in_ok-push-in-Some : goal.returns-in_ok-push-in-Some
 returns-in_ok-push-in-Some c =
     let r = c.row-row.result.now in
     let until = ap (λ (s : Slot). value_of s.until) c.present_slot.ensures.slot in
-    sifted_limit c.args.sought.now.roster.now c.args.sought.now.moves.now c.args.sought.now.low.now c.args.sought.now.edited.at c.args.sought.now.edited.comes c.args.sought.now.place c.args.place c.args.bound c.in-Some.limit c.args.out.now c.push.new.self (c.stands.ensures.0 c.if-stands.true)
+    sifted_limit c.args.sought.now c.args.place c.args.bound c.in-Some.limit c.args.out.now c.push.new.self (c.stands.ensures.0 c.if-stands.true)
     (λ (d : Label). rw (c.row-row.ensures.label d, ← until) c.in-Some.ensures.some) c.in-Some.ensures.below.1 c.in_ok-push-in-Some.ensures.ok
 
 pub returns-in-None : goal.returns-in-None
 returns-in-None c =
     let r = c.row-row.result.now in
     let until = ap (λ (s : Slot). value_of s.until) c.present_slot.ensures.slot in
-    sifted_idle c.args.sought.now.roster.now c.args.sought.now.moves.now c.args.sought.now.low.now c.args.sought.now.edited.at c.args.sought.now.edited.comes c.args.sought.now.place c.args.place c.args.bound c.args.out.now
+    sifted_idle c.args.sought.now c.args.place c.args.bound c.args.out.now
     (λ (d : Label). rw (c.row-row.ensures.label d, ← until) c.in-None.ensures.none)
