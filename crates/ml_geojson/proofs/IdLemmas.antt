@@ -1,14 +1,11 @@
 -- Ids that are taken, and the search for one that is not.
 use Rattle.std.proofs.Common.{◌≡◌, ℕ, suc, ◌<◌, ◌≤◌, List, [], ◌∷◌, ◌++◌, length, max, Bool, true, false, ◌||◌, refl, sym, ap, ◌∙◌, arith, inl, inr}
 use Rattle.std.specs.Prelude.{codes}
-use Rattle.std.specs.BTreeSet.{BTreeSet}
-use Rattle.std.specs.BTreeMap.{is_at}
+use Rattle.std.specs.HashSet.{HashSet}
 use Rattle.std.specs.List.{list_any}
-use Rattle.std.specs.Cmp.Lexicographic.{slice_cmp}
-use Rattle.std.specs.Ordering.{nat_cmp}
+use Rattle.std.specs.Str.{bytes_eq}
 use Rattle.std.proofs.Math.Nat.{le-max_left, le-max_right}
 use Rattle.std.proofs.lemmas.Bool.{cases_lt}
-use Rattle.std.proofs.lemmas.Map.Text.{is_eq-slice_cmp}
 use Rattle.std.proofs.lemmas.Slice.Eq.{bytes_eq-Decides}
 use Rattle.ml_geojson.specs.Ids.{numbered, marked, IsFresh}
 use Rattle.ml_geojson.specs.Taken.{is_taken}
@@ -18,20 +15,20 @@ abbrev pub longest : List (List ℕ) → ℕ
 longest [] = 0
 longest (x ∷ xs) = max (length x) (longest xs)
 
-at_key : (t : Bool) (text key : List ℕ) (more : Bool) (n : ℕ) → is_at (slice_cmp nat_cmp text) key ≡ t → (more ≡ true → length text ≤ n) → (t || more) ≡ true → length text ≤ max (length key) n
+at_key : (t : Bool) (text key : List ℕ) (more : Bool) (n : ℕ) → bytes_eq text key ≡ t → (more ≡ true → length text ≤ n) → (t || more) ≡ true → length text ≤ max (length key) n
 at_key true text key more n e others h =
-    let same : text ≡ key = (bytes_eq-Decides text key).0 (sym (is_eq-slice_cmp text key) ∙ e) in
+    let same : text ≡ key = (bytes_eq-Decides text key).0 e in
     let one : length text ≡ length key = ap length same in
     let two = le-max_left (length key) n in
     omega arith
 at_key false text key more n e others h = (let one = others h in let two = le-max_right (length key) n in omega arith)
 
-any_key : (text : List ℕ) (keys : List (List ℕ)) → list_any (is_at (slice_cmp nat_cmp text)) keys ≡ true → length text ≤ longest keys
+any_key : (text : List ℕ) (keys : List (List ℕ)) → list_any (bytes_eq text) keys ≡ true → length text ≤ longest keys
 any_key text [] h = absurd (let f : false ≡ true = h in cc)
-any_key text (key ∷ keys) h = at_key (is_at (slice_cmp nat_cmp text) key) text key (list_any (is_at (slice_cmp nat_cmp text)) keys) (longest keys) refl (any_key text keys) h
+any_key text (key ∷ keys) h = at_key (bytes_eq text key) text key (list_any (bytes_eq text) keys) (longest keys) refl (any_key text keys) h
 
 -- a text that is taken is no longer than the longest
-pub taken_short : (set : BTreeSet (List ℕ)) (text : List ℕ) → is_taken set text ≡ true → length text ≤ longest set.keys
+pub taken_short : {S : Type 0} (set : HashSet (List ℕ) S) (text : List ℕ) → is_taken set text ≡ true → length text ≤ longest set.keys
 taken_short set text h = any_key text set.keys h
 
 -- the signs so far, all of which were needed

@@ -1,8 +1,7 @@
 -- Features read one after another.
-use Rattle.std.proofs.Common.{◌≡◌, ℕ, zero, suc, ◌+◌, ◌<◌, ◌≤◌, List, [], ◌∷◌, ◌++◌, length, get_or, take, drop, Bool, true, false, ◌||◌, cond, Option, Some, None, Ok, Err, refl, sym, ap, ◌∙◌, arith, inl, inr, length-append, append_assoc}
-use Rattle.std.specs.BTreeSet.{BTreeSet, Updates}
-use Rattle.std.specs.Cmp.Lexicographic.{slice_cmp}
-use Rattle.std.specs.Ordering.{nat_cmp}
+use Rattle.std.proofs.Common.{◌≡◌, ℕ, zero, suc, ◌+◌, ◌<◌, ◌≤◌, List, [], ◌∷◌, ◌++◌, length, get_or, take, drop, Bool, true, false, ◌||◌}
+use Rattle.std.proofs.Common.{cond, Option, Some, None, Ok, Err, refl, sym, ap, ◌∙◌, arith, inl, inr, length-append, append_assoc}
+use Rattle.std.specs.HashSet.{HashSet, Updates}
 use Rattle.std.specs.Str.{bytes_eq}
 use Rattle.std.proofs.Math.ListN.{get_or-append}
 use Rattle.std.proofs.Math.Seq.{drop-cons, take-append_seam}
@@ -10,7 +9,6 @@ use Rattle.std.proofs.lemmas.Bool.{cases_lt}
 use Rattle.std.proofs.lemmas.Cmp.{nat_list_eq_equiv}
 use Rattle.std.proofs.lemmas.List.{get_or_push, map-append, length-map, take-append-le}
 use Rattle.std.proofs.lemmas.List.Folds.{list_any-append}
-use Rattle.std.proofs.lemmas.Map.Text.{is_eq-slice_cmp}
 use Rattle.ml_json.specs.Canonical.{IsOrderly, AllOrderly}
 use Rattle.ml_json.specs.Lent.{lent_of, lents_view}
 use Rattle.ml_json.specs.declared.lent.Lent.{Lent}
@@ -39,16 +37,16 @@ module _ (k : ℕ) (t : Tree) (ts : Trees) (ps : List Parts) where
   features_stop fault e = rw e refl
 
 -- what a set takes by an insertion
-pub inserted : (old new : BTreeSet (List ℕ)) (id : List ℕ) → Updates (slice_cmp nat_cmp) old new id true → Takes old new id
+pub inserted : {S : Type 0} (old new : HashSet (List ℕ) S) (id : List ℕ) → Updates bytes_eq old new id true → Takes old new id
 inserted old new id updates text =
-    updates.0 text ∙ ap (λ (t : Bool). cond t true (is_taken old text)) (is_eq-slice_cmp id text ∙ nat_list_eq_equiv.symm id text) ∙ either (bytes_eq text id) (is_taken old text)
+    updates.0 text ∙ ap (λ (t : Bool). cond t true (is_taken old text)) (nat_list_eq_equiv.symm id text) ∙ either (bytes_eq text id) (is_taken old text)
   where
     either : (a b : Bool) → cond a true b ≡ (a || b)
     either true b = refl
     either false b = refl
 
 -- an id that a set takes is added to the ids
-pub has_ids_more : (old new : BTreeSet (List ℕ)) (texts : List (List ℕ)) (id : List ℕ) → HasIds texts old → Takes old new id → HasIds (texts ++ id ∷ []) new
+pub has_ids_more : {S : Type 0} (old new : HashSet (List ℕ) S) (texts : List (List ℕ)) (id : List ℕ) → HasIds texts old → Takes old new id → HasIds (texts ++ id ∷ []) new
 has_ids_more old new texts id has takes text =
     takes text ∙ ap (λ (t : Bool). bytes_eq text id || t) (has text) ∙ turned (bytes_eq text id) (is_among texts text) ∙ sym (list_any-append (bytes_eq text) texts (id ∷ []))
   where
@@ -59,7 +57,7 @@ has_ids_more old new texts id has takes text =
     turned false false = refl
 
 -- an empty set has the ids of no features
-pub no_ids : (set : BTreeSet (List ℕ)) → set.keys ≡ [] → HasIds [] set
+pub no_ids : {S : Type 0} (set : HashSet (List ℕ) S) → set.keys ≡ [] → HasIds [] set
 no_ids set e text = rw e refl
 
 -- of no parts no features are made
@@ -121,7 +119,7 @@ orderly_at (x ∷ items) zero item all lt e = rw (sym e) all.0
 orderly_at (x ∷ items) (suc k) item all lt e = orderly_at items k item all.1 (omega arith) e
 
 -- the features read so far, and what is left
-pub record ReadSoFar (all left : Reading (List Parts)) (k : ℕ) (read : List Feature) (taken : BTreeSet (List ℕ)) : Type 0 where
+pub record ReadSoFar {S : Type 0} (all left : Reading (List Parts)) (k : ℕ) (read : List Feature) (taken : HashSet (List ℕ) S) : Type 0 where
   pub parts : List Parts
   pub reads : all ≡ behind parts left
   pub count : length read ≡ k
@@ -130,17 +128,20 @@ pub record ReadSoFar (all left : Reading (List Parts)) (k : ℕ) (read : List Fe
 
 module _ (items : List Lent) (k : ℕ) (all : Reading (List Parts)) where
   -- at first no feature is read, and all items are left
-  pub so_far_start : (taken : BTreeSet (List ℕ)) → taken.keys ≡ [] → all ≡ features 0 (lents_view items) → ReadSoFar all (features 0 (lents_view items)) 0 [] taken
+  pub so_far_start : {S : Type 0} (taken : HashSet (List ℕ) S) → taken.keys ≡ [] → all ≡ features 0 (lents_view items) → ReadSoFar all (features 0 (lents_view items)) 0 [] taken
   so_far_start taken empty e = record { parts = []; reads = e ∙ behind_none (features 0 (lents_view items)); count = refl; made = made_none; known = no_ids taken empty }
 
-  module _ (item : Lent) (less : k < length items) (there : get_or items k item ≡ item) (old : List Feature) (taken : BTreeSet (List ℕ)) (so_far : ReadSoFar all (features k (lents_view (drop k items))) k old taken) where
+  module _ {S : Type 0} (item : Lent) (less : k < length items) (there : get_or items k item ≡ item) (old : List Feature)
+      (taken : HashSet (List ℕ) S) (so_far : ReadSoFar all (features k (lents_view (drop k items))) k old taken) where
     left : all ≡ behind so_far.parts (features k (more (lent_of item) (lents_view (drop (k + 1) items))))
     left =
         let further : suc k ≡ k + 1 = omega arith in
-        so_far.reads ∙ ap (λ (xs : List Lent). behind so_far.parts (features k (lents_view xs))) (drop-cons items k item less ∙ ap (λ (x : Lent). x ∷ drop (suc k) items) there ∙ ap (λ (n : ℕ). item ∷ drop n items) further)
+        so_far.reads ∙ ap (λ (xs : List Lent). behind so_far.parts (features k (lents_view xs)))
+        (drop-cons items k item less ∙ ap (λ (x : Lent). x ∷ drop (suc k) items) there ∙ ap (λ (n : ℕ). item ∷ drop n items) further)
 
     -- a feature that was read and added is one of those read, and the items behind it are left
-    pub so_far_more : (p : Parts) (new : List Feature) (known : BTreeSet (List ℕ)) → feature k (lent_of item) ≡ Ok p → IsAdded old new p → HasIds (ids new) known → ReadSoFar all (features (k + 1) (lents_view (drop (k + 1) items))) (k + 1) new known
+    pub so_far_more : (p : Parts) (new : List Feature) (known : HashSet (List ℕ) S) → feature k (lent_of item) ≡ Ok p →
+        IsAdded old new p → HasIds (ids new) known → ReadSoFar all (features (k + 1) (lents_view (drop (k + 1) items))) (k + 1) new known
     so_far_more p new known reads added has = record {
       parts = so_far.parts ++ p ∷ [];
       reads = left ∙ features_next k (lent_of item) (lents_view (drop (k + 1) items)) so_far.parts p reads;

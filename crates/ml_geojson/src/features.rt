@@ -20,7 +20,8 @@ use std::alloc::{AllocError, Global};
 
 // The id that a feature has of its own: the text of a string or of a number.
 fn own_id(alloc: Global, value: Option<&Lent>) -> Result<Option<Text>, AllocError>
-    ensures { IfOk result (λ own. own ≡ spec_own_id (option_map lent_of (option_copied value.entry))) }
+    ensures { IfOk result
+        (λ own. own ≡ spec_own_id (option_map lent_of (option_copied value.entry))) }
 {
     Ok(match value {
         Some(Lent::Str(text)) => Some(text.to_text(alloc)?),
@@ -59,23 +60,6 @@ pub fn read_draft(alloc: Global, item: &Lent, k: usize) -> Result<Draft, GeoFaul
     match item {
         Lent::Map(pairs) => draft_of(alloc, pairs.as_slice(), k),
         _ => Err(GeoFault::NotFeature(k)),
-    }
-}
-
-/// The feature with this id.
-pub fn named(draft: Draft, id: Text) -> Feature
-    ensures made { IsMadeOf (parts_of draft) result }
-    ensures id { result.id ≡ id }
-{
-    let Draft {
-        own: _,
-        geometry,
-        props,
-    } = draft;
-    Feature {
-        id,
-        geometry,
-        props,
     }
 }
 

@@ -6,7 +6,7 @@ ghost use Rattle.ml_geojson.specs.Taken.{is_taken, Takes};
 
 use ml_ratio::Text;
 use std::alloc::{AllocError, Global};
-use std::collections::BTreeSet;
+use std::collections::HashSet;
 
 // A number sign and the place.
 fn numbered(alloc: Global, k: usize) -> Result<Text, AllocError>
@@ -25,7 +25,7 @@ fn marked(alloc: Global, id: &Text) -> Result<Text, AllocError>
 }
 
 // A number sign and the place `k`, with as few further number signs before it as make it new.
-fn fresh_id(alloc: Global, taken: &BTreeSet<Text>, k: usize) -> Result<Text, AllocError>
+fn fresh_id(alloc: Global, taken: &HashSet<Text>, k: usize) -> Result<Text, AllocError>
     ensures { IfOk result (IsFresh (is_taken taken.now) k) }
 {
     let mut id = numbered(alloc, k)?;
@@ -36,7 +36,7 @@ fn fresh_id(alloc: Global, taken: &BTreeSet<Text>, k: usize) -> Result<Text, All
 }
 
 // Takes a fresh id.
-fn take_fresh(alloc: Global, taken: &mut BTreeSet<Text>, k: usize) -> Result<Text, AllocError>
+fn take_fresh(alloc: Global, taken: &mut HashSet<Text>, k: usize) -> Result<Text, AllocError>
     ensures id { IfOk result (IsFresh (is_taken taken.old) k) }
     ensures taken { IfOk result (Takes taken.old taken.new) }
 {
@@ -48,15 +48,15 @@ fn take_fresh(alloc: Global, taken: &mut BTreeSet<Text>, k: usize) -> Result<Tex
 // Takes the feature's own id where it is new, else a fresh one.
 fn take_own(
     alloc: Global,
-    taken: &mut BTreeSet<Text>,
-    own: &Text,
+    taken: &mut HashSet<Text>,
+    own: Text,
     k: usize,
 ) -> Result<Text, AllocError>
-    ensures id { IfOk result (IsOwnOrFresh (is_taken taken.old) k own.now) }
+    ensures id { IfOk result (IsOwnOrFresh (is_taken taken.old) k own) }
     ensures taken { IfOk result (Takes taken.old taken.new) }
 {
     if taken.insert(own.copy()?)? {
-        return own.copy();
+        return Ok(own);
     }
     take_fresh(alloc, taken, k)
 }
@@ -67,11 +67,11 @@ fn take_own(
 /// Out of memory.
 pub fn take_id(
     alloc: Global,
-    taken: &mut BTreeSet<Text>,
-    own: Option<&Text>,
+    taken: &mut HashSet<Text>,
+    own: Option<Text>,
     k: usize,
 ) -> Result<Text, AllocError>
-    ensures id { IfOk result (IsIdOf (is_taken taken.old) k (option_copied own.entry)) }
+    ensures id { IfOk result (IsIdOf (is_taken taken.old) k own) }
     ensures taken { IfOk result (Takes taken.old taken.new) }
 {
     match own {

@@ -8,7 +8,8 @@ use ml_json::{Lent, LentPair};
 
 /// The value of the member with this key.
 pub fn member<'b, 'a>(pairs: &'b [LentPair<'a>], key: &str) -> Option<&'b Lent<'a>>
-    ensures { option_map lent_of (option_copied result) ≡ spec_member key.now (lent_pairs_view pairs.now) }
+    ensures { option_map lent_of (option_copied result)
+        ≡ spec_member key.now (lent_pairs_view pairs.now) }
 {
     for pair in pairs {
         if pair.key.as_str() == key {

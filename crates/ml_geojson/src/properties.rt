@@ -23,7 +23,8 @@ fn scalar(alloc: Global, value: &Lent) -> Result<Option<Scalar>, AllocError>
 
 // Adds a member as a property, unless its value is a list or a map.
 fn push_scalar(alloc: Global, props: &mut Seq<Prop>, pair: &LentPair) -> Result<(), AllocError>
-    ensures { OnOk result (props.new ≡ props.old ++ with_scalar (lent_pair_of pair.now).0 (spec_scalar (lent_pair_of pair.now).1) []) }
+    ensures { OnOk result (props.new ≡ props.old
+        ++ with_scalar (lent_pair_of pair.now).0 (spec_scalar (lent_pair_of pair.now).1) []) }
 {
     if let Some(value) = scalar(alloc, &pair.value)? {
         let key = pair.key.to_text(alloc)?;
@@ -45,7 +46,8 @@ fn read_scalars(alloc: Global, pairs: &[LentPair]) -> Result<Seq<Prop>, AllocErr
 
 /// The properties of a feature; none where the member is absent, null or no map.
 pub fn read_props(alloc: Global, value: Option<&Lent>) -> Result<Seq<Prop>, AllocError>
-    ensures { IfOk result (λ props. props ≡ properties (option_map lent_of (option_copied value.entry))) }
+    ensures { IfOk result
+        (λ props. props ≡ properties (option_map lent_of (option_copied value.entry))) }
 {
     match value {
         Some(Lent::Map(pairs)) => read_scalars(alloc, pairs.as_slice()),

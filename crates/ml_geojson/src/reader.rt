@@ -14,27 +14,36 @@ ghost use Rattle.ml_geojson.specs.Map.{ids, HaveDifferentIds, AreRead, IsRead, I
 
 use crate::draft::Draft;
 use crate::fault::GeoFault;
-use crate::features::{named, read_draft, with_own_id};
+use crate::features::{read_draft, with_own_id};
 use crate::ids::take_id;
 use crate::members::{is_text, member};
 use ml_json::{Lent, LentPair};
 use ml_ratio::{Feature, Seq, Text};
 use std::alloc::{AllocError, Global};
-use std::collections::BTreeSet;
+use std::collections::HashSet;
 
 // Adds a feature at the end, with the id that it gets.
 fn push_feature(
     alloc: Global,
     features: &mut Seq<Feature>,
-    taken: &mut BTreeSet<Text>,
+    taken: &mut HashSet<Text>,
     draft: Draft,
 ) -> Result<(), AllocError>
     requires { HasIds (ids features.old) taken.old }
     ensures added { OnOk result (IsAdded features.old features.new (parts_of draft)) }
     ensures taken { OnOk result (HasIds (ids features.new) taken.new) }
 {
-    let id = take_id(alloc, taken, draft.own.as_ref(), features.len())?;
-    features.push(named(draft, id))?;
+    let Draft {
+        own,
+        geometry,
+        props,
+    } = draft;
+    let id = take_id(alloc, taken, own, features.len())?;
+    features.push(Feature {
+        id,
+        geometry,
+        props,
+    })?;
     Ok(())
 }
 
@@ -44,7 +53,7 @@ fn read_items(alloc: Global, items: &[Lent]) -> Result<Seq<Feature>, GeoFault>
     ensures { AreRead result (spec_features 0 (lents_view items.now)) }
 {
     let mut features = Seq::new(alloc);
-    let mut taken = BTreeSet::new(alloc);
+    let mut taken = HashSet::new(alloc);
     for (k, item) in items.iter().enumerate() {
         match read_draft(alloc, item, k) {
             Ok(draft) => push_feature(alloc, &mut features, &mut taken, draft)?,
@@ -107,14 +116,22 @@ pub fn read_collection(alloc: Global, bytes: &[u8]) -> Result<Seq<Feature>, GeoF
     ensures ok { IfOk result (IsMap bytes.now) }
     ensures different_ids { IfOk result HaveDifferentIds }
     ensures fault { IfErr result (IsMapFault bytes.now) }
-    ensures reads { (features : List Feature) → IsMap bytes.now features → GivesMap result features }
-    ensures not_json { (at : ℕ) → RefusesExactly result (GeoFault.NotJson at) GeoFault.Memory (IsNotJson bytes.now at) }
-    ensures deep { (at : ℕ) → RefusesExactly result (GeoFault.Deep at) GeoFault.Memory (IsDeep bytes.now at) }
-    ensures not_collection { RefusesExactly result GeoFault.NotCollection GeoFault.Memory (IsMapFault bytes.now GeoFault.NotCollection) }
-    ensures not_feature { (k : ℕ) → RefusesExactly result (GeoFault.NotFeature k) GeoFault.Memory (IsMapFault bytes.now (GeoFault.NotFeature k)) }
-    ensures bad_geometry { (k : ℕ) → RefusesExactly result (GeoFault.BadGeometry k) GeoFault.Memory (IsMapFault bytes.now (GeoFault.BadGeometry k)) }
-    ensures out_of_range { (k : ℕ) → RefusesExactly result (GeoFault.OutOfRange k) GeoFault.Memory (IsMapFault bytes.now (GeoFault.OutOfRange k)) }
-    ensures short_ring { (k : ℕ) → RefusesExactly result (GeoFault.ShortRing k) GeoFault.Memory (IsMapFault bytes.now (GeoFault.ShortRing k)) }
+    ensures reads { (features : List Feature) →
+        IsMap bytes.now features → GivesMap result features }
+    ensures not_json { (at : ℕ) →
+        RefusesExactly result (GeoFault.NotJson at) GeoFault.Memory (IsNotJson bytes.now at) }
+    ensures deep { (at : ℕ) →
+        RefusesExactly result (GeoFault.Deep at) GeoFault.Memory (IsDeep bytes.now at) }
+    ensures not_collection { RefusesExactly result GeoFault.NotCollection GeoFault.Memory
+        (IsMapFault bytes.now GeoFault.NotCollection) }
+    ensures not_feature { (k : ℕ) → RefusesExactly result
+        (GeoFault.NotFeature k) GeoFault.Memory (IsMapFault bytes.now (GeoFault.NotFeature k)) }
+    ensures bad_geometry { (k : ℕ) → RefusesExactly result
+        (GeoFault.BadGeometry k) GeoFault.Memory (IsMapFault bytes.now (GeoFault.BadGeometry k)) }
+    ensures out_of_range { (k : ℕ) → RefusesExactly result
+        (GeoFault.OutOfRange k) GeoFault.Memory (IsMapFault bytes.now (GeoFault.OutOfRange k)) }
+    ensures short_ring { (k : ℕ) → RefusesExactly result
+        (GeoFault.ShortRing k) GeoFault.Memory (IsMapFault bytes.now (GeoFault.ShortRing k)) }
 {
     match ml_json::lend(alloc, bytes) {
         Ok(json) => read_tree(alloc, &json),
@@ -142,12 +159,18 @@ pub fn read_feature(alloc: Global, bytes: &[u8]) -> Result<Feature, GeoFault>
     ensures ok { IfOk result (IsFeature bytes.now) }
     ensures fault { IfErr result (IsFeatureFault bytes.now) }
     ensures reads { (one : Feature) → IsFeature bytes.now one → GivesFeature result one }
-    ensures not_json { (at : ℕ) → RefusesExactly result (GeoFault.NotJson at) GeoFault.Memory (IsNotJson bytes.now at) }
-    ensures deep { (at : ℕ) → RefusesExactly result (GeoFault.Deep at) GeoFault.Memory (IsDeep bytes.now at) }
-    ensures not_feature { (k : ℕ) → RefusesExactly result (GeoFault.NotFeature k) GeoFault.Memory (IsFeatureFault bytes.now (GeoFault.NotFeature k)) }
-    ensures bad_geometry { (k : ℕ) → RefusesExactly result (GeoFault.BadGeometry k) GeoFault.Memory (IsFeatureFault bytes.now (GeoFault.BadGeometry k)) }
-    ensures out_of_range { (k : ℕ) → RefusesExactly result (GeoFault.OutOfRange k) GeoFault.Memory (IsFeatureFault bytes.now (GeoFault.OutOfRange k)) }
-    ensures short_ring { (k : ℕ) → RefusesExactly result (GeoFault.ShortRing k) GeoFault.Memory (IsFeatureFault bytes.now (GeoFault.ShortRing k)) }
+    ensures not_json { (at : ℕ) →
+        RefusesExactly result (GeoFault.NotJson at) GeoFault.Memory (IsNotJson bytes.now at) }
+    ensures deep { (at : ℕ) →
+        RefusesExactly result (GeoFault.Deep at) GeoFault.Memory (IsDeep bytes.now at) }
+    ensures not_feature { (k : ℕ) → RefusesExactly result (GeoFault.NotFeature k) GeoFault.Memory
+        (IsFeatureFault bytes.now (GeoFault.NotFeature k)) }
+    ensures bad_geometry { (k : ℕ) → RefusesExactly result (GeoFault.BadGeometry k) GeoFault.Memory
+        (IsFeatureFault bytes.now (GeoFault.BadGeometry k)) }
+    ensures out_of_range { (k : ℕ) → RefusesExactly result (GeoFault.OutOfRange k) GeoFault.Memory
+        (IsFeatureFault bytes.now (GeoFault.OutOfRange k)) }
+    ensures short_ring { (k : ℕ) → RefusesExactly result (GeoFault.ShortRing k) GeoFault.Memory
+        (IsFeatureFault bytes.now (GeoFault.ShortRing k)) }
     ensures no_id { RefusesExactly result GeoFault.NoId GeoFault.Memory (HasNoId bytes.now) }
 {
     match ml_json::lend(alloc, bytes) {

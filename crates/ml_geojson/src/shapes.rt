@@ -33,7 +33,8 @@ fn read_point(items: &[Lent], k: usize) -> Result<Option<Geometry>, GeoFault>
 
 // Points.
 fn read_points(alloc: Global, items: &[Lent], k: usize) -> Result<Option<Geometry>, GeoFault>
-    ensures shape { Answers some_shape_of result (shape_by k kinds.MultiPoint (lents_view items.now)) }
+    ensures shape { Answers some_shape_of result
+        (shape_by k kinds.MultiPoint (lents_view items.now)) }
     ensures formed { IfOk result IsSomeGeometry }
 {
     match read_positions(alloc, items, k) {
@@ -45,7 +46,8 @@ fn read_points(alloc: Global, items: &[Lent], k: usize) -> Result<Option<Geometr
 
 // A line.
 fn read_line(alloc: Global, items: &[Lent], k: usize) -> Result<Option<Geometry>, GeoFault>
-    ensures shape { Answers some_shape_of result (shape_by k kinds.LineString (lents_view items.now)) }
+    ensures shape { Answers some_shape_of result
+        (shape_by k kinds.LineString (lents_view items.now)) }
     ensures formed { IfOk result IsSomeGeometry }
 {
     match read_positions(alloc, items, k) {
@@ -57,7 +59,8 @@ fn read_line(alloc: Global, items: &[Lent], k: usize) -> Result<Option<Geometry>
 
 // Lines.
 fn read_line_parts(alloc: Global, items: &[Lent], k: usize) -> Result<Option<Geometry>, GeoFault>
-    ensures shape { Answers some_shape_of result (shape_by k kinds.MultiLineString (lents_view items.now)) }
+    ensures shape { Answers some_shape_of result
+        (shape_by k kinds.MultiLineString (lents_view items.now)) }
     ensures formed { IfOk result IsSomeGeometry }
 {
     match read_lines(alloc, items, k) {
@@ -81,7 +84,8 @@ fn read_polygon(alloc: Global, items: &[Lent], k: usize) -> Result<Option<Geomet
 
 // Polygons.
 fn read_polygon_parts(alloc: Global, items: &[Lent], k: usize) -> Result<Option<Geometry>, GeoFault>
-    ensures shape { Answers some_shape_of result (shape_by k kinds.MultiPolygon (lents_view items.now)) }
+    ensures shape { Answers some_shape_of result
+        (shape_by k kinds.MultiPolygon (lents_view items.now)) }
     ensures formed { IfOk result IsSomeGeometry }
 {
     match read_polygons(alloc, items, k) {
@@ -118,7 +122,8 @@ fn read_kind(
     coordinates: Option<&Lent>,
     k: usize,
 ) -> Result<Option<Geometry>, GeoFault>
-    ensures shape { Answers some_shape_of result (kind_shape k kind (option_map lent_of (option_copied coordinates.entry))) }
+    ensures shape { Answers some_shape_of result
+        (kind_shape k kind (option_map lent_of (option_copied coordinates.entry))) }
     ensures formed { IfOk result IsSomeGeometry }
 {
     match (kind, coordinates) {
@@ -145,7 +150,8 @@ pub fn read_shape(
     value: Option<&Lent>,
     k: usize,
 ) -> Result<Option<Geometry>, GeoFault>
-    ensures shape { Answers some_shape_of result (geometry k (option_map lent_of (option_copied value.entry))) }
+    ensures shape { Answers some_shape_of result
+        (geometry k (option_map lent_of (option_copied value.entry))) }
     ensures formed { IfOk result IsSomeGeometry }
 {
     match value {

@@ -58,7 +58,8 @@ fn push_member(
     key: &str,
     value: Json,
 ) -> Result<(), AllocError>
-    ensures { OnOk result (mapped pair_of pairs.new.items ≡ mapped pair_of pairs.old.items ++ (key.now, tree_of value) ∷ []) }
+    ensures { OnOk result (mapped pair_of pairs.new.items
+        ≡ mapped pair_of pairs.old.items ++ (key.now, tree_of value) ∷ []) }
 {
     let key = Text::of(alloc, key)?;
     pairs.push(Pair { key, value })?;

@@ -31,7 +31,8 @@ pub returns-in-Err : goal.returns-in-Err
 returns-in-Err c =
     let reads : ReadsText c.args.bytes.now c.lend.result = record { text = c.lend.ensures.text; not_json = c.lend.ensures.not_json; deep = c.lend.ensures.deep } in
     let from : IsAnswerTo AreRead collection c.lend.result (Err c.from.result) = subst (λ f. IsAnswerTo AreRead collection f (Err c.from.result)) (sym c.in-Err.is) (ap Err c.from.ensures) in
-    let cause : IfErr {T = List Feature} (Err c.from.result) (IsMapFault c.args.bytes.now) = rw c.from.ensures (text_refused_map c.args.bytes.now c.lend.result c.lend.ensures.not_json c.lend.ensures.deep c.in-Err.fault c.in-Err.is) in
+    let cause : IfErr {T = List Feature} (Err c.from.result) (IsMapFault c.args.bytes.now) =
+    rw c.from.ensures (text_refused_map c.args.bytes.now c.lend.result c.lend.ensures.not_json c.lend.ensures.deep c.in-Err.fault c.in-Err.is) in
     record {
       ok = tt;
       different_ids = tt;

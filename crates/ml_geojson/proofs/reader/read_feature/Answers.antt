@@ -4,7 +4,8 @@ use Rattle.ml_json.specs.Lent.{lent_of}
 use Rattle.ml_geojson.specs.Collection.{feature}
 use Rattle.ml_geojson.specs.Map.{IsRead, IsFeatureFault}
 use Rattle.ml_geojson.proofs.FaultLemmas.{feature_answered, text_refused_feature}
-use Rattle.ml_geojson.proofs.Exact.{IsAnswerTo, ReadsText, feature_reads, feature_not_json, feature_deep, feature_not_feature, feature_bad_geometry, feature_out_of_range, feature_short_ring, feature_no_id}
+use Rattle.ml_geojson.proofs.Exact.{IsAnswerTo, ReadsText, feature_reads, feature_not_json, feature_deep}
+use Rattle.ml_geojson.proofs.Exact.{feature_not_feature, feature_bad_geometry, feature_out_of_range, feature_short_ring, feature_no_id}
 use Rattle.ml_geojson.proofs.reader.read_feature.Goals as goal
 
 pub returns-in-Ok : goal.returns-in-Ok
@@ -29,7 +30,8 @@ pub returns-in-Err : goal.returns-in-Err
 returns-in-Err c =
     let reads : ReadsText c.args.bytes.now c.lend.result = record { text = c.lend.ensures.text; not_json = c.lend.ensures.not_json; deep = c.lend.ensures.deep } in
     let from : IsAnswerTo IsRead (feature 0) c.lend.result (Err c.from.result) = subst (λ f. IsAnswerTo IsRead (feature 0) f (Err c.from.result)) (sym c.in-Err.is) (ap Err c.from.ensures) in
-    let cause : IfErr {T = Feature} (Err c.from.result) (IsFeatureFault c.args.bytes.now) = rw c.from.ensures (text_refused_feature c.args.bytes.now c.lend.result c.lend.ensures.not_json c.lend.ensures.deep c.in-Err.fault c.in-Err.is) in
+    let cause : IfErr {T = Feature} (Err c.from.result) (IsFeatureFault c.args.bytes.now) =
+    rw c.from.ensures (text_refused_feature c.args.bytes.now c.lend.result c.lend.ensures.not_json c.lend.ensures.deep c.in-Err.fault c.in-Err.is) in
     record {
       ok = tt;
       fault = cause;

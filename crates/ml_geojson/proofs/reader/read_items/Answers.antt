@@ -10,5 +10,6 @@ read_draft-requires c = orderly_at c.args.items.now c.loop-k.k c.index-items-k.r
 
 pub loop-k-preserved : goal.loop-k-preserved
 loop-k-preserved c =
-    so_far_more c.args.items.now c.loop-k.k (features 0 (lents_view c.args.items.now)) c.index-items-k.result c.loop-k-test.true (sym c.index-items-k.is) c.loop-k.features c.loop-k.taken c.loop-k.invariant (parts_of c.in-Ok.draft) c.push_feature.new.features
+    so_far_more c.args.items.now c.loop-k.k (features 0 (lents_view c.args.items.now)) c.index-items-k.result c.loop-k-test.true
+    (sym c.index-items-k.is) c.loop-k.features c.loop-k.taken c.loop-k.invariant (parts_of c.in-Ok.draft) c.push_feature.new.features
     c.push_feature.new.taken c.in-Ok.ensures c.in_ok-push_feature-in-Ok.ensures.added c.in_ok-push_feature-in-Ok.ensures.taken
