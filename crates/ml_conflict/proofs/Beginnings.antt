@@ -6,7 +6,8 @@ use Rattle.ml_ratio.proofs.lemmas.Fractions.{less_at_most, at_most_less}
 
 module _ (K : Fraction → Type 0) (start u best lo : Fraction) (under : Fraction → Type 0) (says : (s : Fraction) → K s ↔ (IsLess lo s × under s)) where
   -- the interval begins at the greater of `start` and its lower end
-  pub begins_here : (first last : Fraction) → ((s : Fraction) → IsAtMost first s ↔ (IsAtMost start s × IsAtMost lo s)) → ((s : Fraction) → IsLess s last ↔ (IsLess s u × under s)) → IsLess first last → IsLess first best → Begins K start u best first
+  pub begins_here : (first last : Fraction) → ((s : Fraction) → IsAtMost first s ↔ (IsAtMost start s × IsAtMost lo s)) →
+      ((s : Fraction) → IsLess s last ↔ (IsLess s u × under s)) → IsLess first last → IsLess first best → Begins K start u best first
   unfolding Clear Covers
   begins_here first last at_most below room inside =
       let ends = (at_most first).0 (omega arith) in
@@ -42,7 +43,8 @@ module _ (K : Fraction → Type 0) (start u best lo : Fraction) (under : Fractio
       }
 
   -- it ends before it begins
-  pub begins_never : (first last : Fraction) → IsAtMost start best → ((s : Fraction) → IsAtMost first s ↔ (IsAtMost start s × IsAtMost lo s)) → ((s : Fraction) → IsLess s last ↔ (IsLess s u × under s)) → IsAtMost last first → Begins K start u best best
+  pub begins_never : (first last : Fraction) → IsAtMost start best → ((s : Fraction) → IsAtMost first s ↔ (IsAtMost start s × IsAtMost lo s)) →
+      ((s : Fraction) → IsLess s last ↔ (IsLess s u × under s)) → IsAtMost last first → Begins K start u best best
   unfolding Clear
   begins_never first last ok at_most below closed =
       record {

@@ -78,7 +78,8 @@ module _ (low : Label) (rivals others : ℕ → Rival) (stands stays : ℕ → T
             }
       ]
 
-  setter_forth : (u : Fraction) (b : Option ℕ) → MatchOption b (IsSame u (value_of low.max)) (λ n. IsLess u (value_of low.max) × IsFirstAt rivals stands low u n) → MatchOption b (IsSame u (value_of low.max)) (λ n. IsLess u (value_of low.max) × IsFirstAt others stays low u n)
+  setter_forth : (u : Fraction) (b : Option ℕ) → MatchOption b (IsSame u (value_of low.max)) (λ n. IsLess u (value_of low.max) × IsFirstAt rivals stands low u n) →
+      MatchOption b (IsSame u (value_of low.max)) (λ n. IsLess u (value_of low.max) × IsFirstAt others stays low u n)
   setter_forth u None h = h
   setter_forth u (Some n) h = (h.0, first_forth u n h.0 h.1)
 
@@ -93,7 +94,8 @@ module _ (low : Label) (rivals others : ℕ → Rival) (stands stays : ℕ → T
       }
 
 -- an own slot stays one where rivals join that allow its end and do not set it
-module _ (low : Label) (rivals others : ℕ → Rival) (stands stays : ℕ → Type 0) (link : ℕ → ℕ → Type 0) (slot : Slot) (joined : AreJoined low (value_of slot.until) rivals others stands stays link) where
+module _ (low : Label) (rivals others : ℕ → Rival) (stands stays : ℕ → Type 0) (link : ℕ → ℕ → Type 0)
+    (slot : Slot) (joined : AreJoined low (value_of slot.until) rivals others stands stays link) where
   joined_first : (n : ℕ) → IsFirstAt rivals stands low (value_of slot.until) n → IsFirstAt others stays low (value_of slot.until) n
   joined_first n at =
       let there = joined.forth at.place at.is_standing in
@@ -109,7 +111,9 @@ module _ (low : Label) (rivals others : ℕ → Rival) (stands stays : ℕ → T
             ];
       }
 
-  joined_setter : (b : Option ℕ) → MatchOption b (IsSame (value_of slot.until) (value_of low.max)) (λ n. IsLess (value_of slot.until) (value_of low.max) × IsFirstAt rivals stands low (value_of slot.until) n) → MatchOption b (IsSame (value_of slot.until) (value_of low.max)) (λ n. IsLess (value_of slot.until) (value_of low.max) × IsFirstAt others stays low (value_of slot.until) n)
+  joined_setter : (b : Option ℕ) → MatchOption b (IsSame (value_of slot.until) (value_of low.max))
+      (λ n. IsLess (value_of slot.until) (value_of low.max) × IsFirstAt rivals stands low (value_of slot.until) n) →
+      MatchOption b (IsSame (value_of slot.until) (value_of low.max)) (λ n. IsLess (value_of slot.until) (value_of low.max) × IsFirstAt others stays low (value_of slot.until) n)
   joined_setter None h = h
   joined_setter (Some n) h = (h.0, joined_first n h.1)
 
@@ -129,7 +133,8 @@ module _ (low : Label) (rivals others : ℕ → Rival) (stands stays : ℕ → T
       }
 
 -- an own slot among the same rivals at the same places
-pub own_like : (low : Label) (rivals others : ℕ → Rival) (stands stays : ℕ → Type 0) → ((j : ℕ) → stands j → stays j × (rivals j ≡ others j)) → ((j : ℕ) → stays j → stands j) → (slot : Slot) → IsOwnSlot rivals stands low slot → IsOwnSlot others stays low slot
+pub own_like : (low : Label) (rivals others : ℕ → Rival) (stands stays : ℕ → Type 0) → ((j : ℕ) → stands j → stays j × (rivals j ≡ others j)) →
+    ((j : ℕ) → stays j → stands j) → (slot : Slot) → IsOwnSlot rivals stands low slot → IsOwnSlot others stays low slot
 own_like low rivals others stands stays forth back =
     own_carried low rivals others stands stays (λ j k. j ≡ k)
     (record {

@@ -55,7 +55,8 @@ sides_near x l p y k t r q s a b c d meet =
     (λ most. edge_near x l y t r q g s a d (omega (arith, ints)) meet.0)
 
 -- so are labels that overlap, on either axis
-labels_near : (axis : Axis) (a b : Label) (r q : ℕ) → Reaches axis a r → Reaches axis b q → (s : Fraction) → Overlap a b s → unsigned_abs (anchor_on axis a -ℤ anchor_on axis b) * s.den < (r + q) * s.num
+labels_near : (axis : Axis) (a b : Label) (r q : ℕ) → Reaches axis a r → Reaches axis b q → (s : Fraction) →
+    Overlap a b s → unsigned_abs (anchor_on axis a -ℤ anchor_on axis b) * s.den < (r + q) * s.num
 unfolding Overlap BoxesOverlap
 labels_near Across a b r q reach_a reach_b s (k, p, lt, e, (m, o, lt', e', boxes)) =
     let one : IsWithin Across r (widened a p) = subst (λ (o : BoxPx). IsWithin Across r (widened a o)) e (reach_a k p lt) in
@@ -74,7 +75,8 @@ far_clear axis a b r q reach_a reach_b bound far = (
 )
 
 -- labels that are too far apart on an axis set each other no limit up to the bound
-pub far_on : (axis : Axis) (a b : Label) (r q : ℕ) → Reaches axis a r → Reaches axis b q → (u : Fraction) (bound : Ratio) → IsFar (anchor_on axis a) (anchor_on axis b) (r + q) bound → SetsNoneUpTo a b u (value_of bound)
+pub far_on : (axis : Axis) (a b : Label) (r q : ℕ) → Reaches axis a r → Reaches axis b q → (u : Fraction) (bound : Ratio) →
+    IsFar (anchor_on axis a) (anchor_on axis b) (r + q) bound → SetsNoneUpTo a b u (value_of bound)
 far_on axis a b r q reach_a reach_b u bound far = none_of_clear a b u (value_of bound) (far_clear axis a b r q reach_a reach_b bound far)
 
 -- labels that reach r pixels to the west and east, and are further apart, set each other no limit up to the bound
@@ -84,7 +86,8 @@ far_labels a b r reach_a reach_b u bound far =
     far_on Across a b r r reach_a reach_b u bound (subst (λ (p : ℕ). IsFar a.x b.x p bound) twice far)
 
 -- labels that are as far apart on an axis as both together reach at the end overlap at no scale below it
-pub distant_labels : (axis : Axis) (a b : Label) (r far : ℕ) (end : Fraction) → Reaches axis a r → Reaches axis b r → 2 * r * end.num ≤ far * end.den → far ≤ unsigned_abs (anchor_on axis a -ℤ anchor_on axis b) → (s : Fraction) → IsLess s end → ¬ (Overlap a b s)
+pub distant_labels : (axis : Axis) (a b : Label) (r far : ℕ) (end : Fraction) → Reaches axis a r → Reaches axis b r →
+    2 * r * end.num ≤ far * end.den → far ≤ unsigned_abs (anchor_on axis a -ℤ anchor_on axis b) → (s : Fraction) → IsLess s end → ¬ (Overlap a b s)
 distant_labels axis a b r far end reach_a reach_b wide apart s less over =
     let g : ℕ = unsigned_abs (anchor_on axis a -ℤ anchor_on axis b) in
     let twice : 2 * r ≡ r + r = omega arith in

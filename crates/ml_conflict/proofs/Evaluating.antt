@@ -34,7 +34,8 @@ module _ (low : Label) (rivals : List Rival) where
       let stands : at.place < k = at.is_standing in
       (h.0, record { place = at.place; is_standing = omega arith; its_number = at.its_number; sets = at.sets; first = λ m less _. at.first m less (omega arith) })
 
-  module _ (k : ℕ) (u : Fraction) (b : Option ℕ) (a : Label) (w : Ratio) (its_label : (d : Rival) → a ≡ (get_or rivals k d).label) (its_end : (d : Rival) → w ≡ (get_or rivals k d).until) (so_far : Evaluated low rivals k u b) where
+  module _ (k : ℕ) (u : Fraction) (b : Option ℕ) (a : Label) (w : Ratio) (its_label : (d : Rival) → a ≡ (get_or rivals k d).label)
+      (its_end : (d : Rival) → w ≡ (get_or rivals k d).until) (so_far : Evaluated low rivals k u b) where
     allows_here : (e : Fraction) → Allows low a (value_of w) e → RivalAllows low e (rival_at low rivals k)
     allows_here e h =
         let d : Rival = record { number = 0; label = low; until = low.max } in
@@ -79,7 +80,8 @@ module _ (low : Label) (rivals : List Rival) where
           );
         }
 
-  greatest_of : (k : ℕ) (u : Fraction) (b : Option ℕ) → IsSetter (rival_at low rivals) (λ j. j < k) low u b → (e : Fraction) → IsEnd low e → ((j : ℕ) → j < k → RivalAllows low e (rival_at low rivals j)) → IsAtMost e u
+  greatest_of : (k : ℕ) (u : Fraction) (b : Option ℕ) → IsSetter (rival_at low rivals) (λ j. j < k) low u b →
+      (e : Fraction) → IsEnd low e → ((j : ℕ) → j < k → RivalAllows low e (rival_at low rivals j)) → IsAtMost e u
   greatest_of k u None same e e_end all = at_most_trans e (value_of low.max) u e_end.1 (let s : IsSame u (value_of low.max) = same in omega arith)
   greatest_of k u (Some n) set e e_end all = set.1.sets.greatest e e_end (all set.1.place set.1.is_standing)
 
@@ -94,7 +96,8 @@ module _ (low : Label) (rivals : List Rival) where
           its_number = at.its_number;
           sets = limit_same low (rival_at low rivals at.place).label (value_of (rival_at low rivals at.place).until) (value_of (rival_at low rivals at.place).until) u v (omega arith) same at.sets;
           first = λ m less stands limit.
-              at.first m less stands (limit_same low (rival_at low rivals m).label (value_of (rival_at low rivals m).until) (value_of (rival_at low rivals m).until) v u (omega arith) (omega arith) limit);
+              at.first m less stands (limit_same low (rival_at low rivals m).label (value_of (rival_at low rivals m).until)
+              (value_of (rival_at low rivals m).until) v u (omega arith) (omega arith) limit);
         },
       )
 
@@ -104,7 +107,8 @@ module _ (low : Label) (rivals : List Rival) where
       let v : Fraction = value_of slot.until in
       record {
         is_end = (at_most_trans (value_of low.min) u v done.is_end.0 (omega arith), at_most_trans v u (value_of low.max) (omega arith) done.is_end.1);
-        allowed = λ j lt. Allows-smaller low (rival_at low rivals j).label (value_of (rival_at low rivals j).until) (value_of (rival_at low rivals j).until) v u (omega arith) (omega arith) (done.allowed j lt);
+        allowed = λ j lt. Allows-smaller low (rival_at low rivals j).label (value_of (rival_at low rivals j).until)
+            (value_of (rival_at low rivals j).until) v u (omega arith) (omega arith) (done.allowed j lt);
         greatest = λ e e_end all. at_most_trans e u v (greatest_of (length rivals) u slot.blocker done.setter e e_end all) (omega arith);
         setter = setter_same (length rivals) u v slot.blocker same done.setter;
       }

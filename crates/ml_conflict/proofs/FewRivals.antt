@@ -14,7 +14,8 @@ use Rattle.ml_conflict.proofs.Greedy.{Allows-smaller}
 use Rattle.ml_conflict.proofs.Limits.{allowed_up_to}
 use Rattle.ml_conflict.proofs.Carried.{alike_of, own_carried, own_joined}
 
-module _ (low : Label) (rivals : ℕ → Rival) (n : ℕ) (bound : Fraction) (places : List ℕ) (slot : Slot) (are : AreEnough low rivals n bound places) (among : IsSlotAmong low (map rivals places) slot) where
+module _ (low : Label) (rivals : ℕ → Rival) (n : ℕ) (bound : Fraction) (places : List ℕ) (slot : Slot)
+    (are : AreEnough low rivals n bound places) (among : IsSlotAmong low (map rivals places) slot) where
   -- the rival at place k of those that are enough is the one at this place
   abbrev Linked : ℕ → ℕ → Type 0
   Linked k j = (k < length places) × (get_or places k 0 ≡ j)
@@ -46,8 +47,12 @@ module _ (low : Label) (rivals : ℕ → Rival) (n : ℕ) (bound : Fraction) (pl
       let k = there.0 in
       let h : k < length places = there.1 in
       let many = length-map places rivals in
-      let e : get_or places k 0 ≡ j = get_or_default places k 0 j h ∙ there.2 in
-      (k, omega arith, subst (λ (p : ℕ). AreSameRival (rival_at low (map rivals places) k) (rivals p)) e (alike_of (rival_at low (map rivals places) k) (rivals (get_or places k 0)) (found_is k h)), (h, e))
+      let e : get_or places k 0 ≡ j = get_or_default places k 0 j h ∙ there.2 in (
+        k,
+        omega arith,
+        subst (λ (p : ℕ). AreSameRival (rival_at low (map rivals places) k) (rivals p)) e (alike_of (rival_at low (map rivals places) k) (rivals (get_or places k 0)) (found_is k h)),
+        (h, e),
+      )
 
   allowed_there : (j : ℕ) → Contains places j → RivalAllows low (value_of slot.until) (rivals j)
   allowed_there j there =
@@ -66,13 +71,15 @@ module _ (low : Label) (rivals : ℕ → Rival) (n : ℕ) (bound : Fraction) (pl
       let v = value_of (rivals j).until in
       Allows-smaller low (rivals j).label v v (value_of slot.until) bound (omega arith) under_bound (allowed_up_to low (rivals j).label v bound are.low_bound none)
 
-  other_limits : (j : ℕ) → SetsNoneUpTo low (rivals j).label (value_of (rivals j).until) bound → IsLess (value_of slot.until) (value_of low.max) → ¬ (IsLimit low (rivals j).label (value_of (rivals j).until) (value_of slot.until))
+  other_limits : (j : ℕ) → SetsNoneUpTo low (rivals j).label (value_of (rivals j).until) bound →
+      IsLess (value_of slot.until) (value_of low.max) → ¬ (IsLimit low (rivals j).label (value_of (rivals j).until) (value_of slot.until))
   other_limits j none below limit =
       let above : IsLess bound (value_of slot.until) = none (value_of slot.until) limit below in
       let under = under_bound in
       omega arith
 
-  joined_here : IsLess (value_of slot.until) (value_of low.max) → AreJoined low (value_of slot.until) (rival_at low (map rivals places)) rivals (λ k. k < length (map rivals places)) (λ j. j < n) Linked
+  joined_here : IsLess (value_of slot.until) (value_of low.max) →
+      AreJoined low (value_of slot.until) (rival_at low (map rivals places)) rivals (λ k. k < length (map rivals places)) (λ j. j < n) Linked
   joined_here below = record {
     forth = forward;
     back = λ j lt. elim (are.others j lt) [

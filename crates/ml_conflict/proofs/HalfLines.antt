@@ -5,7 +5,8 @@ use Rattle.ml_ratio.specs.Fraction.{Fraction, IsLess, IsScale}
 use Rattle.ml_ratio.proofs.lemmas.Fractions.{less_at_most, at_most_less}
 
 -- u < v * s, where r has the value of u/v
-pub half_up : (u v : ℤ) (k m : ℕ) (r : Fraction) → k ≡ unsigned_abs u → m ≡ unsigned_abs v → pos 0 ≤ℤ u → pos 0 <ℤ v → r.num * m ≡ k * r.den → (s : Fraction) → ((u *ℤ pos s.den) <ℤ (v *ℤ pos s.num)) ↔ IsLess r s
+pub half_up : (u v : ℤ) (k m : ℕ) (r : Fraction) → k ≡ unsigned_abs u → m ≡ unsigned_abs v → pos 0 ≤ℤ u →
+    pos 0 <ℤ v → r.num * m ≡ k * r.den → (s : Fraction) → ((u *ℤ pos s.den) <ℤ (v *ℤ pos s.num)) ↔ IsLess r s
 half_up (pos a) (pos zero) k m r e f p q g s = absurd (omega (arith, ints))
 half_up (pos a) (pos (suc b)) k m r e f p q g s =
     let t : Fraction = record { num = a; den = suc b; positive = omega arith } in
@@ -26,7 +27,8 @@ half_all (negsuc a) (negsuc b) s scale p q r = absurd (omega (arith, ints))
 half_all (pos zero) (negsuc b) s scale p q r = absurd (omega (arith, ints))
 
 -- u < v * s, where both are below 0 and r has the value of u/v
-pub half_down : (u v : ℤ) (k m : ℕ) (r : Fraction) → k ≡ unsigned_abs u → m ≡ unsigned_abs v → u <ℤ pos 0 → v <ℤ pos 0 → r.num * m ≡ k * r.den → (s : Fraction) → ((u *ℤ pos s.den) <ℤ (v *ℤ pos s.num)) ↔ IsLess s r
+pub half_down : (u v : ℤ) (k m : ℕ) (r : Fraction) → k ≡ unsigned_abs u → m ≡ unsigned_abs v → u <ℤ pos 0 →
+    v <ℤ pos 0 → r.num * m ≡ k * r.den → (s : Fraction) → ((u *ℤ pos s.den) <ℤ (v *ℤ pos s.num)) ↔ IsLess s r
 half_down (negsuc a) (negsuc b) k m r e f p q g s =
     let t : Fraction = record { num = suc a; den = suc b; positive = omega arith } in
     let same : r.num * suc b ≡ suc a * r.den = rw (← f, ← e) g in (

@@ -15,4 +15,5 @@ mod FewRivals
 mod Distances
 mod Spots
 mod Putting
+mod Blocks
 pub mod lemmas

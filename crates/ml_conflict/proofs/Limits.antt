@@ -35,14 +35,17 @@ limit_of_covers low high u f is_end allowed covers =
     }
 
 -- where the two overlap at no scale from where both ranges have begun on, below the bound and the other's end, the bound is allowed
-pub clear_allows : (low high : Label) (u start bound last : Fraction) → ((s : Fraction) → IsAtMost start s ↔ (IsAtMost (value_of low.min) s × IsAtMost (value_of high.min) s)) → ((s : Fraction) → IsLess s last ↔ (IsLess s bound × IsLess s u)) → Clear (λ s. Overlap low high s) start last last → Allows low high u bound
+pub clear_allows : (low high : Label) (u start bound last : Fraction) →
+    ((s : Fraction) → IsAtMost start s ↔ (IsAtMost (value_of low.min) s × IsAtMost (value_of high.min) s)) →
+    ((s : Fraction) → IsLess s last ↔ (IsLess s bound × IsLess s u)) → Clear (λ s. Overlap low high s) start last last → Allows low high u bound
 unfolding Allows Clear
 clear_allows low high u start bound last from below clear s scale a b =
     let under : IsLess s last = (below s).1 (a.1, b.1) in
     clear s scale ((from s).1 (a.0, b.0)) under under
 
 -- where both ranges begin at or above the bound, the bound is allowed
-pub apart_allows : (low high : Label) (u start bound : Fraction) → ((s : Fraction) → IsAtMost start s ↔ (IsAtMost (value_of low.min) s × IsAtMost (value_of high.min) s)) → IsAtMost bound start → Allows low high u bound
+pub apart_allows : (low high : Label) (u start bound : Fraction) →
+    ((s : Fraction) → IsAtMost start s ↔ (IsAtMost (value_of low.min) s × IsAtMost (value_of high.min) s)) → IsAtMost bound start → Allows low high u bound
 unfolding Allows
 apart_allows low high u start bound from apart s scale a b o =
     let m : IsAtMost start s = (from s).1 (a.0, b.0) in
@@ -50,7 +53,8 @@ apart_allows low high u start bound from apart s scale a b o =
     omega arith
 
 -- where the overlap begins, below a bound, is the limit; else the bound is allowed
-module _ (low high : Label) (u start bound f : Fraction) (from : (s : Fraction) → IsAtMost start s ↔ (IsAtMost (value_of low.min) s × IsAtMost (value_of high.min) s)) (within : IsAtMost bound (value_of low.max)) (b : Begins (λ s. Overlap low high s) start u bound f) where
+module _ (low high : Label) (u start bound f : Fraction) (from : (s : Fraction) → IsAtMost start s ↔ (IsAtMost (value_of low.min) s × IsAtMost (value_of high.min) s))
+    (within : IsAtMost bound (value_of low.max)) (b : Begins (λ s. Overlap low high s) start u bound f) where
   -- where the overlap begins is an end that the label may have
   pub begins_is_end : IsEnd low f
   begins_is_end =
@@ -98,8 +102,12 @@ limit_exists low high u =
       | inl apart ↦ (value_of low.max, (omega arith, omega arith), apart_allows low high u start.0 (value_of low.max) from (omega arith), λ h. absurd (omega arith))
       | inr near ↦
           let b = overlap_begins low high start.0 u (value_of low.max) near in
-          let within : IsAtMost (value_of low.max) (value_of low.max) = omega arith in
-          (b.0, begins_is_end low high u start.0 (value_of low.max) b.0 from within b.1, begins_allows low high u start.0 (value_of low.max) b.0 from within b.1, begins_covers low high u start.0 (value_of low.max) b.0 from within b.1)
+          let within : IsAtMost (value_of low.max) (value_of low.max) = omega arith in (
+            b.0,
+            begins_is_end low high u start.0 (value_of low.max) b.0 from within b.1,
+            begins_allows low high u start.0 (value_of low.max) b.0 from within b.1,
+            begins_covers low high u start.0 (value_of low.max) b.0 from within b.1,
+          )
     ]
 
 -- just above a limit that lies below the maximum, the other label is active and overlaps
@@ -139,7 +147,8 @@ block_same low high u v bound f same block =
     }
 
 -- both ranges have begun, by other fractions of the same values
-pub start_from : (p q a b start : Fraction) → ((s : Fraction) → IsAtMost start s ↔ (IsAtMost a s × IsAtMost b s)) → ((s : Fraction) → IsAtMost a s ↔ IsAtMost p s) → ((s : Fraction) → IsAtMost b s ↔ IsAtMost q s) → (s : Fraction) → IsAtMost start s ↔ (IsAtMost p s × IsAtMost q s)
+pub start_from : (p q a b start : Fraction) → ((s : Fraction) → IsAtMost start s ↔ (IsAtMost a s × IsAtMost b s)) → ((s : Fraction) → IsAtMost a s ↔ IsAtMost p s) →
+    ((s : Fraction) → IsAtMost b s ↔ IsAtMost q s) → (s : Fraction) → IsAtMost start s ↔ (IsAtMost p s × IsAtMost q s)
 start_from p q a b start both one two s =
     (λ h. let k = (both s).0 h in ((one s).0 k.0, (two s).0 k.1), λ h. (both s).1 ((one s).1 h.0, (two s).1 h.1))
 
@@ -189,13 +198,15 @@ none_of_clear low high u bound clear f limit below =
 pub none_of_ended : (low high : Label) (u bound : Fraction) → AreClear low high u.num u.den → SetsNoneUpTo low high u bound
 unfolding Allows
 none_of_ended low high u bound clear =
-    none_of_allowed low high u bound (λ s scale a b over. clear.2 s (let ends : IsLess s u = b.1 in let above : IsLess u clear.0 = clear.1 in let past : IsLess s clear.0 = less_trans s u clear.0 ends above in omega (arith, past)) over)
+    none_of_allowed low high u bound (λ s scale a b over. clear.2 s (let ends : IsLess s u = b.1 in let above : IsLess u clear.0 = clear.1 in
+    let past : IsLess s clear.0 = less_trans s u clear.0 ends above in omega (arith, past)) over)
 
 -- a label that ends where it begins sets no limit
 pub none_of_idle : (low high : Label) (u bound : Fraction) → IsAtMost u (value_of high.min) → SetsNoneUpTo low high u bound
 unfolding Allows
 none_of_idle low high u bound idle =
-    none_of_allowed low high u bound (λ s scale a b over. let begun : IsAtMost (value_of high.min) s = b.0 in let ends : IsLess s u = b.1 in let past = less_at_most s u (value_of high.min) ends idle in absurd (omega arith))
+    none_of_allowed low high u bound (λ s scale a b over. let begun : IsAtMost (value_of high.min) s = b.0 in
+    let ends : IsLess s u = b.1 in let past = less_at_most s u (value_of high.min) ends idle in absurd (omega arith))
 
 -- a bound up to which no limit is set is allowed
 pub allowed_up_to : (low high : Label) (u bound : Fraction) → IsAtMost bound (value_of low.max) → SetsNoneUpTo low high u bound → Allows low high u bound

@@ -120,7 +120,8 @@ begins_like K M start u bound f same b =
     }
 
 -- a union begins where the first of its two parts begins
-pub begins_union : (K M N : Fraction → Type 0) (start u bound f g : Fraction) → ((s : Fraction) → N s → K s ⊎ M s) → ((s : Fraction) → K s → N s) → ((s : Fraction) → M s → N s) → Begins K start u bound f → Begins M start u f g → Begins N start u bound g
+pub begins_union : (K M N : Fraction → Type 0) (start u bound f g : Fraction) → ((s : Fraction) → N s → K s ⊎ M s) →
+    ((s : Fraction) → K s → N s) → ((s : Fraction) → M s → N s) → Begins K start u bound f → Begins M start u f g → Begins N start u bound g
 unfolding Clear Covers
 begins_union K M N start u bound f g split left right one two =
     record {
@@ -169,7 +170,10 @@ half_line (negsuc k) (pos zero) = (Some (record { num = 0; den = 1; positive = l
 half_line (pos k) (pos (suc m)) = (Some (record { num = k; den = suc m; positive = omega arith }, None), λ s scale. (λ h. (omega (arith, ints), tt), λ h. omega (arith, ints)))
 half_line (negsuc k) (pos (suc m)) = (Some (record { num = 0; den = 1; positive = lit< tt }, None), λ s scale. (λ h. (omega arith, tt), λ h. omega (arith, ints)))
 half_line (pos k) (negsuc m) = (None, λ s scale. (λ h. omega (arith, ints), λ h. absurd h))
-half_line (negsuc k) (negsuc m) = (Some (record { num = 0; den = 1; positive = lit< tt }, Some (record { num = suc k; den = suc m; positive = omega arith })), λ s scale. (λ h. (omega arith, omega (arith, ints)), λ h. omega (arith, ints)))
+half_line (negsuc k) (negsuc m) = (
+  Some (record { num = 0; den = 1; positive = lit< tt }, Some (record { num = suc k; den = suc m; positive = omega arith })),
+  λ s scale. (λ h. (omega arith, omega (arith, ints)), λ h. omega (arith, ints)),
+)
 
 -- both of two open intervals
 meet_ends : (a b : Option Fraction) → (o : Option Fraction) × ((s : Fraction) → IsUnder o s → IsUnder a s × IsUnder b s) × ((s : Fraction) → IsUnder a s → IsUnder b s → IsUnder o s)

@@ -41,13 +41,15 @@ pub greedy_longest : (labels : List Label) (c : Choice) → ((i : ℕ) → i < l
 greedy_longest labels c least = own_longest labels c (λ i in'. own_of_least labels c i (least i in'))
 
 -- in a conflict-free choice a label below its maximum is blocked by just those before it whose limit is its end
-pub blocks_limit : (labels : List Label) (c : Choice) (j i : ℕ) (d : Label) → IsEnd (get_or labels i d) (c i) → Allows (get_or labels i d) (get_or labels j d) (c j) (c i) → Blocks labels c j i → IsLimit (get_or labels i d) (get_or labels j d) (c j) (c i)
+pub blocks_limit : (labels : List Label) (c : Choice) (j i : ℕ) (d : Label) → IsEnd (get_or labels i d) (c i) →
+    Allows (get_or labels i d) (get_or labels j d) (c j) (c i) → Blocks labels c j i → IsLimit (get_or labels i d) (get_or labels j d) (c j) (c i)
 blocks_limit labels c j i d is_end allowed blocks =
     let b = blocks d in
     limit_of_covers (get_or labels i d) (get_or labels j d) (c j) (c i) is_end allowed (λ _. b.2)
 
 -- a label before it that sets a limit at its end, below its maximum, blocks it
-pub limit_blocks : (labels : List Label) (c : Choice) (j i : ℕ) → j < i → ((d : Label) → IsLess (c i) (value_of (get_or labels i d).max)) → ((d : Label) → IsLimit (get_or labels i d) (get_or labels j d) (c j) (c i)) → Blocks labels c j i
+pub limit_blocks : (labels : List Label) (c : Choice) (j i : ℕ) → j < i → ((d : Label) → IsLess (c i) (value_of (get_or labels i d).max)) →
+    ((d : Label) → IsLimit (get_or labels i d) (get_or labels j d) (c j) (c i)) → Blocks labels c j i
 limit_blocks labels c j i lt below limit d = (lt, below d, covers_of_limit (get_or labels i d) (get_or labels j d) (c j) (c i) (limit d) (below d))
 
 -- what is the longest choice is made of own ends
@@ -107,9 +109,15 @@ longest_own labels c longest i in' =
 
 -- a certificate
 -- an end that is allowed, and that is blocked where it is below the maximum, is the label's own
-pub own_of_blocked : (labels : List Label) (c : Choice) (i : ℕ) → i < length labels → ((d : Label) → IsEnd (get_or labels i d) (c i)) → ((j : ℕ) (d : Label) → j < i → Allows (get_or labels i d) (get_or labels j d) (c j) (c i)) → ((d : Label) → IsSame (c i) (value_of (get_or labels i d).max)) ⊎ ((j : ℕ) × Blocks labels c j i) → IsOwnEnd labels c i
+pub own_of_blocked : (labels : List Label) (c : Choice) (i : ℕ) → i < length labels → ((d : Label) → IsEnd (get_or labels i d) (c i)) →
+    ((j : ℕ) (d : Label) → j < i → Allows (get_or labels i d) (get_or labels j d) (c j) (c i)) →
+    ((d : Label) → IsSame (c i) (value_of (get_or labels i d).max)) ⊎ ((j : ℕ) × Blocks labels c j i) → IsOwnEnd labels c i
 own_of_blocked labels c i in' is_end allowed (inl same) =
-    record { is_end = is_end; allowed = allowed; greatest = λ e e_end all. let a : Label = pick labels i in' in at_most_trans e (value_of (get_or labels i a).max) (c i) (e_end a).1 (let s = same a in omega arith) }
+    record {
+      is_end = is_end;
+      allowed = allowed;
+      greatest = λ e e_end all. let a : Label = pick labels i in' in at_most_trans e (value_of (get_or labels i a).max) (c i) (e_end a).1 (let s = same a in omega arith);
+    }
 own_of_blocked labels c i in' is_end allowed (inr (j, blocks)) =
     record {
       is_end = is_end;

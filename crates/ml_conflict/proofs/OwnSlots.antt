@@ -20,7 +20,9 @@ module _ (number : ℕ → ℕ) (labels : List Label) (slots : List Slot) where
           greatest = λ e e_end h. let d : Label = pick labels i in' in (all.own d i in').greatest e (e_end d) (λ j lt. h j d lt);
         }
 
-    blocker_of : (i : ℕ) → i < length labels → (b : Option ℕ) → ((d : Label) → MatchOption b (IsSame (ends slots i) (value_of (get_or labels i d).max)) (λ n. IsLess (ends slots i) (value_of (get_or labels i d).max) × IsFirstAt (row number labels slots d) (λ j. j < i) (get_or labels i d) (ends slots i) n)) → IsBlockerBy number labels (ends slots) i b
+    blocker_of : (i : ℕ) → i < length labels → (b : Option ℕ) → ((d : Label) → MatchOption b (IsSame (ends slots i) (value_of (get_or labels i d).max))
+        (λ n. IsLess (ends slots i) (value_of (get_or labels i d).max) × IsFirstAt (row number labels slots d) (λ j. j < i) (get_or labels i d) (ends slots i) n)) →
+        IsBlockerBy number labels (ends slots) i b
     blocker_of i in' None h = h
     blocker_of i in' (Some n) h =
         let a : Label = pick labels i in' in
@@ -48,7 +50,9 @@ module _ (number : ℕ → ℕ) (labels : List Label) (slots : List Slot) where
 
   -- and the other way round
   module _ (are : AreSlots number labels slots) where
-    setter_of : (d : Label) (i : ℕ) → i < length labels → (b : Option ℕ) → IsBlockerBy number labels (ends slots) i b → MatchOption b (IsSame (ends slots i) (value_of (get_or labels i d).max)) (λ n. IsLess (ends slots i) (value_of (get_or labels i d).max) × IsFirstAt (row number labels slots d) (λ j. j < i) (get_or labels i d) (ends slots i) n)
+    setter_of : (d : Label) (i : ℕ) → i < length labels → (b : Option ℕ) → IsBlockerBy number labels (ends slots) i b →
+        MatchOption b (IsSame (ends slots i) (value_of (get_or labels i d).max))
+        (λ n. IsLess (ends slots i) (value_of (get_or labels i d).max) × IsFirstAt (row number labels slots d) (λ j. j < i) (get_or labels i d) (ends slots i) n)
     setter_of d i in' None h = h d
     setter_of d i in' (Some n) h =
         let own = longest_own labels (ends slots) are.longest i in' in
@@ -61,7 +65,8 @@ module _ (number : ℕ → ℕ) (labels : List Label) (slots : List Slot) where
             its_number = h.1;
             sets = blocks_limit labels (ends slots) h.0 i d (own.is_end d) (own.allowed h.0 d lt) h.2;
             first = λ k less l limit.
-                h.3 k less (limit_blocks labels (ends slots) k i l below (λ e. let k_in : k < length labels = omega arith in rw (get_or_default labels i e d in', get_or_default labels k e d k_in) limit));
+                h.3 k less (limit_blocks labels (ends slots) k i l below
+                (λ e. let k_in : k < length labels = omega arith in rw (get_or_default labels i e d in', get_or_default labels k e d k_in) limit));
           },
         )
 
@@ -76,7 +81,8 @@ module _ (number : ℕ → ℕ) (labels : List Label) (slots : List Slot) where
                 is_end = own.is_end d;
                 allowed = λ j lt. own.allowed j d lt;
                 greatest = λ e e_end h.
-                    own.greatest e (λ a. rw (get_or_default labels i a d in') e_end) (λ j a lt. let j_in : j < length labels = omega arith in rw (get_or_default labels i a d in', get_or_default labels j a d j_in) (h j lt));
+                    own.greatest e (λ a. rw (get_or_default labels i a d in') e_end)
+                    (λ j a lt. let j_in : j < length labels = omega arith in rw (get_or_default labels i a d in', get_or_default labels j a d j_in) (h j lt));
                 setter = setter_of d i in' (get_or slots i no_slot).blocker (are.blockers i in');
               };
         }

@@ -50,7 +50,8 @@ south_parted spots y rising i j d le lt south =
 -- ---- one spot more
 
 -- what lies in order stays so where one more is put between what lies before it and what lies behind it
-pairs_insert : (R : Spot → Spot → Type 0) (spots : List Spot) (at : ℕ) (spot : Spot) → at ≤ length spots → AllPairs R spots → AllWithin (λ s. R s spot) spots 0 at → AllWithin (λ s. R spot s) spots at (length spots) → AllPairs R (insert spots at spot)
+pairs_insert : (R : Spot → Spot → Type 0) (spots : List Spot) (at : ℕ) (spot : Spot) → at ≤ length spots → AllPairs R spots →
+    AllWithin (λ s. R s spot) spots 0 at → AllWithin (λ s. R spot s) spots at (length spots) → AllPairs R (insert spots at spot)
 pairs_insert R spots at spot in' pairs before behind i j d less lt =
     let long = length-insert spots at spot in' in
     elim (cases_order j at) [
@@ -81,12 +82,14 @@ pairs_insert R spots at spot in' pairs before behind i j d less lt =
 
 module _ (labels : List Label) (spots : List Spot) (area next : Area) (at : ℕ) (spot : Spot) (in' : at ≤ length spots) where
   -- a spot put behind those to its south and before all others makes a strip, in an area that holds its label as well
-  pub put_strip : IsStripOf labels spots area → IsSpotOf labels spot → AllWithin (λ s. s.y <ℤ spot.y) spots 0 at → AllWithin (λ s. spot.y ≤ℤ s.y) spots at (length spots) → ((a : Label) → IsInArea a area → IsInArea a next) → ((d : Label) → IsInArea (get_or labels spot.place d) next) →
-      IsStripOf labels (insert spots at spot) next
+  pub put_strip : IsStripOf labels spots area → IsSpotOf labels spot → AllWithin (λ s. s.y <ℤ spot.y) spots 0 at →
+      AllWithin (λ s. spot.y ≤ℤ s.y) spots at (length spots) → ((a : Label) → IsInArea a area → IsInArea a next) →
+      ((d : Label) → IsInArea (get_or labels spot.place d) next) → IsStripOf labels (insert spots at spot) next
   put_strip strip is south north stays comes = record {
     good = All-permutation (IsSpotOf labels) (spot ∷ spots) (insert spots at spot) (IsPermutation-insert spots at spot) (All-cons (IsSpotOf labels) spot spots is strip.good);
     rising = pairs_insert (λ a b. a.y ≤ℤ b.y) spots at spot in' strip.rising (λ k d from lt. let less = south k d from lt in omega (arith, ints)) north;
-    held = All-permutation Held (spot ∷ spots) (insert spots at spot) (IsPermutation-insert spots at spot) (All-cons Held spot spots comes (λ k d lt. λ e. stays (get_or labels (get_or spots k d).place e) (strip.held k d lt e)));
+    held = All-permutation Held (spot ∷ spots) (insert spots at spot) (IsPermutation-insert spots at spot)
+        (All-cons Held spot spots comes (λ k d lt. λ e. stays (get_or labels (get_or spots k d).place e) (strip.held k d lt e)));
   }
     where
       Held : Spot → Type 0

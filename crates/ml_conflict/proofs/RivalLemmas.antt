@@ -41,6 +41,7 @@ rivals_or_free low high =
     ]
 
 -- one label limits another, at its own maximum, just where they are rivals
-pub rivals_of_block : (low high : Label) (o : Option Ratio) → IfSome o (λ f. IsLimit low high (value_of high.max) (value_of f) × IsLess (value_of f) (value_of low.max)) → IfNone o (Allows low high (value_of high.max) (value_of low.max)) → IsTrue (is_some o) ↔ AreRivals low high
+pub rivals_of_block : (low high : Label) (o : Option Ratio) → IfSome o (λ f. IsLimit low high (value_of high.max) (value_of f) × IsLess (value_of f) (value_of low.max)) →
+    IfNone o (Allows low high (value_of high.max) (value_of low.max)) → IsTrue (is_some o) ↔ AreRivals low high
 rivals_of_block low high None some none = (λ t. absurd (let e : false ≡ true = t in cc), λ r. absurd (apart_of_allows low high none r))
 rivals_of_block low high (Some f) some none = (λ t. rivals_of_limit low high (value_of f) some.0 some.1, λ r. refl)

@@ -31,7 +31,8 @@ written_none labels spots = record {
 }
 
 -- what holds at each place that was written holds still where one more is written for which it holds
-place_more : (P : ℕ → Spot → Type 0) (spots : List Spot) (i : ℕ) (spot : Spot) → i < length spots → ((k : ℕ) (d : Spot) → k < i → P k (get_or spots k d)) → P i spot → (k : ℕ) (d : Spot) → k < i + 1 → P k (get_or (set spots i spot) k d)
+place_more : (P : ℕ → Spot → Type 0) (spots : List Spot) (i : ℕ) (spot : Spot) → i < length spots →
+    ((k : ℕ) (d : Spot) → k < i → P k (get_or spots k d)) → P i spot → (k : ℕ) (d : Spot) → k < i + 1 → P k (get_or (set spots i spot) k d)
 place_more P spots i spot in' before here k d lt =
     elim (cases_lt k i) [
       | inl less ↦ let other : k ≢ i = omega arith in subst (P k) (sym (get_or-set_other spots i k spot d other)) (before k d less)
@@ -41,7 +42,8 @@ place_more P spots i spot in' before here k d lt =
     ]
 
 -- with the next label's spot written at its place, those of all labels up to it stand there
-pub written_more : (labels : List Label) (i : ℕ) (spots : List Spot) (spot : Spot) → i < length spots → AreWritten labels i spots → IsSpotOf labels spot → spot.place ≡ i → AreWritten labels (i + 1) (set spots i spot)
+pub written_more : (labels : List Label) (i : ℕ) (spots : List Spot) (spot : Spot) → i < length spots →
+    AreWritten labels i spots → IsSpotOf labels spot → spot.place ≡ i → AreWritten labels (i + 1) (set spots i spot)
 written_more labels i spots spot in' so_far is at = record {
   good = place_more (λ k s. IsSpotOf labels s) spots i spot in' so_far.good is;
   its_place = place_more (λ k s. s.place ≡ k) spots i spot in' so_far.its_place at;
@@ -58,7 +60,8 @@ not_less y x h =
     (λ most. most)
 
 -- the spots of all labels, sorted from west to east, are a field, where no label reaches further than the field says
-pub field_of : (labels : List Label) (spots sorted : List Spot) (reach : ℕ) → length spots ≡ length labels → AreWritten labels (length labels) spots → All (λ a. Reaches Across a reach) labels → reach ≤ 576 → IsPermutation spots sorted → IsSortedBy (λ p q. is_lt (int_cmp p.x q.x)) sorted → IsFieldOf labels sorted reach
+pub field_of : (labels : List Label) (spots sorted : List Spot) (reach : ℕ) → length spots ≡ length labels → AreWritten labels (length labels) spots →
+    All (λ a. Reaches Across a reach) labels → reach ≤ 576 → IsPermutation spots sorted → IsSortedBy (λ p q. is_lt (int_cmp p.x q.x)) sorted → IsFieldOf labels sorted reach
 field_of labels spots sorted reach all written reaches low same up = record {
   good = All-permutation (IsSpotOf labels) spots sorted same (λ k d lt. written.good k d (omega arith));
   each = λ j lt.
@@ -67,7 +70,8 @@ field_of labels spots sorted reach all written reaches low same up = record {
       let spot = get_or spots j d in
       (spot, Contains-permutation spots sorted spot same (j, there, get_or_default spots j spot d there), written.its_place j d lt);
   rising = λ k m d less lt.
-      not_less (get_or sorted m d).x (get_or sorted k d).x (sorted_far (λ (p : Spot) (q : Spot). is_lt (int_cmp p.x q.x)) (ranks_by int_cmp_total (λ (p : Spot). p.x)) sorted up k m d (omega arith) lt);
+      not_less (get_or sorted m d).x (get_or sorted k d).x
+      (sorted_far (λ (p : Spot) (q : Spot). is_lt (int_cmp p.x q.x)) (ranks_by int_cmp_total (λ (p : Spot). p.x)) sorted up k m d (omega arith) lt);
   reaches = reaches;
   low = low;
 }

@@ -13,7 +13,8 @@ module _ {X : Type 0} (P : X → Fraction → Type 0) (xs : List X) (start u bou
   loop_none ok = none_bound (λ s. Any (λ x. P x s) (take 0 xs)) start u bound ok (λ s scale p q (k, x, lt, e, h). omega (arith, length-take 0 xs))
 
   -- where the next part begins, looked for below where those so far begin, is where the union with it begins
-  pub loop_more : (ys : List X) (i : ℕ) (d : X) (f g : Fraction) → ys ≡ xs → i < length ys → Begins (λ s. Any (λ x. P x s) (take i xs)) start u bound f → Begins (P (get_or ys i d)) start u f g → Begins (λ s. Any (λ x. P x s) (take (i + 1) xs)) start u bound g
+  pub loop_more : (ys : List X) (i : ℕ) (d : X) (f g : Fraction) → ys ≡ xs → i < length ys → Begins (λ s. Any (λ x. P x s) (take i xs)) start u bound f →
+      Begins (P (get_or ys i d)) start u f g → Begins (λ s. Any (λ x. P x s) (take (i + 1) xs)) start u bound g
   loop_more ys i d f g same lt one two =
       let in' : i < length xs = rw (← same) lt in
       let two' : Begins (P (get_or xs i d)) start u f g = rw (← same) two in

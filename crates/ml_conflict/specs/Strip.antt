@@ -1,7 +1,9 @@
 -- Labels in strips of the world.
-use Rattle.std.specs.Prelude.{ℕ, ◌<◌, ◌≤◌, ◌≤ℤ◌, All, AllPairs, List, length, slice_index_or}
+use Rattle.std.specs.Prelude.{ℕ, ◌+◌, ◌*◌, ◌<◌, ◌≤◌, ◌≤ℤ◌, All, AllPairs, List, length, slice_index_or}
 use Rattle.ml_cone.specs.declared.label.Label.{Label}
+use Rattle.ml_ratio.specs.Fraction.{Fraction}
 use Rattle.ml_conflict.specs.Area.{IsInArea}
+use Rattle.ml_conflict.specs.Begin.{SetsNoneUpTo}
 use Rattle.ml_conflict.specs.Field.{IsSpotOf, HasSpot}
 use Rattle.ml_conflict.specs.declared.area.Area.{Area}
 use Rattle.ml_conflict.specs.declared.spot.Spot.{Spot}
@@ -24,3 +26,12 @@ SeesStrip strips from until j = (k : ℕ) × (from ≤ k) × (k < until) × ((d 
 -- one of the strips has the spot of the label at j
 abbrev pub HasPlace : List Strip → ℕ → Type 0
 HasPlace strips j = SeesStrip strips 0 (length strips) j
+
+-- each area holds what lies in eight strips that stand beside one another, of those that have a spot
+abbrev pub AreBlocks : List Strip → List Area → Type 0
+AreBlocks strips blocks = (b k : ℕ) (e : Area) (d : Strip) (j : ℕ) (a : Label) → b < length blocks → b * 8 ≤ k → k < b * 8 + 8 → k < length strips →
+    HasSpot (slice_index_or strips k d).spots.items j → IsInArea a (slice_index_or strips k d).area → IsInArea a (slice_index_or blocks b e)
+
+-- no label that has its spot in one of the strips from one until another sets a label in the area a limit up to the bound
+abbrev pub AreAway : List Label → List Strip → ℕ → ℕ → Area → Fraction → Type 0
+AreAway labels strips from until area bound = (low : Label) (j : ℕ) (u : Fraction) → IsInArea low area → SeesStrip strips from until j → SetsNoneUpTo low (slice_index_or labels j low) u bound

@@ -52,8 +52,10 @@ impl Side {
 
     // What both take.
     fn with(&self, other: &Side) -> Side
-        ensures first { (axis : AnAxis) (a : ALabel) → IsOnSide axis a self.now → IsOnSide axis a result }
-        ensures second { (axis : AnAxis) (a : ALabel) → IsOnSide axis a other.now → IsOnSide axis a result }
+        ensures first { (axis : AnAxis) (a : ALabel) →
+            IsOnSide axis a self.now → IsOnSide axis a result }
+        ensures second { (axis : AnAxis) (a : ALabel) →
+            IsOnSide axis a other.now → IsOnSide axis a result }
     {
         Side {
             from: least(self.from, other.from),
@@ -64,7 +66,8 @@ impl Side {
 
     // Whether the two are so far apart that no label on the one sets a label on the other a limit up to the bound.
     fn is_away(&self, other: &Side, bound: &Ratio) -> bool
-        ensures { IsTrue result → (axis : AnAxis) (low high : ALabel) (u : Fraction) → IsOnSide axis low self.now → IsOnSide axis high other.now →
+        ensures { IsTrue result → (axis : AnAxis) (low high : ALabel) (u : Fraction) →
+            IsOnSide axis low self.now → IsOnSide axis high other.now →
             SetsNoneUpTo low high u (value_of bound.now) }
     {
         let pixels = (self.reach + other.reach) as u64;
@@ -131,7 +134,8 @@ impl Area {
 
     /// Whether the two are so far apart that no label in the one sets a label in the other a limit up to the bound.
     pub fn is_away(&self, other: &Area, bound: &Ratio) -> bool
-        ensures { IsTrue result → (low high : ALabel) (u : Fraction) → IsInArea low self.now → IsInArea high other.now →
+        ensures { IsTrue result → (low high : ALabel) (u : Fraction) →
+            IsInArea low self.now → IsInArea high other.now →
             SetsNoneUpTo low high u (value_of bound.now) }
     {
         self.across.is_away(&other.across, bound) || self.along.is_away(&other.along, bound)

@@ -13,7 +13,8 @@ use ml_cone::{BoxPx, Label};
 
 // The smaller of `until` and the end, if there is one.
 fn stop(until: Quotient, end: Option<Quotient>) -> Quotient
-    ensures { (s : Fraction) → IsLess s (worth result) ↔ (IsLess s (worth until) × IsUnder worth end s) }
+    ensures { (s : Fraction) →
+        IsLess s (worth result) ↔ (IsLess s (worth until) × IsUnder worth end s) }
 {
     match end {
         Some(h) => until.smaller(h),
@@ -24,7 +25,8 @@ fn stop(until: Quotient, end: Option<Quotient>) -> Quotient
 // Where the interval begins, from `start` on, below `until` and `best`; `best` if it does not.
 fn begin_one(start: Quotient, until: Quotient, best: Quotient, between: Option<Between>) -> Quotient
     requires { IsAtMost (worth start) (worth best) }
-    ensures { Begins (LiesIn worth between) (worth start) (worth until) (worth best) (worth result) }
+    ensures { Begins (LiesIn worth between) (worth start)
+        (worth until) (worth best) (worth result) }
 {
     match between {
         None => best,
@@ -52,7 +54,8 @@ fn begin_row(
 ) -> Quotient
     requires in_order { IsAtMost (worth start) (worth best) }
     requires p_is_box { IsBox p.now.l p.now.b p.now.r p.now.t }
-    ensures { Begins (λ s. BoxOverlaps low.now p.now high.now s) (worth start) (worth until) (worth best) (worth result) }
+    ensures { Begins (λ s. BoxOverlaps low.now p.now high.now s)
+        (worth start) (worth until) (worth best) (worth result) }
 {
     let mut first = best;
     for q in high.boxes().as_slice() {
@@ -71,7 +74,8 @@ pub fn begin_all(
     high: &Label,
 ) -> Quotient
     requires { IsAtMost (worth start) (worth best) }
-    ensures { Begins (λ s. Overlap low.now high.now s) (worth start) (worth until) (worth best) (worth result) }
+    ensures { Begins (λ s. Overlap low.now high.now s)
+        (worth start) (worth until) (worth best) (worth result) }
 {
     let mut first = best;
     for p in low.boxes().as_slice() {

@@ -22,7 +22,8 @@ pub type Between = (Quotient, Option<Quotient>);
 fn half_line(u: i64, v: i64) -> Option<Between>
     requires u_small { unsigned_abs u ≤ 4000000000 }
     requires v_small { unsigned_abs v ≤ 1152 }
-    ensures scales { (s : Fraction) → IsScale s → ((u *ℤ pos s.den) <ℤ (v *ℤ pos s.num)) ↔ LiesIn worth result s }
+    ensures scales { (s : Fraction) → IsScale s →
+        ((u *ℤ pos s.den) <ℤ (v *ℤ pos s.num)) ↔ LiesIn worth result s }
     ensures low { HasLowEnds result }
 {
     let far = u.unsigned_abs();
@@ -45,7 +46,8 @@ fn half_line(u: i64, v: i64) -> Option<Between>
 
 // The nearer of two upper ends.
 fn nearer(a: Option<Quotient>, b: Option<Quotient>) -> Option<Quotient>
-    ensures same { (s : Fraction) → IsUnder worth result s ↔ (IsUnder worth a s × IsUnder worth b s) }
+    ensures same { (s : Fraction) →
+        IsUnder worth result s ↔ (IsUnder worth a s × IsUnder worth b s) }
     ensures low { IfSome a IsLow → IfSome b IsLow → IfSome result IsLow }
 {
     match (a, b) {
@@ -57,7 +59,8 @@ fn nearer(a: Option<Quotient>, b: Option<Quotient>) -> Option<Quotient>
 
 // The scales in both intervals.
 fn meet(a: Between, b: Between) -> Between
-    ensures same { (s : Fraction) → LiesBetween worth result s ↔ (LiesBetween worth a s × LiesBetween worth b s) }
+    ensures same { (s : Fraction) →
+        LiesBetween worth result s ↔ (LiesBetween worth a s × LiesBetween worth b s) }
     ensures low { BothAre IsLow a → BothAre IsLow b → BothAre IsLow result }
 {
     (a.0.larger(b.0), nearer(a.1, b.1))
@@ -108,7 +111,8 @@ fn sides(x: i64, l: i32, r: i32, y: i64, k: i32, t: i32) -> Option<Between>
 fn rectangles_interval(a: &Label, p: &BoxPx, b: &Label, q: &BoxPx) -> Option<Between>
     requires p_is_wide { IsWideBox p.now.l p.now.b p.now.r p.now.t }
     requires q_is_wide { IsWideBox q.now.l q.now.b q.now.r q.now.t }
-    ensures scales { (s : Fraction) → IsScale s → RectanglesMeet a.now p.now b.now q.now s ↔ LiesIn worth result s }
+    ensures scales { (s : Fraction) → IsScale s →
+        RectanglesMeet a.now p.now b.now q.now s ↔ LiesIn worth result s }
     ensures room { IfSome result (LeavesRoom worth) }
     ensures low { HasLowEnds result }
 {
@@ -124,7 +128,8 @@ fn rectangles_interval(a: &Label, p: &BoxPx, b: &Label, q: &BoxPx) -> Option<Bet
 pub fn boxes_interval(a: &Label, p: &BoxPx, b: &Label, q: &BoxPx) -> Option<Between>
     requires p_is_box { IsBox p.now.l p.now.b p.now.r p.now.t }
     requires q_is_box { IsBox q.now.l q.now.b q.now.r q.now.t }
-    ensures scales { (s : Fraction) → IsScale s → BoxesOverlap a.now p.now b.now q.now s ↔ LiesIn worth result s }
+    ensures scales { (s : Fraction) → IsScale s →
+        BoxesOverlap a.now p.now b.now q.now s ↔ LiesIn worth result s }
     ensures room { IfSome result (LeavesRoom worth) }
     ensures low { HasLowEnds result }
 {
@@ -152,7 +157,8 @@ pub fn interval(a: &Label, i: usize, b: &Label, j: usize) -> Option<(Ratio, Opti
     requires i_is_box { i < length a.now.boxes }
     requires j_is_box { j < length b.now.boxes }
     ensures scales { (d : BoxPx) (s : Fraction) → IsScale s →
-        BoxesOverlap a.now (slice_index_or a.now.boxes i d) b.now (slice_index_or b.now.boxes j d) s ↔ LiesIn value_of result s }
+        BoxesOverlap a.now (slice_index_or a.now.boxes i d) b.now (slice_index_or b.now.boxes j d) s
+        ↔ LiesIn value_of result s }
     ensures room { IfSome result (LeavesRoom value_of) }
     ensures low { IfSome result (BothAre (λ end. AreLowParts end.num end.den)) }
 {

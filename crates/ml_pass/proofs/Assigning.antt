@@ -22,10 +22,12 @@ assigned_none labels slots empty = record { one_each = ap length empty; own = λ
 
 -- a label has the same slot among the same rivals at the same places
 abbrev pub LikeRivals : Type 0
-LikeRivals = (low : Label) (rivals others : ℕ → Rival) (n : ℕ) → ((j : ℕ) → j < n → rivals j ≡ others j) → (slot : Slot) → IsOwnSlot rivals (λ j. j < n) low slot → IsOwnSlot others (λ j. j < n) low slot
+LikeRivals = (low : Label) (rivals others : ℕ → Rival) (n : ℕ) → ((j : ℕ) → j < n → rivals j ≡ others j) →
+    (slot : Slot) → IsOwnSlot rivals (λ j. j < n) low slot → IsOwnSlot others (λ j. j < n) low slot
 
 -- with the next label's own slot behind the others, the labels up to it have their own slots
-pub assigned_more : LikeRivals → (labels : List Label) (i : ℕ) (slots : List Slot) (s : Slot) (b : Label) → i < length labels → b ≡ get_or labels i b → Assigned labels i slots → IsOwnSlot (rivals_in labels slots b) (λ j. j < length slots) b s → Assigned labels (i + 1) (slots ++ s ∷ [])
+pub assigned_more : LikeRivals → (labels : List Label) (i : ℕ) (slots : List Slot) (s : Slot) (b : Label) → i < length labels → b ≡ get_or labels i b →
+    Assigned labels i slots → IsOwnSlot (rivals_in labels slots b) (λ j. j < length slots) b s → Assigned labels (i + 1) (slots ++ s ∷ [])
 assigned_more like labels i slots s b in' at so_far own =
     let n : length slots ≡ i = so_far.one_each in
     let more = slots ++ s ∷ [] in
@@ -59,7 +61,8 @@ pub held_none : (labels : List Label) (slots : List Slot) (strips : List Strip) 
 held_none labels slots strips empty j lt = let none = ap length empty in absurd (omega arith)
 
 -- one label more has a slot, and stands in a strip unless it is empty
-pub held_more : (labels : List Label) (slots : List Slot) (strips more : List Strip) (s : Slot) (place : ℕ) → place ≡ length slots → AreHeld labels slots strips → ((j : ℕ) → HasPlace strips j → HasPlace more j) →
+pub held_more : (labels : List Label) (slots : List Slot) (strips more : List Strip) (s : Slot) (place : ℕ) →
+    place ≡ length slots → AreHeld labels slots strips → ((j : ℕ) → HasPlace strips j → HasPlace more j) →
     HasPlace more place ⊎ ((d : Label) → IsAtMost (value_of s.until) (value_of (get_or labels place d).min)) → AreHeld labels (slots ++ s ∷ []) more
 held_more labels slots strips more s place at held kept here j lt =
     let long = length-append slots (s ∷ []) in

@@ -14,7 +14,7 @@ use Rattle.ml_conflict.specs.Area.{IsInArea}
 use Rattle.ml_conflict.specs.Begin.{SetsNoneUpTo}
 use Rattle.ml_conflict.specs.Enough.{AreEnough}
 use Rattle.ml_conflict.specs.Field.{HasSpot, IsBeyond, SeesSpot}
-use Rattle.ml_conflict.specs.Strip.{IsStripOf, SeesStrip}
+use Rattle.ml_conflict.specs.Strip.{IsStripOf, SeesStrip, AreAway}
 use Rattle.ml_conflict.specs.declared.area.Area.{Area}
 use Rattle.ml_conflict.specs.declared.spot.Spot.{Spot}
 use Rattle.ml_conflict.specs.declared.strip.Strip.{Strip}
@@ -27,14 +27,17 @@ module _ (labels : List Label) (slots : List Slot) (low : Label) (spots : List S
 
   module _ (at start : ℕ) (spot : Spot) (at_in : at < length spots) (its : spot ≡ get_or spots at spot) (bound : Fraction) (before during : List ℕ) where
     -- once the next spot to the south is looked at, the search has seen one spot more
-    pub south_more : (left : ℕ) (mid next : Fraction) (after : List ℕ) → left ≡ at + 1 → IsSearched low (rivals_in labels slots low) (length slots) (SeesSpot spots left start) bound mid before during → IsSearched low (rivals_in labels slots low) (length slots) (λ j. j ≡ spot.place) mid next during after →
+    pub south_more : (left : ℕ) (mid next : Fraction) (after : List ℕ) → left ≡ at + 1 →
+        IsSearched low (rivals_in labels slots low) (length slots) (SeesSpot spots left start) bound mid before during →
+        IsSearched low (rivals_in labels slots low) (length slots) (λ j. j ≡ spot.place) mid next during after →
         IsSearched low (rivals_in labels slots low) (length slots) (SeesSpot spots at start) bound next before after
     south_more left mid next after e one two =
         searched_more low (rivals_in labels slots low) (length slots) (SeesSpot spots left start) (λ j. j ≡ spot.place) (SeesSpot spots at start) bound mid next before during after one two
         (strips.south_more labels low spots area strip at start spot at_in its left e)
 
     -- once the next spot to the north is looked at, the search has seen one spot more
-    pub north_more : (mid next : Fraction) (after : List ℕ) → IsSearched low (rivals_in labels slots low) (length slots) (SeesSpot spots start at) bound mid before during → IsSearched low (rivals_in labels slots low) (length slots) (λ j. j ≡ spot.place) mid next during after →
+    pub north_more : (mid next : Fraction) (after : List ℕ) → IsSearched low (rivals_in labels slots low) (length slots) (SeesSpot spots start at) bound mid before during →
+        IsSearched low (rivals_in labels slots low) (length slots) (λ j. j ≡ spot.place) mid next during after →
         IsSearched low (rivals_in labels slots low) (length slots) (SeesSpot spots start (at + 1)) bound next before after
     north_more mid next after one two =
         searched_more low (rivals_in labels slots low) (length slots) (SeesSpot spots start at) (λ j. j ≡ spot.place) (SeesSpot spots start (at + 1)) bound mid next before during after one two
@@ -42,29 +45,35 @@ module _ (labels : List Label) (slots : List Slot) (low : Label) (spots : List S
 
     module _ (own : Area) (in' : IsInArea low own) (next : Ratio) where
       -- where the next spot to the south lies too far away, it and all further south count as seen
-      pub south_far : (left : ℕ) → left ≡ at + 1 → start ≤ length spots → IsBeyond low.y spot.y (own.along.reach + area.along.reach) next → IsSearched low (rivals_in labels slots low) (length slots) (SeesSpot spots left start) bound (value_of next) before during →
+      pub south_far : (left : ℕ) → left ≡ at + 1 → start ≤ length spots → IsBeyond low.y spot.y (own.along.reach + area.along.reach) next →
+          IsSearched low (rivals_in labels slots low) (length slots) (SeesSpot spots left start) bound (value_of next) before during →
           IsSearched low (rivals_in labels slots low) (length slots) (SeesSpot spots 0 start) bound (value_of next) before during
       south_far left e start_in beyond one =
           searched_all low (rivals_in labels slots low) (length slots) (SeesSpot spots left start) (SeesSpot spots 0 start) bound (value_of next) before during one
           (λ j saw lt. strips.south_far labels low spots area strip at start spot at_in its own.along in'.along next (λ m. value_of (get_or slots m no_slot).until) left e start_in beyond j saw)
 
       -- where the next spot to the north lies too far away, it and all further north count as seen
-      pub north_far : IsBeyond spot.y low.y (own.along.reach + area.along.reach) next → IsSearched low (rivals_in labels slots low) (length slots) (SeesSpot spots start at) bound (value_of next) before during →
+      pub north_far : IsBeyond spot.y low.y (own.along.reach + area.along.reach) next →
+          IsSearched low (rivals_in labels slots low) (length slots) (SeesSpot spots start at) bound (value_of next) before during →
           IsSearched low (rivals_in labels slots low) (length slots) (SeesSpot spots start (length spots)) bound (value_of next) before during
       north_far beyond one =
           searched_all low (rivals_in labels slots low) (length slots) (SeesSpot spots start at) (SeesSpot spots start (length spots)) bound (value_of next) before during one
           (λ j saw lt. strips.north_far labels low spots area strip at start spot at_in its own.along in'.along next (λ m. value_of (get_or slots m no_slot).until) beyond j saw)
 
   -- no spot is left on either side
-  pub crossed : (left right : ℕ) (bound next : Fraction) (before after : List ℕ) → left ≡ 0 → length spots ≤ right → IsSearched low (rivals_in labels slots low) (length slots) (SeesSpot spots left right) bound next before after → IsSearched low (rivals_in labels slots low) (length slots) (HasSpot spots) bound next before after
+  pub crossed : (left right : ℕ) (bound next : Fraction) (before after : List ℕ) → left ≡ 0 → length spots ≤ right →
+      IsSearched low (rivals_in labels slots low) (length slots) (SeesSpot spots left right) bound next before after →
+      IsSearched low (rivals_in labels slots low) (length slots) (HasSpot spots) bound next before after
   crossed left right bound next before after none all one =
       searched_all low (rivals_in labels slots low) (length slots) (SeesSpot spots left right) (HasSpot spots) bound next before after one
       (λ j has lt. let saw = strips.sees_whole spots j has in inl (saw.0, omega arith, omega (arith, saw.2), saw.3))
 
   -- all of the strip is too far away
-  pub passed_over : (bound : Fraction) (places : List ℕ) → ((high : Label) (u : Fraction) → IsInArea high area → SetsNoneUpTo low high u bound) → IsSearched low (rivals_in labels slots low) (length slots) (HasSpot spots) bound bound places places
+  pub passed_over : (bound : Fraction) (places : List ℕ) → ((high : Label) (u : Fraction) → IsInArea high area → SetsNoneUpTo low high u bound) →
+      IsSearched low (rivals_in labels slots low) (length slots) (HasSpot spots) bound bound places places
   passed_over bound places none =
-      searched_none low (rivals_in labels slots low) (length slots) (HasSpot spots) bound places (λ j has lt. strips.none_away labels low spots area strip (λ m. value_of (get_or slots m no_slot).until) bound none j has)
+      searched_none low (rivals_in labels slots low) (length slots) (HasSpot spots) bound places
+      (λ j has lt. strips.none_away labels low spots area strip (λ m. value_of (get_or slots m no_slot).until) bound none j has)
 
 -- ---- by turns
 
@@ -78,14 +87,15 @@ module _ (low : Label) (rivals : ℕ → Rival) (n : ℕ) (P : ℕ → ℕ → T
   saw_none at bound places = searched_none low rivals n (Saw at at) bound places (λ j saw lt. absurd (omega (arith, saw.1, saw.2)))
 
   -- one place alone was seen
-  pub saw_one : (at until : ℕ) (bound next : Fraction) (before after : List ℕ) → until ≡ at + 1 → (seen : ℕ → Type 0) → ((j : ℕ) → P at j → seen j) → IsSearched low rivals n seen bound next before after → IsSearched low rivals n (Saw at until) bound next before after
+  pub saw_one : (at until : ℕ) (bound next : Fraction) (before after : List ℕ) → until ≡ at + 1 → (seen : ℕ → Type 0) → ((j : ℕ) → P at j → seen j) →
+      IsSearched low rivals n seen bound next before after → IsSearched low rivals n (Saw at until) bound next before after
   saw_one at until bound next before after e seen here one =
       searched_all low rivals n seen (Saw at until) bound next before after one
       (λ j saw lt. let same : saw.0 ≡ at = omega (arith, saw.1, saw.2) in inl (here j (subst (λ (k : ℕ). P k j) same saw.3)))
 
   -- some places more were seen on the one side
-  pub turn_left : (further left right : ℕ) (bound mid next : Fraction) (before during after : List ℕ) → IsSearched low rivals n (Saw left right) bound mid before during → IsSearched low rivals n (Saw further left) mid next during after →
-      IsSearched low rivals n (Saw further right) bound next before after
+  pub turn_left : (further left right : ℕ) (bound mid next : Fraction) (before during after : List ℕ) → IsSearched low rivals n (Saw left right) bound mid before during →
+      IsSearched low rivals n (Saw further left) mid next during after → IsSearched low rivals n (Saw further right) bound next before after
   turn_left further left right bound mid next before during after one two =
       searched_more low rivals n (Saw left right) (Saw further left) (Saw further right) bound mid next before during after one two
       (λ j saw. elim (cases_lt saw.0 left) [
@@ -94,8 +104,8 @@ module _ (low : Label) (rivals : ℕ → Rival) (n : ℕ) (P : ℕ → ℕ → T
       ])
 
   -- some more on the other
-  pub turn_right : (left right further : ℕ) (bound mid next : Fraction) (before during after : List ℕ) → IsSearched low rivals n (Saw left right) bound mid before during → IsSearched low rivals n (Saw right further) mid next during after →
-      IsSearched low rivals n (Saw left further) bound next before after
+  pub turn_right : (left right further : ℕ) (bound mid next : Fraction) (before during after : List ℕ) → IsSearched low rivals n (Saw left right) bound mid before during →
+      IsSearched low rivals n (Saw right further) mid next during after → IsSearched low rivals n (Saw left further) bound next before after
   turn_right left right further bound mid next before during after one two =
       searched_more low rivals n (Saw left right) (Saw right further) (Saw left further) bound mid next before during after one two
       (λ j saw. elim (cases_lt saw.0 right) [
@@ -115,9 +125,18 @@ LiesAt strips k j = (d : Strip) → HasSpot (get_or strips k d).spots.items j
 abbrev pub IdleLaw : Type 0
 IdleLaw = (low high : Label) (u bound : Fraction) → IsAtMost u (value_of high.min) → SetsNoneUpTo low high u bound
 
+-- strips that are too far away count as seen
+pub passed_strips : (labels : List Label) (slots : List Slot) (low : Label) (held : List Strip) (from until : ℕ) (area : Area) (bound : Fraction) (places : List ℕ) →
+    IsInArea low area → AreAway labels held from until area bound → IsSearched low (rivals_in labels slots low) (length slots) (SeesStrip held from until) bound bound places places
+passed_strips labels slots low held from until area bound places in' away =
+    searched_none low (rivals_in labels slots low) (length slots) (SeesStrip held from until) bound places
+    (λ j saw lt. away low j (value_of (get_or slots j no_slot).until) in' saw)
+
 -- no strip is left on either side
-pub gathered : IdleLaw → (labels : List Label) (slots : List Slot) (low : Label) (held : List Strip) → AreHeld labels slots held → (left right : ℕ) (bound next : Fraction) (before after : List ℕ) → left ≡ 0 → length held ≤ right →
-    IsSearched low (rivals_in labels slots low) (length slots) (SeesStrip held left right) bound next before after → IsSearched low (rivals_in labels slots low) (length slots) (λ j. j < length slots) bound next before after
+pub gathered : IdleLaw → (labels : List Label) (slots : List Slot) (low : Label) (held : List Strip) → AreHeld labels slots held →
+    (left right : ℕ) (bound next : Fraction) (before after : List ℕ) → left ≡ 0 → length held ≤ right →
+    IsSearched low (rivals_in labels slots low) (length slots) (SeesStrip held left right) bound next before after →
+    IsSearched low (rivals_in labels slots low) (length slots) (λ j. j < length slots) bound next before after
 gathered idle_law labels slots low held are left right bound next before after none all one =
     searched_all low (rivals_in labels slots low) (length slots) (SeesStrip held left right) (λ j. j < length slots) bound next before after one
     (λ j _ lt. elim (are j lt) [
@@ -126,7 +145,8 @@ gathered idle_law labels slots low held are left right bound next before after n
     ])
 
 -- what was found is enough
-pub enough_of : (low : Label) (rivals : ℕ → Rival) (n : ℕ) (bound : Fraction) (places sorted : List ℕ) → IsSearched low rivals n (λ j. j < n) (value_of low.max) bound [] places → IsPermutation places sorted → IsSorted nat_cmp sorted → AreEnough low rivals n bound sorted
+pub enough_of : (low : Label) (rivals : ℕ → Rival) (n : ℕ) (bound : Fraction) (places sorted : List ℕ) →
+    IsSearched low rivals n (λ j. j < n) (value_of low.max) bound [] places → IsPermutation places sorted → IsSorted nat_cmp sorted → AreEnough low rivals n bound sorted
 enough_of low rivals n bound places sorted searched same up = record {
   ascending = IsNonDecreasingBy-from_sort (λ (x : ℕ). x) sorted up;
   within = All-permutation (λ j. j < n) places sorted same (searched.within (All-nil (λ j. j < n)));

@@ -94,7 +94,8 @@ pub one_table : (bytes : List ℕ) (labels others : List Label) → IsTable byte
 one_table bytes labels others v w = first_same bytes labels others v.first w.first (v.every_line ∙ sym w.every_line)
 
 -- a line that writes one more of the labels is not at fault
-not_at_fault : (bytes : List ℕ) (labels others : List Label) (fault : TableFault) → AreFirst bytes labels → AreFirst bytes others → length labels < length others → fault ≢ Memory → IsFaultAfter bytes labels fault → ⊥
+not_at_fault : (bytes : List ℕ) (labels others : List Label) (fault : TableFault) → AreFirst bytes labels →
+    AreFirst bytes others → length labels < length others → fault ≢ Memory → IsFaultAfter bytes labels fault → ⊥
 not_at_fault bytes labels others (BadLine k) v w less some bad =
     let d = pick others (length labels) less in
     bad.no_row (get_or others (length labels) d) (w.written (length labels) less d)
@@ -169,7 +170,8 @@ one_fault bytes one other some more is are =
 -- ---- what an answer says is all that there is to say
 
 -- a table that has labels is read as those, unless memory is wanting
-pub reads_from : (bytes : List ℕ) (r : Result (List Label) TableFault) → IfOk r (λ labels. IsTable bytes labels) → IfErr r (λ fault. IsTableFault bytes fault) → (labels : List Label) → IsTable bytes labels → GivesTable r labels
+pub reads_from : (bytes : List ℕ) (r : Result (List Label) TableFault) → IfOk r (λ labels. IsTable bytes labels) →
+    IfErr r (λ fault. IsTableFault bytes fault) → (labels : List Label) → IsTable bytes labels → GivesTable r labels
 reads_from bytes (Ok others) ok err labels are = inl (ap Ok (one_table bytes others labels ok are))
 reads_from bytes (Err Memory) ok err labels are = inr refl
 reads_from bytes (Err (BadLine k)) ok err labels are = absurd (faultless bytes labels (BadLine k) are (λ e. cc e) err)
@@ -189,7 +191,8 @@ refused_as bytes given fault some more is = (
 )
 
 -- a table is refused with a fault, out of memory aside, exactly where that fault is what is wrong with it
-pub refused_from : (bytes : List ℕ) (r : Result (List Label) TableFault) → IfOk r (λ labels. IsTable bytes labels) → IfErr r (λ fault. IsTableFault bytes fault) → (fault : TableFault) → fault ≢ Memory → RefusesExactly r fault Memory (IsTableFault bytes fault)
+pub refused_from : (bytes : List ℕ) (r : Result (List Label) TableFault) → IfOk r (λ labels. IsTable bytes labels) →
+    IfErr r (λ fault. IsTableFault bytes fault) → (fault : TableFault) → fault ≢ Memory → RefusesExactly r fault Memory (IsTableFault bytes fault)
 refused_from bytes (Ok labels) ok err fault some = (λ e. absurd (cc e), λ is. absurd (faultless bytes labels fault ok some is))
 refused_from bytes (Err Memory) ok err fault some = (λ e. absurd (let same : Memory ≡ fault = cc e in some (sym same)), λ is. inr refl)
 refused_from bytes (Err (BadLine k)) ok err fault some = refused_as bytes (BadLine k) fault (λ e. cc e) some err

@@ -20,7 +20,8 @@ use Rattle.ml_cone.specs.declared.order.Order.{Order}
 use Rattle.ml_pass.specs.Row.{IsId, WritesBox, ReadsBox, WritesLabel, IsLabelWritten}
 
 -- a list of four
-pub four_parts : (items : List (Bor (List ℕ))) (d : Bor (List ℕ)) → 4 ≤ length items → length items < 5 → map (λ part. part.now) items ≡ (get_or items 0 d).now ∷ (get_or items 1 d).now ∷ (get_or items 2 d).now ∷ (get_or items 3 d).now ∷ []
+pub four_parts : (items : List (Bor (List ℕ))) (d : Bor (List ℕ)) → 4 ≤ length items → length items < 5 →
+    map (λ part. part.now) items ≡ (get_or items 0 d).now ∷ (get_or items 1 d).now ∷ (get_or items 2 d).now ∷ (get_or items 3 d).now ∷ []
 four_parts (a ∷ b ∷ c ∷ e ∷ []) d h k = refl
 four_parts [] d h k = absurd (omega arith)
 four_parts (a ∷ []) d h k = absurd (omega arith)
@@ -29,7 +30,8 @@ four_parts (a ∷ b ∷ c ∷ []) d h k = absurd (omega arith)
 four_parts (a ∷ b ∷ c ∷ e ∷ f ∷ items) d h k = absurd (omega arith)
 
 -- the box that the four parts of a text write is the one that the text writes
-pub box_from : (text l b r t : List ℕ) (o : Option BoxPx) → parts 44 text ≡ l ∷ b ∷ r ∷ t ∷ [] → MatchOption o ((p : BoxPx) → ¬ (WritesBox l b r t p)) (λ p. WritesBox l b r t p) → MatchOption o ((p : BoxPx) → ¬ (ReadsBox text p)) (λ p. ReadsBox text p)
+pub box_from : (text l b r t : List ℕ) (o : Option BoxPx) → parts 44 text ≡ l ∷ b ∷ r ∷ t ∷ [] →
+    MatchOption o ((p : BoxPx) → ¬ (WritesBox l b r t p)) (λ p. WritesBox l b r t p) → MatchOption o ((p : BoxPx) → ¬ (ReadsBox text p)) (λ p. ReadsBox text p)
 box_from text l b r t None split h = λ p reads.
     let same : reads.l ∷ reads.b ∷ reads.r ∷ reads.t ∷ [] ≡ l ∷ b ∷ r ∷ t ∷ [] = sym reads.split ∙ split in
     let el : reads.l ≡ l = cc in
@@ -122,7 +124,10 @@ whole_fits (byte ∷ rest) z e = by_minus (byte == 45) refl
 abbrev top : Fraction
 top = record { num = 2 ^ 28; den = 1; positive = lit< tt }
 
-module _ (id x y min max : List ℕ) (boxes : List (List ℕ)) (place : ℕ) (order : Order) (xv yv : ℤ) (bs : List BoxPx) (pieces : List (List ℕ)) (minv maxv : Ratio) (good : IsId id) (class_is : order.class ≡ place) (rank_is : order.rank ≡ 0) (id_is : order.id ≡ id) (x_is : whole_number x ≡ Some xv) (y_is : whole_number y ≡ Some yv) (min_is : ReadsRatio min (Some minv)) (max_is : ReadsRatio max (Some maxv)) (boxes_are : AllZip ReadsBox boxes bs) (pieces_are : pieces ≡ id ∷ replicate (length bs - 1) []) where
+module _ (id x y min max : List ℕ) (boxes : List (List ℕ)) (place : ℕ) (order : Order) (xv yv : ℤ) (bs : List BoxPx)
+    (pieces : List (List ℕ)) (minv maxv : Ratio) (good : IsId id) (class_is : order.class ≡ place) (rank_is : order.rank ≡ 0)
+    (id_is : order.id ≡ id) (x_is : whole_number x ≡ Some xv) (y_is : whole_number y ≡ Some yv) (min_is : ReadsRatio min (Some minv))
+    (max_is : ReadsRatio max (Some maxv)) (boxes_are : AllZip ReadsBox boxes bs) (pieces_are : pieces ≡ id ∷ replicate (length bs - 1) []) where
   parts_of_label : (label : Label) → WritesLabel id x y min max boxes place label → AreLabelParts xv yv bs pieces minv maxv 0
   parts_of_label label w =
       let fx : Some xv ≡ Some label.x = sym x_is ∙ w.x_is in

@@ -27,7 +27,8 @@ module _ (low : Label) (rivals : ℕ → Rival) (n : ℕ) where
   }
 
   -- what was seen sets a limit
-  pub searched_one : (j : ℕ) (bound next : Fraction) (places : List ℕ) → j < n → IsLimit low (rivals j).label (value_of (rivals j).until) next → IsAtMost next bound → IsSearched low rivals n (λ k. k ≡ j) bound next places (places ++ j ∷ [])
+  pub searched_one : (j : ℕ) (bound next : Fraction) (places : List ℕ) → j < n → IsLimit low (rivals j).label (value_of (rivals j).until) next →
+      IsAtMost next bound → IsSearched low rivals n (λ k. k ≡ j) bound next places (places ++ j ∷ [])
   searched_one j bound next places lt limit most = record {
     within = λ all. All-append (λ k. k < n) places (j ∷ []) all (All-cons (λ k. k < n) j [] lt (All-nil (λ k. k < n)));
     kept = λ k there. Contains-append_left places (j ∷ []) k there;
@@ -44,8 +45,8 @@ module _ (low : Label) (rivals : ℕ → Rival) (n : ℕ) where
   none_less j bound next le none f limit below = at_most_less next bound f le (none f limit below)
 
   -- more was seen
-  pub searched_more : (seen new all : ℕ → Type 0) (bound mid next : Fraction) (before during after : List ℕ) → IsSearched low rivals n seen bound mid before during → IsSearched low rivals n new mid next during after → ((j : ℕ) → all j → seen j ⊎ new j) →
-      IsSearched low rivals n all bound next before after
+  pub searched_more : (seen new all : ℕ → Type 0) (bound mid next : Fraction) (before during after : List ℕ) → IsSearched low rivals n seen bound mid before during →
+      IsSearched low rivals n new mid next during after → ((j : ℕ) → all j → seen j ⊎ new j) → IsSearched low rivals n all bound next before after
   searched_more seen new all bound mid next before during after one two either = record {
     within = λ h. two.within (one.within h);
     kept = λ j there. two.kept j (one.kept j there);
@@ -61,8 +62,8 @@ module _ (low : Label) (rivals : ℕ → Rival) (n : ℕ) where
   }
 
   -- what was not seen sets no limit
-  pub searched_all : (seen all : ℕ → Type 0) (bound next : Fraction) (before after : List ℕ) → IsSearched low rivals n seen bound next before after → ((j : ℕ) → all j → j < n → seen j ⊎ SetsNone low rivals next j) →
-      IsSearched low rivals n all bound next before after
+  pub searched_all : (seen all : ℕ → Type 0) (bound next : Fraction) (before after : List ℕ) → IsSearched low rivals n seen bound next before after →
+      ((j : ℕ) → all j → j < n → seen j ⊎ SetsNone low rivals next j) → IsSearched low rivals n all bound next before after
   searched_all seen all bound next before after one either = record {
     within = one.within;
     kept = one.kept;
@@ -91,7 +92,8 @@ module _ (labels : List Label) (slots : List Slot) (low : Label) (place : ℕ) (
       (subst (λ (t : Slot). SetsNoneUpTo low (get_or labels place a) (value_of t.until) bound) read_slot none))
 
   -- the limit that a rival sets, as its label and slot are read, is the one that it sets as it stands in the search
-  pub limit_there : (f : Fraction) → IsLimit low (get_or labels place a) (value_of (get_or slots place s).until) f → IsLimit low (rivals_in labels slots low place).label (value_of (rivals_in labels slots low place).until) f
+  pub limit_there : (f : Fraction) → IsLimit low (get_or labels place a) (value_of (get_or slots place s).until) f →
+      IsLimit low (rivals_in labels slots low place).label (value_of (rivals_in labels slots low place).until) f
   limit_there f limit =
       subst (λ (b : Label). IsLimit low b (value_of (get_or slots place no_slot).until) f) read_label
       (subst (λ (t : Slot). IsLimit low (get_or labels place a) (value_of t.until) f) read_slot limit)

@@ -1,5 +1,6 @@
 -- The lines of a table, one after the other: the ids that are known, and the labels read so far.
-use Rattle.std.proofs.Common.{◌≡◌, ◌≢◌, ℕ, ◌+◌, ◌<◌, ◌≤◌, List, [], ◌∷◌, ◌++◌, length, get_or, Option, Some, None, Bool, true, false, cond, Bor, arith, refl, ap, ◌∙◌, sym, subst, inl, inr, length-append, Ok, Err}
+use Rattle.std.proofs.Common.{◌≡◌, ◌≢◌, ℕ, ◌+◌, ◌<◌, ◌≤◌, List, [], ◌∷◌, ◌++◌, length, get_or, Option, Some, None, Bool}
+use Rattle.std.proofs.Common.{true, false, cond, Bor, arith, refl, ap, ◌∙◌, sym, subst, inl, inr, length-append, Ok, Err}
 use Rattle.std.specs.Prelude.{MatchOption, ◌==◌, Result, IfErr}
 use Rattle.std.specs.BTreeMap.{BTreeMap, get_by}
 use Rattle.std.specs.Cmp.Lexicographic.{slice_cmp}
@@ -55,15 +56,19 @@ module _ (labels : List Label) (label : Label) where
       (omega arith, λ d. ap (λ (l : Label). l.order.id) (get_or_push labels label d j (sym e)))
 
   -- the map with the new id
-  finds_other : (o : Option ℕ) (id : List ℕ) → label.order.id ≢ id → MatchOption o (IsNoId labels id) (IsPlaceOf labels id) → MatchOption o (IsNoId (labels ++ label ∷ []) id) (IsPlaceOf (labels ++ label ∷ []) id)
+  finds_other : (o : Option ℕ) (id : List ℕ) → label.order.id ≢ id → MatchOption o (IsNoId labels id) (IsPlaceOf labels id) →
+      MatchOption o (IsNoId (labels ++ label ∷ []) id) (IsPlaceOf (labels ++ label ∷ []) id)
   finds_other None id other h = new_push id h other
   finds_other (Some j) id other h = has_push id j h
 
   -- with the new label's id and place put in, the map finds all labels up to that one
-  pub finds_more : (old new : BTreeMap (Bor (List ℕ)) ℕ) (place : ℕ) → place ≡ length labels → FindsPlaces labels old → ((cs : List ℕ) → get_by (λ k. slice_cmp nat_cmp cs k.now) new ≡ update bytes_eq (λ ds. get_by (λ k. slice_cmp nat_cmp ds k.now) old) label.order.id (Some place) cs) → FindsPlaces (labels ++ label ∷ []) new
+  pub finds_more : (old new : BTreeMap (Bor (List ℕ)) ℕ) (place : ℕ) → place ≡ length labels → FindsPlaces labels old →
+      ((cs : List ℕ) → get_by (λ k. slice_cmp nat_cmp cs k.now) new ≡ update bytes_eq (λ ds. get_by (λ k. slice_cmp nat_cmp ds k.now) old) label.order.id (Some place) cs) →
+      FindsPlaces (labels ++ label ∷ []) new
   finds_more old new place at finds updates id = rw (updates id) (by_test (bytes_eq label.order.id id) refl)
     where
-      by_test : (b : Bool) → bytes_eq label.order.id id ≡ b → MatchOption (cond (bytes_eq label.order.id id) (Some place) (get_by (λ k. slice_cmp nat_cmp id k.now) old)) (IsNoId (labels ++ label ∷ []) id) (IsPlaceOf (labels ++ label ∷ []) id)
+      by_test : (b : Bool) → bytes_eq label.order.id id ≡ b → MatchOption (cond (bytes_eq label.order.id id) (Some place)
+          (get_by (λ k. slice_cmp nat_cmp id k.now) old)) (IsNoId (labels ++ label ∷ []) id) (IsPlaceOf (labels ++ label ∷ []) id)
       by_test true e =
           let same : label.order.id ≡ id = (bytes_eq-Decides label.order.id id).0 e in
           rw e (subst (λ (t : List ℕ). IsPlaceOf (labels ++ label ∷ []) t place) same (has_last place at))
@@ -95,7 +100,8 @@ so_far_none bytes ids e = record {
   low = omega arith;
 }
 
-module _ (bytes rest line after : List ℕ) (count : ℕ) (labels : List Label) (ids : BTreeMap (Bor (List ℕ)) ℕ) (next : lines rest ≡ line ∷ lines after) (shorter : length after < length rest) (so_far : TableSoFar bytes rest count labels ids) where
+module _ (bytes rest line after : List ℕ) (count : ℕ) (labels : List Label) (ids : BTreeMap (Bor (List ℕ)) ℕ)
+    (next : lines rest ≡ line ∷ lines after) (shorter : length after < length rest) (so_far : TableSoFar bytes rest count labels ids) where
   -- an empty line is passed, and the labels read so far stay
   pub so_far_empty : line ≡ [] → TableSoFar bytes after (count + 1) labels ids
   so_far_empty none = record {
@@ -128,7 +134,8 @@ module _ (bytes rest line after : List ℕ) (count : ℕ) (labels : List Label) 
         omega arith
 
     -- a line that writes a label with a new id adds that label, where there are 32,768 at most
-    pub so_far_more : (label : Label) (new : BTreeMap (Bor (List ℕ)) ℕ) → length (labels ++ label ∷ []) ≤ 32768 → ReadsRow line (length labels) label → IsNoId labels label.order.id → FindsPlaces (labels ++ label ∷ []) new → TableSoFar bytes after (count + 1) (labels ++ label ∷ []) new
+    pub so_far_more : (label : Label) (new : BTreeMap (Bor (List ℕ)) ℕ) → length (labels ++ label ∷ []) ≤ 32768 → ReadsRow line (length labels) label →
+        IsNoId labels label.order.id → FindsPlaces (labels ++ label ∷ []) new → TableSoFar bytes after (count + 1) (labels ++ label ∷ []) new
     so_far_more label new few row new_id finds =
         let n : length (labels ++ label ∷ []) ≡ length labels + 1 = length-append labels (label ∷ []) in
         record {
@@ -148,7 +155,8 @@ module _ (bytes rest line after : List ℕ) (count : ℕ) (labels : List Label) 
                   | inr more ↦
                       let same : length labels ≡ j = omega arith in
                       let below : i < length labels = omega arith in
-                      rw (get_or-append labels (label ∷ []) d i below, get_or_push labels label d j same) (λ e. new_id i (below, λ d2. ap (λ (l : Label). l.order.id) (get_or_default labels i d2 d below) ∙ e))
+                      rw (get_or-append labels (label ∷ []) d i below, get_or_push labels label d j same)
+                      (λ e. new_id i (below, λ d2. ap (λ (l : Label). l.order.id) (get_or_default labels i d2 d below) ∙ e))
                 ];
           };
           finds = finds;
@@ -165,7 +173,8 @@ module _ (bytes rest line after : List ℕ) (count : ℕ) (labels : List Label) 
     -- why the label of the line at hand is not added is what is wrong with that line
     pub add_fault : (label : Label) (fault : TableFault) → ReadsRow line (length labels) label → IsAddFault labels label (count + 1) fault → IsFaultAfter bytes labels fault
     add_fault label (BadLine k) row h = absurd h
-    add_fault label (SameId k) row h = record { numbered = ap (λ (p : ℕ × List ℕ). p.0) entry_here ∙ sym h.0; label = label; row = rw (sym (ap (λ (p : ℕ × List ℕ). p.1) entry_here)) at row; known = h.1 }
+    add_fault label (SameId k) row h =
+        record { numbered = ap (λ (p : ℕ × List ℕ). p.0) entry_here ∙ sym h.0; label = label; row = rw (sym (ap (λ (p : ℕ × List ℕ). p.1) entry_here)) at row; known = h.1 }
     add_fault label Full row h = record { label = label; row = rw (sym (ap (λ (p : ℕ × List ℕ). p.1) entry_here)) at row; new = h.0; full = h.1 }
     add_fault label Memory row h = tt
 

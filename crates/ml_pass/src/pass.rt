@@ -5,7 +5,7 @@ ghost use Rattle.ml_cone.specs.Slots.{AreSlots, IsOwnSlot};
 ghost use Rattle.ml_ratio.specs.Fraction.{value_of, IsAtMost};
 ghost use Rattle.ml_cone.specs.declared.label.Label.{Label as ALabel};
 ghost use Rattle.ml_conflict.specs.Field.{IsSpotOf};
-ghost use Rattle.ml_conflict.specs.Strip.{AreStrips, HasPlace};
+ghost use Rattle.ml_conflict.specs.Strip.{AreStrips, AreBlocks, HasPlace};
 ghost use Rattle.ml_pass.specs.Search.{rivals_in, AreHeld};
 ghost use Rattle.ml_pass.specs.SlotsText.{IsBlockerPlace};
 
@@ -29,7 +29,8 @@ use std::sync::ledger::{Blank, Ledger};
 pub fn assign(alloc: Global, labels: &[Label]) -> Result<Seq<Slot>, AllocError>
     requires { length labels.now ≤ most_labels }
     ensures slots { IfOk result (λ slots. AreSlots (λ j. j) labels.now slots) }
-    ensures placed { IfOk result (λ slots. All (λ slot. IsBlockerPlace labels.now slot.blocker) slots) }
+    ensures placed { IfOk result
+        (λ slots. All (λ slot. IsBlockerPlace labels.now slot.blocker) slots) }
 {
     assign_counted::<Brand>(alloc, labels, Blank::new(1))
 }
@@ -45,7 +46,8 @@ fn assign_counted<L: Ledger>(
     requires parts { blank.parts ≡ L.parts }
     requires some { 0 < blank.parts }
     ensures slots { IfOk result (λ slots. AreSlots (λ j. j) labels.now slots) }
-    ensures placed { IfOk result (λ slots. All (λ slot. IsBlockerPlace labels.now slot.blocker) slots) }
+    ensures placed { IfOk result
+        (λ slots. All (λ slot. IsBlockerPlace labels.now slot.blocker) slots) }
 {
     let mut steps: Steps<L> = Steps::new(blank);
     choose(alloc, labels, &mut steps)
@@ -59,7 +61,8 @@ fn choose<L: Ledger>(
 ) -> Result<Seq<Slot>, AllocError>
     requires { length labels.now ≤ most_labels }
     ensures slots { IfOk result (λ slots. AreSlots (λ j. j) labels.now slots) }
-    ensures placed { IfOk result (λ slots. All (λ slot. IsBlockerPlace labels.now slot.blocker) slots) }
+    ensures placed { IfOk result
+        (λ slots. All (λ slot. IsBlockerPlace labels.now slot.blocker) slots) }
     ensures spent { OnOk result (steps.new ≡ steps.old + length labels.now) }
 {
     same_rivals();
@@ -88,12 +91,16 @@ fn choose<L: Ledger>(
 fn stand(field: &mut Field, labels: &[Label], spot: Spot, slot: &Slot) -> Result<(), AllocError>
     requires some { 0 < length field.old.strips.items }
     requires strips { AreStrips labels.now field.old.strips.items }
+    requires blocks { AreBlocks field.old.strips.items field.old.blocks.items }
     requires spot { IsSpotOf labels.now spot }
     ensures many { length field.new.strips.items ≡ length field.old.strips.items }
     ensures strips { OnOk result (AreStrips labels.now field.new.strips.items) }
-    ensures kept { OnOk result ((j : ℕ) → HasPlace field.old.strips.items j → HasPlace field.new.strips.items j) }
+    ensures blocks { OnOk result (AreBlocks field.new.strips.items field.new.blocks.items) }
+    ensures kept { OnOk result
+        ((j : ℕ) → HasPlace field.old.strips.items j → HasPlace field.new.strips.items j) }
     ensures here { OnOk result (HasPlace field.new.strips.items spot.place ⊎
-        ((d : ALabel) → IsAtMost (value_of slot.now.until) (value_of (slice_index_or labels.now spot.place d).min))) }
+        ((d : ALabel) → IsAtMost (value_of slot.now.until)
+        (value_of (slice_index_or labels.now spot.place d).min))) }
 {
     if labels[spot.place as usize].min().is_less(&slot.until) {
         return field.put(labels, spot);
@@ -110,9 +117,11 @@ fn slot_of<L: Ledger>(
 ) -> Result<Slot, AllocError>
     requires some { 0 < length field.now.strips.items }
     requires strips { AreStrips search.now.labels.now field.now.strips.items }
+    requires blocks { AreBlocks field.now.strips.items field.now.blocks.items }
     requires held { AreHeld search.now.labels.now search.now.slots.now field.now.strips.items }
     requires empty { places.old.items ≡ [] }
-    ensures own { IfOk result (λ slot. IsOwnSlot (rivals_in search.now.labels.now search.now.slots.now search.now.low.now)
+    ensures own { IfOk result
+        (λ slot. IsOwnSlot (rivals_in search.now.labels.now search.now.slots.now search.now.low.now)
         (λ j. j < length search.now.slots.now) search.now.low.now slot) }
     ensures cleared { OnOk result (places.new.items ≡ []) }
     ensures spent { OnOk result (steps.new ≡ steps.old + 1) }

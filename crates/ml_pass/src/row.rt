@@ -60,7 +60,8 @@ struct Fields<'a> {
 
 // The label of class `place` that the fields write; none where they write no label.
 fn read_label(alloc: Global, place: u32, fields: &Fields<'_>) -> Result<Option<Label>, AllocError>
-    ensures { IfOk result (λ answer. IsLabelWritten fields.now.id.now fields.now.x.now fields.now.y.now fields.now.min.now fields.now.max.now
+    ensures { IfOk result (λ answer. IsLabelWritten fields.now.id.now
+        fields.now.x.now fields.now.y.now fields.now.min.now fields.now.max.now
         (map (λ part. part.now) fields.now.boxes.now) place answer) }
 {
     if !is_id(fields.id) {
@@ -125,7 +126,8 @@ fn is_id(id: &str) -> bool
 /// # Errors
 /// Out of memory.
 pub fn read_boxes(alloc: Global, texts: &[&str]) -> Result<Option<Seq<BoxPx>>, AllocError>
-    ensures { IfOk result (λ answer. MatchOption answer ((boxes : List BoxPx) → ¬ (AllZip ReadsBox (map (λ p. p.now) texts.now) boxes))
+    ensures { IfOk result (λ answer. MatchOption answer
+        ((boxes : List BoxPx) → ¬ (AllZip ReadsBox (map (λ p. p.now) texts.now) boxes))
         (λ boxes. AllZip ReadsBox (map (λ p. p.now) texts.now) boxes)) }
 {
     let mut boxes = Seq::new(alloc);
@@ -140,7 +142,8 @@ pub fn read_boxes(alloc: Global, texts: &[&str]) -> Result<Option<Seq<BoxPx>>, A
 
 // The box that a text writes; none where it writes no box.
 fn read_box(alloc: Global, text: &str) -> Result<Option<BoxPx>, AllocError>
-    ensures { IfOk result (λ answer. MatchOption answer ((p : BoxPx) → ¬ (ReadsBox text.now p)) (λ p. ReadsBox text.now p)) }
+    ensures { IfOk result (λ answer.
+        MatchOption answer ((p : BoxPx) → ¬ (ReadsBox text.now p)) (λ p. ReadsBox text.now p)) }
 {
     let offsets = parts_of(alloc, text, ',')?;
     match offsets.as_slice() {
@@ -151,7 +154,8 @@ fn read_box(alloc: Global, text: &str) -> Result<Option<BoxPx>, AllocError>
 
 // The box that the four texts write; none where they write no box.
 fn box_of(l: &str, b: &str, r: &str, t: &str) -> Option<BoxPx>
-    ensures { MatchOption result ((p : BoxPx) → ¬ (WritesBox l.now b.now r.now t.now p)) (λ p. WritesBox l.now b.now r.now t.now p) }
+    ensures { MatchOption result ((p : BoxPx) → ¬ (WritesBox l.now b.now r.now t.now p))
+        (λ p. WritesBox l.now b.now r.now t.now p) }
 {
     let (Some(l), Some(r)) = (read_offset(l), read_offset(r)) else {
         return None;
@@ -168,7 +172,8 @@ fn box_of(l: &str, b: &str, r: &str, t: &str) -> Option<BoxPx>
 
 // The offset that the text writes; none where it is no whole number in -512..=512.
 fn read_offset(text: &str) -> Option<i32>
-    ensures { MatchOption result ((u : ℤ) → whole_number text.now ≡ Some u → ¬ (IsOffset u)) (λ u. (whole_number text.now ≡ Some u) × IsOffset u) }
+    ensures { MatchOption result ((u : ℤ) → whole_number text.now ≡ Some u → ¬ (IsOffset u))
+        (λ u. (whole_number text.now ≡ Some u) × IsOffset u) }
 {
     match read_whole(text) {
         Some(u) => {

@@ -43,7 +43,7 @@ struct Seen {
 
 impl Search<'_> {
     ghost use Rattle.ml_conflict.specs.Field.{HasSpot, IsSpotOf, SeesSpot};
-    ghost use Rattle.ml_conflict.specs.Strip.{IsStripOf, AreStrips, SeesStrip};
+    ghost use Rattle.ml_conflict.specs.Strip.{IsStripOf, AreStrips, AreBlocks, SeesStrip};
     ghost use Rattle.ml_pass.specs.Search.{rivals_in, IsSearched, AreHeld};
 
     /// Finds places of labels before that are enough for the label's slot: each other one sets it no limit up
@@ -54,9 +54,12 @@ impl Search<'_> {
     pub fn gather(&self, field: &Field, places: &mut Vec<u32>) -> Result<(), AllocError>
         requires some { 0 < length field.now.strips.items }
         requires strips { AreStrips self.now.labels.now field.now.strips.items }
+        requires blocks { AreBlocks field.now.strips.items field.now.blocks.items }
         requires held { AreHeld self.now.labels.now self.now.slots.now field.now.strips.items }
-        ensures { OnOk result ((bound : Fraction) × IsSearched self.now.low.now (rivals_in self.now.labels.now self.now.slots.now self.now.low.now)
-            (length self.now.slots.now) (λ j. j < length self.now.slots.now) (value_of self.now.low.now.max) bound places.old.items places.new.items) }
+        ensures { OnOk result ((bound : Fraction) × IsSearched self.now.low.now
+            (rivals_in self.now.labels.now self.now.slots.now self.now.low.now)
+            (length self.now.slots.now) (λ j. j < length self.now.slots.now)
+            (value_of self.now.low.now.max) bound places.old.items places.new.items) }
     {
         idle_labels();
         let start = field.home(self.low);
@@ -72,52 +75,61 @@ impl Search<'_> {
         Ok(())
     }
 
-    // Looks at the next strip to the west, if there is one.
+    // Looks at the next strip to the west that is in no block too far away, if there is one.
     fn west(&self, field: &Field, seen: Seen, places: &mut Vec<u32>) -> Result<Seen, AllocError>
         requires strips { AreStrips self.now.labels.now field.now.strips.items }
+        requires blocks { AreBlocks field.now.strips.items field.now.blocks.items }
         requires within { seen.left ≤ length field.now.strips.items }
-        ensures further { IfOk result (λ next. next.left ≡ seen.left - 1) }
+        ensures further { IfOk result (λ next. next.left ≤ seen.left - 1) }
         ensures same { IfOk result (λ next. next.right ≡ seen.right) }
-        ensures searched { IfOk result (λ next. IsSearched self.now.low.now (rivals_in self.now.labels.now self.now.slots.now self.now.low.now)
-            (length self.now.slots.now) (SeesStrip field.now.strips.items next.left seen.left) (value_of seen.bound) (value_of next.bound) places.old.items places.new.items) }
+        ensures searched { IfOk result (λ next. IsSearched self.now.low.now
+            (rivals_in self.now.labels.now self.now.slots.now self.now.low.now)
+            (length self.now.slots.now) (SeesStrip field.now.strips.items next.left seen.left)
+            (value_of seen.bound) (value_of next.bound) places.old.items places.new.items) }
     {
-        if seen.left == 0 {
-            return Ok(seen);
+        let right = seen.right;
+        let bound = seen.bound;
+        let left = field.pass_west(seen.left, &self.area, &bound);
+        if left == 0 {
+            return Ok(Seen { left, right, bound });
         }
-        let left = seen.left - 1;
-        let bound = self.visit(&field.strips[left], seen.bound, places)?;
-        Ok(Seen {
-            left,
-            right: seen.right,
-            bound,
-        })
+        let left = left - 1;
+        let bound = self.visit(&field.strips[left], bound, places)?;
+        Ok(Seen { left, right, bound })
     }
 
-    // Looks at the next strip to the east, if there is one.
+    // Looks at the next strip to the east that is in no block too far away, if there is one.
     fn east(&self, field: &Field, seen: Seen, places: &mut Vec<u32>) -> Result<Seen, AllocError>
         requires strips { AreStrips self.now.labels.now field.now.strips.items }
+        requires blocks { AreBlocks field.now.strips.items field.now.blocks.items }
         requires within { seen.right ≤ length field.now.strips.items }
-        ensures further { IfOk result (λ next. next.right ≡ min (length field.now.strips.items) (seen.right + 1)) }
+        ensures further { IfOk result
+            (λ next. min (length field.now.strips.items) (seen.right + 1) ≤ next.right) }
+        ensures within { IfOk result (λ next. next.right ≤ length field.now.strips.items) }
         ensures same { IfOk result (λ next. next.left ≡ seen.left) }
-        ensures searched { IfOk result (λ next. IsSearched self.now.low.now (rivals_in self.now.labels.now self.now.slots.now self.now.low.now)
-            (length self.now.slots.now) (SeesStrip field.now.strips.items seen.right next.right) (value_of seen.bound) (value_of next.bound) places.old.items places.new.items) }
+        ensures searched { IfOk result (λ next. IsSearched self.now.low.now
+            (rivals_in self.now.labels.now self.now.slots.now self.now.low.now)
+            (length self.now.slots.now) (SeesStrip field.now.strips.items seen.right next.right)
+            (value_of seen.bound) (value_of next.bound) places.old.items places.new.items) }
     {
-        if seen.right == field.strips.len() {
-            return Ok(seen);
+        let left = seen.left;
+        let bound = seen.bound;
+        let right = field.pass_east(seen.right, &self.area, &bound);
+        if right == field.strips.len() {
+            return Ok(Seen { left, right, bound });
         }
-        let bound = self.visit(&field.strips[seen.right], seen.bound, places)?;
-        Ok(Seen {
-            left: seen.left,
-            right: seen.right + 1,
-            bound,
-        })
+        let bound = self.visit(&field.strips[right], bound, places)?;
+        let right = right + 1;
+        Ok(Seen { left, right, bound })
     }
 
     // Looks at the strip, unless all in it is too far away.
     fn visit(&self, strip: &Strip, bound: Ratio, places: &mut Vec<u32>) -> Result<Ratio, AllocError>
         requires strip { IsStripOf self.now.labels.now strip.now.spots.items strip.now.area }
-        ensures { IfOk result (λ next. IsSearched self.now.low.now (rivals_in self.now.labels.now self.now.slots.now self.now.low.now)
-            (length self.now.slots.now) (HasSpot strip.now.spots.items) (value_of bound) (value_of next) places.old.items places.new.items) }
+        ensures { IfOk result (λ next. IsSearched self.now.low.now
+            (rivals_in self.now.labels.now self.now.slots.now self.now.low.now)
+            (length self.now.slots.now) (HasSpot strip.now.spots.items)
+            (value_of bound) (value_of next) places.old.items places.new.items) }
     {
         if self.area.is_away(&strip.area, &bound) {
             return Ok(bound);
@@ -128,8 +140,10 @@ impl Search<'_> {
     // Looks at the spots of the strip, from the label's y on to the south and to the north.
     fn cross(&self, strip: &Strip, bound: Ratio, places: &mut Vec<u32>) -> Result<Ratio, AllocError>
         requires strip { IsStripOf self.now.labels.now strip.now.spots.items strip.now.area }
-        ensures { IfOk result (λ next. IsSearched self.now.low.now (rivals_in self.now.labels.now self.now.slots.now self.now.low.now)
-            (length self.now.slots.now) (HasSpot strip.now.spots.items) (value_of bound) (value_of next) places.old.items places.new.items) }
+        ensures { IfOk result (λ next. IsSearched self.now.low.now
+            (rivals_in self.now.labels.now self.now.slots.now self.now.low.now)
+            (length self.now.slots.now) (HasSpot strip.now.spots.items)
+            (value_of bound) (value_of next) places.old.items places.new.items) }
     {
         let start = south_of(strip.spots.as_slice(), self.low.y());
         let mut seen = Seen {
@@ -150,8 +164,10 @@ impl Search<'_> {
         requires within { seen.left ≤ length strip.now.spots.items }
         ensures further { IfOk result (λ next. next.left ≤ seen.left - 8) }
         ensures same { IfOk result (λ next. next.right ≡ seen.right) }
-        ensures searched { IfOk result (λ next. IsSearched self.now.low.now (rivals_in self.now.labels.now self.now.slots.now self.now.low.now)
-            (length self.now.slots.now) (SeesSpot strip.now.spots.items next.left seen.left) (value_of seen.bound) (value_of next.bound) places.old.items places.new.items) }
+        ensures searched { IfOk result (λ next. IsSearched self.now.low.now
+            (rivals_in self.now.labels.now self.now.slots.now self.now.low.now)
+            (length self.now.slots.now) (SeesSpot strip.now.spots.items next.left seen.left)
+            (value_of seen.bound) (value_of next.bound) places.old.items places.new.items) }
     {
         let spots = strip.spots.as_slice();
         let pixels = (self.area.along.reach + strip.area.along.reach) as u64;
@@ -182,11 +198,14 @@ impl Search<'_> {
     fn north(&self, strip: &Strip, seen: Seen, places: &mut Vec<u32>) -> Result<Seen, AllocError>
         requires strip { IsStripOf self.now.labels.now strip.now.spots.items strip.now.area }
         requires within { seen.right ≤ length strip.now.spots.items }
-        ensures further { IfOk result (λ next. min (length strip.now.spots.items) (seen.right + 8) ≤ next.right) }
+        ensures further { IfOk result
+            (λ next. min (length strip.now.spots.items) (seen.right + 8) ≤ next.right) }
         ensures within { IfOk result (λ next. next.right ≤ length strip.now.spots.items) }
         ensures same { IfOk result (λ next. next.left ≡ seen.left) }
-        ensures searched { IfOk result (λ next. IsSearched self.now.low.now (rivals_in self.now.labels.now self.now.slots.now self.now.low.now)
-            (length self.now.slots.now) (SeesSpot strip.now.spots.items seen.right next.right) (value_of seen.bound) (value_of next.bound) places.old.items places.new.items) }
+        ensures searched { IfOk result (λ next. IsSearched self.now.low.now
+            (rivals_in self.now.labels.now self.now.slots.now self.now.low.now)
+            (length self.now.slots.now) (SeesSpot strip.now.spots.items seen.right next.right)
+            (value_of seen.bound) (value_of next.bound) places.old.items places.new.items) }
     {
         let spots = strip.spots.as_slice();
         let pixels = (self.area.along.reach + strip.area.along.reach) as u64;
@@ -219,8 +238,10 @@ impl Search<'_> {
     // looked at itself.
     fn look(&self, spot: &Spot, bound: Ratio, places: &mut Vec<u32>) -> Result<Ratio, AllocError>
         requires { IsSpotOf self.now.labels.now spot.now }
-        ensures { IfOk result (λ next. IsSearched self.now.low.now (rivals_in self.now.labels.now self.now.slots.now self.now.low.now)
-            (length self.now.slots.now) (λ j. j ≡ spot.now.place) (value_of bound) (value_of next) places.old.items places.new.items) }
+        ensures { IfOk result (λ next. IsSearched self.now.low.now
+            (rivals_in self.now.labels.now self.now.slots.now self.now.low.now)
+            (length self.now.slots.now) (λ j. j ≡ spot.now.place) (value_of bound)
+            (value_of next) places.old.items places.new.items) }
     {
         clear_labels();
         ended_labels();

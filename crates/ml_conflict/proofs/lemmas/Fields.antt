@@ -83,7 +83,8 @@ module _ (labels : List Label) (low : Label) (spots : List Spot) (reach : ℕ) (
 
     module _ (reaches : Reaches Across low reach) (bound : Ratio) (u : ℕ → Fraction) where
       -- where a spot lies too far to the west, what stands there or before it sets no limit up to the bound
-      pub west_far : (left : ℕ) → left ≡ at + 1 → start ≤ length spots → IsBeyond low.x spot.x (2 * reach) bound → (j : ℕ) → SeesSpot spots 0 start j → SeesSpot spots left start j ⊎ SetsNoneUpTo low (get_or labels j low) (u j) (value_of bound)
+      pub west_far : (left : ℕ) → left ≡ at + 1 → start ≤ length spots → IsBeyond low.x spot.x (2 * reach) bound → (j : ℕ) →
+          SeesSpot spots 0 start j → SeesSpot spots left start j ⊎ SetsNoneUpTo low (get_or labels j low) (u j) (value_of bound)
       west_far left e start_in beyond j saw =
           elim (cases_lt saw.0 left) [
             | inl less ↦
@@ -95,7 +96,8 @@ module _ (labels : List Label) (low : Label) (spots : List Spot) (reach : ℕ) (
           ]
 
       -- the same to the east
-      pub east_far : IsBeyond spot.x low.x (2 * reach) bound → (j : ℕ) → SeesSpot spots start (length spots) j → SeesSpot spots start at j ⊎ SetsNoneUpTo low (get_or labels j low) (u j) (value_of bound)
+      pub east_far : IsBeyond spot.x low.x (2 * reach) bound → (j : ℕ) → SeesSpot spots start (length spots) j →
+          SeesSpot spots start at j ⊎ SetsNoneUpTo low (get_or labels j low) (u j) (value_of bound)
       east_far beyond j saw =
           elim (cases_lt saw.0 at) [
             | inl less ↦ inl (saw.0, saw.1, less, saw.3)

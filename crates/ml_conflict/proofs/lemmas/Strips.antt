@@ -34,10 +34,12 @@ pub far_behind : (u v a b : ℤ) (pixels : ℕ) (bound : Ratio) → IsBeyond u v
 far_behind u v a b pixels bound beyond from to = let order = beyond.0 in further (unsigned_abs (u -ℤ v)) (unsigned_abs (b -ℤ a)) pixels bound (omega (arith, ints)) beyond.1
 
 -- labels on two sides of which one begins too far beyond the end of the other
-pub away : (axis : Axis) (low high : Label) (own other : Side) (u : Fraction) (bound : Ratio) → IsOnSide axis low own → IsOnSide axis high other → IsBeyond own.from other.to (own.reach + other.reach) bound ⊎ IsBeyond other.from own.to (own.reach + other.reach) bound →
-    SetsNoneUpTo low high u (value_of bound)
-away axis low high own other u bound on by (inl beyond) = far_on axis low high own.reach other.reach on.reach by.reach u bound (far_ahead own.from other.to (anchor_on axis low) (anchor_on axis high) (own.reach + other.reach) bound beyond on.from by.to)
-away axis low high own other u bound on by (inr beyond) = far_on axis low high own.reach other.reach on.reach by.reach u bound (far_behind other.from own.to (anchor_on axis high) (anchor_on axis low) (own.reach + other.reach) bound beyond by.from on.to)
+pub away : (axis : Axis) (low high : Label) (own other : Side) (u : Fraction) (bound : Ratio) → IsOnSide axis low own → IsOnSide axis high other →
+    IsBeyond own.from other.to (own.reach + other.reach) bound ⊎ IsBeyond other.from own.to (own.reach + other.reach) bound → SetsNoneUpTo low high u (value_of bound)
+away axis low high own other u bound on by (inl beyond) = far_on axis low high own.reach other.reach on.reach by.reach u bound
+    (far_ahead own.from other.to (anchor_on axis low) (anchor_on axis high) (own.reach + other.reach) bound beyond on.from by.to)
+away axis low high own other u bound on by (inr beyond) = far_on axis low high own.reach other.reach on.reach by.reach u bound
+    (far_behind other.from own.to (anchor_on axis high) (anchor_on axis low) (own.reach + other.reach) bound beyond by.from on.to)
 
 module _ (labels : List Label) (low : Label) (spots : List Spot) (area : Area) (strip : IsStripOf labels spots area) where
   -- ---- one spot more, and no more
@@ -83,7 +85,8 @@ module _ (labels : List Label) (low : Label) (spots : List Spot) (area : Area) (
         ]
 
     module _ (own : Side) (on : IsOnSide Along low own) (bound : Ratio) (u : ℕ → Fraction) where
-      none_far : (k j : ℕ) → k < length spots → ((d : Spot) → (get_or spots k d).place ≡ j) → IsFar low.y (get_or spots k spot).y (own.reach + area.along.reach) bound → SetsNoneUpTo low (get_or labels j low) (u j) (value_of bound)
+      none_far : (k j : ℕ) → k < length spots → ((d : Spot) → (get_or spots k d).place ≡ j) →
+          IsFar low.y (get_or spots k spot).y (own.reach + area.along.reach) bound → SetsNoneUpTo low (get_or labels j low) (u j) (value_of bound)
       none_far k j in' is far =
           let held = strip.held k spot in' low in
           let at_y = (strip.good k spot in').y low in
@@ -93,18 +96,21 @@ module _ (labels : List Label) (low : Label) (spots : List Spot) (area : Area) (
           (subst (λ (y : ℤ). IsFar low.y y (own.reach + area.along.reach) bound) at_y far))
 
       -- where a spot lies too far to the south, what stands there or before it sets no limit up to the bound
-      pub south_far : (left : ℕ) → left ≡ at + 1 → start ≤ length spots → IsBeyond low.y spot.y (own.reach + area.along.reach) bound → (j : ℕ) → SeesSpot spots 0 start j → SeesSpot spots left start j ⊎ SetsNoneUpTo low (get_or labels j low) (u j) (value_of bound)
+      pub south_far : (left : ℕ) → left ≡ at + 1 → start ≤ length spots → IsBeyond low.y spot.y (own.reach + area.along.reach) bound →
+          (j : ℕ) → SeesSpot spots 0 start j → SeesSpot spots left start j ⊎ SetsNoneUpTo low (get_or labels j low) (u j) (value_of bound)
       south_far left e start_in beyond j saw =
           elim (cases_lt saw.0 left) [
             | inl less ↦
                 let k = saw.0 in
                 let until = saw.2 in
-                inr (none_far k j (omega arith) saw.3 (far_ahead low.y spot.y low.y (get_or spots k spot).y (own.reach + area.along.reach) bound beyond (omega (arith, ints)) (before_it k (omega arith))))
+                inr (none_far k j (omega arith) saw.3 (far_ahead low.y spot.y low.y (get_or spots k spot).y
+                (own.reach + area.along.reach) bound beyond (omega (arith, ints)) (before_it k (omega arith))))
             | inr more ↦ inl (saw.0, more, saw.2, saw.3)
           ]
 
       -- the same to the north
-      pub north_far : IsBeyond spot.y low.y (own.reach + area.along.reach) bound → (j : ℕ) → SeesSpot spots start (length spots) j → SeesSpot spots start at j ⊎ SetsNoneUpTo low (get_or labels j low) (u j) (value_of bound)
+      pub north_far : IsBeyond spot.y low.y (own.reach + area.along.reach) bound → (j : ℕ) → SeesSpot spots start (length spots) j →
+          SeesSpot spots start at j ⊎ SetsNoneUpTo low (get_or labels j low) (u j) (value_of bound)
       north_far beyond j saw =
           elim (cases_lt saw.0 at) [
             | inl less ↦ inl (saw.0, saw.1, less, saw.3)
@@ -114,7 +120,8 @@ module _ (labels : List Label) (low : Label) (spots : List Spot) (area : Area) (
           ]
 
   -- a label in an area that is too far away sets no limit
-  pub none_away : (u : ℕ → Fraction) (bound : Fraction) → ((high : Label) (v : Fraction) → IsInArea high area → SetsNoneUpTo low high v bound) → (j : ℕ) → HasSpot spots j → SetsNoneUpTo low (get_or labels j low) (u j) bound
+  pub none_away : (u : ℕ → Fraction) (bound : Fraction) → ((high : Label) (v : Fraction) → IsInArea high area → SetsNoneUpTo low high v bound) →
+      (j : ℕ) → HasSpot spots j → SetsNoneUpTo low (get_or labels j low) (u j) bound
   none_away u bound none j found =
       let spot = found.0 in
       let k : ℕ = found.1.0 in

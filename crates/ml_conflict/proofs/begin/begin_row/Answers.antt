@@ -13,7 +13,8 @@ pub loop-q-preserved : goal.loop-q-preserved
 loop-q-preserved c =
     loop_more (λ q s. BoxesOverlap c.args.low.now c.args.p.now c.args.high.now q s) c.args.high.now.boxes (worth c.args.start) (worth c.args.until) (worth c.args.best)
     _ c.loop-q.q-index _ (worth c.loop-q.first) (worth c.begin_one-first.result) (c.as_slice-q-items.ensures ∙ c.boxes.ensures) (omega arith) c.loop-q.invariant
-    (begins_like (LiesIn worth c.boxes_interval.result) _ (worth c.args.start) (worth c.args.until) (worth c.loop-q.first) (worth c.begin_one-first.result) c.boxes_interval.ensures.scales c.begin_one-first.ensures)
+    (begins_like (LiesIn worth c.boxes_interval.result) _ (worth c.args.start) (worth c.args.until) (worth c.loop-q.first)
+    (worth c.begin_one-first.result) c.boxes_interval.ensures.scales c.begin_one-first.ensures)
 
 pub returns : goal.returns
 returns c =

@@ -24,4 +24,5 @@ returns-else-may_overlap c =
     c.larger-start.ensures.at_most (rw c.min.ensures at c.of_ratio-low_min.ensures.at_most) (rw c.min-2.ensures at c.of_ratio.ensures.at_most) in
     block_same c.args.low.now c.args.high.now (worth c.of_ratio-end.result) (value_of c.args.until.now) (worth c.args.bound) (worth c.args.bound) c.of_ratio-end.ensures.same
     (block_none c.args.low.now c.args.high.now (worth c.of_ratio-end.result) (worth c.args.bound)
-    (clear_allows c.args.low.now c.args.high.now (worth c.of_ratio-end.result) (worth c.larger-start.result) (worth c.args.bound) (worth c.smaller.result) from c.smaller.ensures.same (c.may_overlap.ensures.none c.if-may_overlap.false)))
+    (clear_allows c.args.low.now c.args.high.now (worth c.of_ratio-end.result) (worth c.larger-start.result) (worth c.args.bound)
+    (worth c.smaller.result) from c.smaller.ensures.same (c.may_overlap.ensures.none c.if-may_overlap.false)))

@@ -9,8 +9,10 @@ use Rattle.ml_conflict.proofs.block.first_block.Goals as goal
 pub returns-then-is_less-clause-some : goal.returns-then-is_less-clause-some
 returns-then-is_less-clause-some c =
     let max : IsSame (worth c.of_ratio-max.result) (value_of c.args.low.now.max) = rw c.max.ensures at c.of_ratio-max.ensures.same in
-    let below : IsLess (worth c.block-first.result) (value_of c.args.low.now.max) = less_at_most (worth c.block-first.result) (worth c.of_ratio-max.result) (value_of c.args.low.now.max) c.if-is_less.ensures (omega arith) in (
-      limit_same c.args.low.now c.args.high.now (value_of c.args.until.now) (value_of c.args.until.now) (worth c.block-first.result) (value_of c.reduced.result) (omega arith) c.reduced.ensures.same (c.block-first.ensures.limit c.if-is_less.ensures),
+    let below : IsLess (worth c.block-first.result) (value_of c.args.low.now.max) = less_at_most (worth c.block-first.result)
+    (worth c.of_ratio-max.result) (value_of c.args.low.now.max) c.if-is_less.ensures (omega arith) in (
+      limit_same c.args.low.now c.args.high.now (value_of c.args.until.now) (value_of c.args.until.now) (worth c.block-first.result)
+          (value_of c.reduced.result) (omega arith) c.reduced.ensures.same (c.block-first.ensures.limit c.if-is_less.ensures),
       at_most_less (value_of c.reduced.result) (worth c.block-first.result) (value_of c.args.low.now.max) (omega (arith, c.reduced.ensures.same)) below,
     )
 

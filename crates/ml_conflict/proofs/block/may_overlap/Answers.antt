@@ -10,7 +10,8 @@ use Rattle.ml_conflict.specs.Quotient.{worth}
 use Rattle.ml_conflict.proofs.block.may_overlap.Goals as goal
 
 -- labels that are apart up to a fraction overlap nowhere below it
-apart_clear : (low high : Label) (start last : Fraction) (num den : ℕ) (b : Bool) → num ≡ last.num → den ≡ last.den → MatchBool b (AreApart low high num den) (AreNear low high num den) → IsFalse (not b) → Clear (λ s. Overlap low high s) start last last
+apart_clear : (low high : Label) (start last : Fraction) (num den : ℕ) (b : Bool) → num ≡ last.num → den ≡ last.den →
+    MatchBool b (AreApart low high num den) (AreNear low high num den) → IsFalse (not b) → Clear (λ s. Overlap low high s) start last last
 unfolding Clear
 apart_clear low high start last num den true e f apart is = λ s scale from less under over.
     let upto : IsUpTo num den s = rw (e, f) (omega arith) in

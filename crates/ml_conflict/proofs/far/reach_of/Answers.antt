@@ -20,13 +20,15 @@ loop-p-preserved c =
     let sized = ap length items in
     let in' : i < length label.boxes = omega (arith, c.loop-p-test.true) in
     let within = subst (IsWithin c.args.axis c.side_of.result) c.widened.ensures.value c.side_of.ensures.within in
-    let here : IsWithin c.args.axis next (widened label (get_or c.as_slice-p-items.result.now i some)) = within_more c.args.axis c.side_of.result next (widened label (get_or c.as_slice-p-items.result.now i some)) c.larger-reach.ensures.second within in (
+    let here : IsWithin c.args.axis next (widened label (get_or c.as_slice-p-items.result.now i some)) = within_more c.args.axis c.side_of.result next
+    (widened label (get_or c.as_slice-p-items.result.now i some)) c.larger-reach.ensures.second within in (
       c.larger-reach.ensures.low 576 c.loop-p.invariant.0 c.side_of.ensures.low,
       λ k d lt. elim (cases_lt k i) [
         | inl less ↦ within_more c.args.axis c.loop-p.reach next (widened label (get_or label.boxes k d)) c.larger-reach.ensures.first (c.loop-p.invariant.1 k d less)
         | inr more ↦
             let same : i ≡ k = omega arith in
-            subst (λ (p : BoxPx). IsWithin c.args.axis next (widened label p)) (ap (λ (xs : List BoxPx). get_or xs i some) items ∙ (get_or_default label.boxes i some d in' ∙ ap (λ (m : ℕ). get_or label.boxes m d) same)) here
+            subst (λ (p : BoxPx). IsWithin c.args.axis next (widened label p))
+            (ap (λ (xs : List BoxPx). get_or xs i some) items ∙ (get_or_default label.boxes i some d in' ∙ ap (λ (m : ℕ). get_or label.boxes m d) same)) here
       ],
     )
 

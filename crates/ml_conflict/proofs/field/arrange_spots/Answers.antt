@@ -21,4 +21,5 @@ returns c =
     let sorted : IsSortedBy (λ p q. is_lt (int_cmp p.x q.x)) after =
     c.sort_unstable_by_key.ensures.sorted (λ (s : Spot). s.x) (answers_always _ (λ a r. r ≡ a.0.now.x) _ (λ f a r f' k. search rules)) in
     let all : c.loop-i.i ≡ length c.args.labels.now = omega arith in
-    field_of c.args.labels.now c.loop-i.spots after c.greatest_reach.result (omega arith) (subst (λ (n : ℕ). AreWritten c.args.labels.now n c.loop-i.spots) all c.loop-i.invariant) c.greatest_reach.ensures.reaches c.greatest_reach.ensures.low c.sort_unstable_by_key.ensures.permutation sorted
+    field_of c.args.labels.now c.loop-i.spots after c.greatest_reach.result (omega arith) (subst (λ (n : ℕ). AreWritten c.args.labels.now n c.loop-i.spots)
+    all c.loop-i.invariant) c.greatest_reach.ensures.reaches c.greatest_reach.ensures.low c.sort_unstable_by_key.ensures.permutation sorted

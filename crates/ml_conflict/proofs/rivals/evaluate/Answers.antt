@@ -16,9 +16,11 @@ loop-k-preserved g c =
     record {
       spent = c.loop-k.invariant.spent;
       so_far = elim c.if-is_less.branch [
-        | then-is_less w ↦ rw (w.end-is, w.blocker-is) (evaluated_set c.args.low.now (g.R.RivalList.rivals c.args.rivals.now) c.loop-k.k (worth c.loop-k.end) c.loop-k.blocker c.label.result.now c.until.result c.label.ensures c.until.ensures c.loop-k.invariant.so_far
+        | then-is_less w ↦ rw (w.end-is, w.blocker-is) (evaluated_set c.args.low.now (g.R.RivalList.rivals c.args.rivals.now) c.loop-k.k
+            (worth c.loop-k.end) c.loop-k.blocker c.label.result.now c.until.result c.label.ensures c.until.ensures c.loop-k.invariant.so_far
             (worth c.block-first.result) w.number.result w.number.ensures c.block-first.ensures w.if-is_less.ensures)
-        | else-is_less w ↦ rw (w.end-is, w.blocker-is) (evaluated_kept c.args.low.now (g.R.RivalList.rivals c.args.rivals.now) c.loop-k.k (worth c.loop-k.end) c.loop-k.blocker c.label.result.now c.until.result c.label.ensures c.until.ensures c.loop-k.invariant.so_far
+        | else-is_less w ↦ rw (w.end-is, w.blocker-is) (evaluated_kept c.args.low.now (g.R.RivalList.rivals c.args.rivals.now) c.loop-k.k
+            (worth c.loop-k.end) c.loop-k.blocker c.label.result.now c.until.result c.label.ensures c.until.ensures c.loop-k.invariant.so_far
             (worth c.block-first.result) c.block-first.ensures w.if-is_less.ensures)
       ];
     }
@@ -26,5 +28,6 @@ loop-k-preserved g c =
 pub returns-clause-own : goal.returns-clause-own
 returns-clause-own g c =
     let last : c.loop-k.k ≡ length (g.R.RivalList.rivals c.args.rivals.now) = omega arith in
-    let done : Evaluated c.args.low.now (g.R.RivalList.rivals c.args.rivals.now) (length (g.R.RivalList.rivals c.args.rivals.now)) (worth c.loop-k.end) c.loop-k.blocker = rw last at c.loop-k.invariant.so_far in
+    let done : Evaluated c.args.low.now (g.R.RivalList.rivals c.args.rivals.now) (length (g.R.RivalList.rivals c.args.rivals.now)) (worth c.loop-k.end) c.loop-k.blocker =
+    rw last at c.loop-k.invariant.so_far in
     evaluated_all c.args.low.now (g.R.RivalList.rivals c.args.rivals.now) (worth c.loop-k.end) (record { until = c.reduced.result; blocker = c.loop-k.blocker }) c.reduced.ensures.same done

@@ -30,7 +30,8 @@ returns-then-v-lt0-clause-scales c s scale =
     let ku = simp to_z-of_z at c.unsigned_abs-far.ensures.value in
     let kv = simp to_z-of_z at c.unsigned_abs-wide.ensures.value in
     let new = c.new-then-v-lt0 in
-    let same : c.new-then-v-lt0.result.num * c.unsigned_abs-wide.result ≡ c.unsigned_abs-far.result * c.new-then-v-lt0.result.den = rw (c.new-then-v-lt0.ensures.num_is, c.new-then-v-lt0.ensures.den_is) refl in
+    let same : c.new-then-v-lt0.result.num * c.unsigned_abs-wide.result ≡ c.unsigned_abs-far.result * c.new-then-v-lt0.result.den =
+    rw (c.new-then-v-lt0.ensures.num_is, c.new-then-v-lt0.ensures.den_is) refl in
     let e = half_down c.args.u c.args.v c.unsigned_abs-far.result c.unsigned_abs-wide.result (worth c.new-then-v-lt0.result) ku kv (omega (arith, ints)) (omega (arith, ints)) same s in
     (λ h. (zero_below (worth c.new-zero.result) s (omega (arith, c.new-zero.ensures.num_is)) scale, e.0 h), λ h. e.1 h.1)
 

@@ -11,6 +11,7 @@ loop-i-init g c = record {
   so_far = assigned_none c.args.labels.now _ c.in_ok-slots.ensures.items;
   some = c.in_ok-field.ensures.some;
   strips = c.in_ok-field.ensures.good;
+  blocks = search rules;
   held = held_none c.args.labels.now _ c.in_ok-field.field.strips.items c.in_ok-slots.ensures.items;
   empty = search rules;
   spent = omega arith;
@@ -23,10 +24,13 @@ loop-i-preserved g c =
     let i = c.loop-i.invariant in
     let many = c.stand.ensures.many in
     record {
-      so_far = rw c.in_ok-push.ensures.items (assigned_more c.same_rivals.ensures c.args.labels.now c.loop-i.i c.loop-i.slots.items c.in_ok-slot.slot low c.loop-i-test.true c.index-labels-i.is i.so_far own);
+      so_far = rw c.in_ok-push.ensures.items
+          (assigned_more c.same_rivals.ensures c.args.labels.now c.loop-i.i c.loop-i.slots.items c.in_ok-slot.slot low c.loop-i-test.true c.index-labels-i.is i.so_far own);
       some = λ some. let h = i.some some in omega arith;
       strips = c.in_ok-stand.ensures.strips;
-      held = rw c.in_ok-push.ensures.items (held_more c.args.labels.now c.loop-i.slots.items c.loop-i.field.strips.items c.stand.new.field.strips.items c.in_ok-slot.slot c.spot_of-spot.result.place (let one = i.so_far.one_each in let at = c.spot_of-spot.ensures.place in omega arith) i.held c.in_ok-stand.ensures.kept c.in_ok-stand.ensures.here);
+      blocks = search rules;
+      held = rw c.in_ok-push.ensures.items (held_more c.args.labels.now c.loop-i.slots.items c.loop-i.field.strips.items c.stand.new.field.strips.items c.in_ok-slot.slot c.spot_of-spot.result.place
+          (let one = i.so_far.one_each in let at = c.spot_of-spot.ensures.place in omega arith) i.held c.in_ok-stand.ensures.kept c.in_ok-stand.ensures.here);
       empty = c.in_ok-slot.ensures.cleared;
       spent = omega (arith, c.in_ok-slot.ensures.spent, i.spent);
     }
@@ -41,7 +45,8 @@ pub stand-requires-clause-some : goal.stand-requires-clause-some
 stand-requires-clause-some g c = c.loop-i.invariant.some (omega arith)
 
 pub returns-clause-slots : goal.returns-clause-slots
-returns-clause-slots g c = rw c.of_vec.ensures ((c.own_slots.ensures (λ j. j) c.args.labels.now c.loop-i.slots.items).0 (assigned_all c.args.labels.now c.loop-i.i c.loop-i.slots.items (omega arith) c.loop-i.invariant.so_far))
+returns-clause-slots g c = rw c.of_vec.ensures ((c.own_slots.ensures (λ j. j) c.args.labels.now c.loop-i.slots.items).0
+    (assigned_all c.args.labels.now c.loop-i.i c.loop-i.slots.items (omega arith) c.loop-i.invariant.so_far))
 
 pub returns-clause-placed : goal.returns-clause-placed
 returns-clause-placed g c =

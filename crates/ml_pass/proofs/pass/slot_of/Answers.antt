@@ -15,4 +15,5 @@ returns-clause-own g c =
     let bound = c.in_ok-gather.ensures.0 in
     let searched = subst (λ (l : List ℕ). IsSearched low rivals n (λ j. j < n) (value_of low.max) bound l found) c.requires.empty c.in_ok-gather.ensures.1 in
     let are = enough_of low rivals n bound found sorted searched c.sort_unstable.ensures.permutation c.sort_unstable.ensures.sorted in
-    c.enough.ensures low rivals n bound sorted c.evaluate-slot.result are (subst (λ (l : List ℕ). IsSlotAmong low (map rivals l) c.evaluate-slot.result) c.as_slice.ensures.value c.evaluate-slot.ensures.own)
+    c.enough.ensures low rivals n bound sorted c.evaluate-slot.result are
+    (subst (λ (l : List ℕ). IsSlotAmong low (map rivals l) c.evaluate-slot.result) c.as_slice.ensures.value c.evaluate-slot.ensures.own)

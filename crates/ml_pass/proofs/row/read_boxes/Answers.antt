@@ -11,7 +11,8 @@ returns-in-None c boxes all =
     let empty : BoxPx = record { l = pos 0; b = pos 0; r = pos 0; t = pos 0 } in
     let lt : c.loop-text.text-index < length (map (λ (p : Bor (List ℕ)). p.now) c.args.texts.now) = omega (arith, length-map c.args.texts.now (λ (p : Bor (List ℕ)). p.now)) in
     let here = zip_at ReadsBox (map (λ (p : Bor (List ℕ)). p.now) c.args.texts.now) boxes c.loop-text.text-index [] empty lt all in
-    (rw c.in-None.is at c.in_ok-p.ensures) (get_or boxes c.loop-text.text-index empty) (rw (get_or-map (λ (p : Bor (List ℕ)). p.now) c.args.texts.now c.loop-text.text-index none [] (omega arith)) at here)
+    (rw c.in-None.is at c.in_ok-p.ensures) (get_or boxes c.loop-text.text-index empty)
+    (rw (get_or-map (λ (p : Bor (List ℕ)). p.now) c.args.texts.now c.loop-text.text-index none [] (omega arith)) at here)
 
 pub loop-text-preserved : goal.loop-text-preserved
 loop-text-preserved c =

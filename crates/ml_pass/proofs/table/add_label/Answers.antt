@@ -18,7 +18,8 @@ returns-then-len-eq-MOST_LABELS-clause-fault c =
 pub returns-clause-finds : goal.returns-clause-finds
 returns-clause-finds c =
     rw c.in_ok-push.ensures.ok
-    (finds_more c.args.labels.now c.args.label c.args.ids.now c.insert.new.self c.len.result c.len.ensures c.requires.finds (rw c.requires.its_id at (btree_map_updates_str c.args.id.now c.args.ids.now c.insert.new.self _ c.in_ok-insert.ensures.updates)))
+    (finds_more c.args.labels.now c.args.label c.args.ids.now c.insert.new.self c.len.result c.len.ensures c.requires.finds
+    (rw c.requires.its_id at (btree_map_updates_str c.args.id.now c.args.ids.now c.insert.new.self _ c.in_ok-insert.ensures.updates)))
 
 pub returns-clause-new : goal.returns-clause-new
 returns-clause-new c =

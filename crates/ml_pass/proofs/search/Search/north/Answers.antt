@@ -9,7 +9,8 @@ use Rattle.ml_pass.proofs.search.Search.north.Goals as goal
 
 pub loop-right-init : goal.loop-right-init
 loop-right-init c =
-    searched_none c.args.self.now.low.now (rivals_in c.args.self.now.labels.now c.args.self.now.slots.now c.args.self.now.low.now) (length c.args.self.now.slots.now) (SeesSpot c.args.strip.now.spots.items c.args.seen.right c.args.seen.right) (value_of c.args.seen.bound) c.args.places.now.items
+    searched_none c.args.self.now.low.now (rivals_in c.args.self.now.labels.now c.args.self.now.slots.now c.args.self.now.low.now) (length c.args.self.now.slots.now)
+    (SeesSpot c.args.strip.now.spots.items c.args.seen.right c.args.seen.right) (value_of c.args.seen.bound) c.args.places.now.items
     (λ j saw lt. absurd (omega (arith, saw.1, saw.2)))
 
 pub loop-right-preserved : goal.loop-right-preserved
@@ -18,8 +19,10 @@ loop-right-preserved c =
     let value = c.as_slice-spots.ensures.value in
     let sized = ap length value in
     let is : c.index-spots-right.result ≡ get_or spots c.loop-right.right c.index-spots-right.result = rw value at c.index-spots-right.is in
-    north_more c.args.self.now.labels.now c.args.self.now.slots.now c.args.self.now.low.now spots c.args.strip.now.area c.requires.strip c.loop-right.right c.args.seen.right c.index-spots-right.result (omega arith) is
-    (value_of c.args.seen.bound) c.args.places.now.items c.loop-right.places.items (value_of c.loop-right.bound) (value_of c.in_ok-bound.bound) c.look.new.places.items c.loop-right.invariant c.in_ok-bound.ensures
+    north_more c.args.self.now.labels.now c.args.self.now.slots.now c.args.self.now.low.now spots c.args.strip.now.area
+    c.requires.strip c.loop-right.right c.args.seen.right c.index-spots-right.result (omega arith) is
+    (value_of c.args.seen.bound) c.args.places.now.items c.loop-right.places.items (value_of c.loop-right.bound)
+    (value_of c.in_ok-bound.bound) c.look.new.places.items c.loop-right.invariant c.in_ok-bound.ensures
 
 pub returns-then-is_beyond-clause-searched : goal.returns-then-is_beyond-clause-searched
 returns-then-is_beyond-clause-searched c =
@@ -34,7 +37,8 @@ returns-then-is_beyond-clause-searched c =
     let fl : FitsSigned w64 low.y = omega (arith, ints) in
     let fs : FitsSigned w64 spot.y = omega (arith, ints) in
     let beyond = simp to_z-of_z at (rw c.y.ensures at (c.is_beyond.ensures c.if-is_beyond.true)) in
-    rw value (north_far c.args.self.now.labels.now c.args.self.now.slots.now low spots c.args.strip.now.area c.requires.strip c.loop-right.right c.args.seen.right spot (omega arith) is (value_of c.args.seen.bound) c.args.places.now.items c.loop-right.places.items
+    rw value (north_far c.args.self.now.labels.now c.args.self.now.slots.now low spots c.args.strip.now.area c.requires.strip c.loop-right.right c.args.seen.right spot
+    (omega arith) is (value_of c.args.seen.bound) c.args.places.now.items c.loop-right.places.items
     c.args.self.now.area c.args.self.now.its_area c.loop-right.bound beyond c.loop-right.invariant)
 
 pub look-requires : goal.look-requires

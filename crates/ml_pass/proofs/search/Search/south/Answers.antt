@@ -12,7 +12,8 @@ loop-left-init c =
     record {
       least = omega arith;
       in_range = omega arith;
-      searched = searched_none c.args.self.now.low.now (rivals_in c.args.self.now.labels.now c.args.self.now.slots.now c.args.self.now.low.now) (length c.args.self.now.slots.now) (SeesSpot c.args.strip.now.spots.items c.args.seen.left c.args.seen.left) (value_of c.args.seen.bound) c.args.places.now.items
+      searched = searched_none c.args.self.now.low.now (rivals_in c.args.self.now.labels.now c.args.self.now.slots.now c.args.self.now.low.now)
+          (length c.args.self.now.slots.now) (SeesSpot c.args.strip.now.spots.items c.args.seen.left c.args.seen.left) (value_of c.args.seen.bound) c.args.places.now.items
           (λ j saw lt. absurd (omega (arith, saw.1, saw.2)));
     }
 
@@ -25,8 +26,10 @@ loop-left-preserved c =
     record {
       least = omega arith;
       in_range = omega (arith, c.loop-left.invariant.in_range);
-      searched = south_more c.args.self.now.labels.now c.args.self.now.slots.now c.args.self.now.low.now spots c.args.strip.now.area c.requires.strip (c.loop-left.left - 1) c.args.seen.left c.index-spots-at.result (omega arith) is
-          (value_of c.args.seen.bound) c.args.places.now.items c.loop-left.places.items c.loop-left.left (value_of c.loop-left.bound) (value_of c.in_ok-bound.bound) c.look.new.places.items (omega arith) c.loop-left.invariant.searched c.in_ok-bound.ensures;
+      searched = south_more c.args.self.now.labels.now c.args.self.now.slots.now c.args.self.now.low.now spots c.args.strip.now.area c.requires.strip
+          (c.loop-left.left - 1) c.args.seen.left c.index-spots-at.result (omega arith) is
+          (value_of c.args.seen.bound) c.args.places.now.items c.loop-left.places.items c.loop-left.left (value_of c.loop-left.bound)
+          (value_of c.in_ok-bound.bound) c.look.new.places.items (omega arith) c.loop-left.invariant.searched c.in_ok-bound.ensures;
     }
 
 pub returns-then-is_beyond-clause-searched : goal.returns-then-is_beyond-clause-searched
@@ -42,7 +45,8 @@ returns-then-is_beyond-clause-searched c =
     let fl : FitsSigned w64 low.y = omega (arith, ints) in
     let fs : FitsSigned w64 spot.y = omega (arith, ints) in
     let beyond = simp to_z-of_z at (rw c.y.ensures at (c.is_beyond.ensures c.if-is_beyond.true)) in
-    south_far c.args.self.now.labels.now c.args.self.now.slots.now low spots c.args.strip.now.area c.requires.strip (c.loop-left.left - 1) c.args.seen.left spot (omega arith) is (value_of c.args.seen.bound) c.args.places.now.items c.loop-left.places.items
+    south_far c.args.self.now.labels.now c.args.self.now.slots.now low spots c.args.strip.now.area c.requires.strip
+    (c.loop-left.left - 1) c.args.seen.left spot (omega arith) is (value_of c.args.seen.bound) c.args.places.now.items c.loop-left.places.items
     c.args.self.now.area c.args.self.now.its_area c.loop-left.bound c.loop-left.left (omega arith) s beyond c.loop-left.invariant.searched
 
 pub look-requires : goal.look-requires
