@@ -6,6 +6,7 @@ use Rattle.std.proofs.lemmas.Grind.{flat_map-append}
 use Rattle.std.proofs.lemmas.List.{append-nil, map-append, get_or-append-add}
 use Rattle.std.proofs.lemmas.List.Elements.{All-append, All-cons, All-nil}
 use Rattle.ml_ratio.specs.Count.{one_more}
+use Rattle.ml_io.specs.Calls.{Put}
 use Rattle.ml_io.specs.Causes.{Appends, AppendsPart, IsCut}
 use Rattle.ml_follow.specs.Follower.{IsOfferFault}
 use Rattle.ml_follow.specs.declared.fault.OfferFault.{OfferFault}
@@ -56,7 +57,8 @@ told_more true true xs x is so_far = All-append (λ a. a.adopted ≡ true) xs (x
 told_more true false xs x is so_far = some_right xs (x ∷ []) (some_one x is)
 told_more false adopted xs x is so_far = some_left xs (x ∷ []) so_far
 
-offers_on : (a b c : Option State) (states : List State) (answers : List Offered) (state : State) (answer : Offered) → Offers a states answers b → IsOffer b state answer c → Offers a (states ++ state ∷ []) (answers ++ answer ∷ []) c
+offers_on : (a b c : Option State) (states : List State) (answers : List Offered) (state : State) (answer : Offered) →
+    Offers a states answers b → IsOffer b state answer c → Offers a (states ++ state ∷ []) (answers ++ answer ∷ []) c
 offers_on a b c [] [] state answer so_far next = (c, rw so_far at next, refl)
 offers_on a b c [] (x ∷ xs) state answer so_far next = absurd so_far
 offers_on a b c (s ∷ ss) [] state answer so_far next = absurd so_far
@@ -96,8 +98,13 @@ answered_more hearing twice a b c states answers state answer u v w so_far next 
   hears = subst (λ changes. AllHear hearing changes u w) (sym (changes_more answers answer)) (twice (changes_of answers) answer.changes u v w so_far.hears heard);
 }
 
+-- what was put to the output from one time to another: the bytes written and the count of faults at both
+abbrev pub put_between : Option (List ℕ) → Option (List ℕ) → ℕ → ℕ → Put
+put_between written written_after faults faults_after = record { written = written; written_after = written_after; faults = faults; faults_after = faults_after }
+
 -- the first of the states were offered and all their lines printed; these are left
-pub record SoFar {W : Type 0} (hearing : W → Hearing) (held : Option State) (states rest : List State) (held_now : Option State) (crowd crowd_now : List W) (written written_now : Option (List ℕ)) (writes writes_now : ℕ) (all : Bool) : Type 0 where
+pub record SoFar {W : Type 0} (hearing : W → Hearing) (held : Option State) (states rest : List State) (held_now : Option State)
+    (crowd crowd_now : List W) (written written_now : Option (List ℕ)) (writes writes_now : ℕ) (all : Bool) : Type 0 where
   pub front : List State
   pub are : states ≡ front ++ rest
   pub answers : List Offered
@@ -119,10 +126,12 @@ at_start hearing held states crowd written writes nothing = record {
   calm = refl;
 }
 
-module _ {W : Type 0} (hearing : W → Hearing) (twice : HearTwice hearing) (held : Option State) (states : List State) (state : State) (rest : List State) (held_now : Option State) (crowd crowd_now : List W) (written written_now : Option (List ℕ)) (writes writes_now : ℕ) (all : Bool)
-    (so_far : SoFar hearing held states (state ∷ rest) held_now crowd crowd_now written written_now writes writes_now all) (held_after : Option State) (crowd_after : List W) (written_after : Option (List ℕ)) (writes_after : ℕ) where
+module _ {W : Type 0} (hearing : W → Hearing) (twice : HearTwice hearing) (held : Option State) (states : List State) (state : State) (rest : List State)
+    (held_now : Option State) (crowd crowd_now : List W) (written written_now : Option (List ℕ)) (writes writes_now : ℕ) (all : Bool)
+    (so_far : SoFar hearing held states (state ∷ rest) held_now crowd crowd_now written written_now writes writes_now all)
+    (held_after : Option State) (crowd_after : List W) (written_after : Option (List ℕ)) (writes_after : ℕ) where
   -- one state more, with its line
-  pub next_turn : (adopted : Bool) → IsOfferPrinted hearing held_now state held_after crowd_now crowd_after written_now written_after writes_now writes_after (Ok adopted)
+  pub next_turn : (adopted : Bool) → IsOfferPrinted hearing held_now state held_after crowd_now crowd_after (put_between written_now written_after writes_now writes_after) (Ok adopted)
       → SoFar hearing held states rest held_after crowd crowd_after written written_after writes writes_after (all && adopted)
   next_turn adopted (answer, (offer, heard), wrote, says, calm) = record {
     front = so_far.front ++ state ∷ [];
@@ -136,8 +145,8 @@ module _ {W : Type 0} (hearing : W → Hearing) (twice : HearTwice hearing) (hel
   }
 
   -- one state more, with a part of its line; or memory was wanting for it
-  pub halted_at : (why : Halt) → IsOfferPrinted hearing held_now state held_after crowd_now crowd_after written_now written_after writes_now writes_after (Err why)
-      → AreOffered hearing held states held_after crowd crowd_after written written_after writes writes_after (Err why)
+  pub halted_at : (why : Halt) → IsOfferPrinted hearing held_now state held_after crowd_now crowd_after (put_between written_now written_after writes_now writes_after) (Err why)
+      → AreOffered hearing held states held_after crowd crowd_after (put_between written written_after writes writes_after) (Err why)
   halted_at halt.WriteFault (answer, (offer, heard), part, failed) = (
     record {
       front = so_far.front ++ state ∷ [];
@@ -145,7 +154,8 @@ module _ {W : Type 0} (hearing : W → Hearing) (twice : HearTwice hearing) (hel
       are = so_far.are ∙ sym (append_assoc so_far.front (state ∷ []) rest);
       answers = so_far.answers ++ answer ∷ [];
       answered = answered_more hearing twice held held_now held_after so_far.front so_far.answers state answer crowd crowd_now crowd_after so_far.answered offer heard;
-      printed = subst (λ texts. IsCut written written_after texts) (sym (lines_more so_far.answers answer)) (cut_after_all written written_now written_after (lines_of so_far.answers) answer.line so_far.wrote part);
+      printed = subst (λ texts. IsCut written written_after texts) (sym (lines_more so_far.answers answer))
+          (cut_after_all written written_now written_after (lines_of so_far.answers) answer.line so_far.wrote part);
     },
     failed ∙ ap one_more so_far.calm,
   )
@@ -162,9 +172,10 @@ module _ {W : Type 0} (hearing : W → Hearing) (twice : HearTwice hearing) (hel
   )
 
 -- none is left
-pub at_end : {W : Type 0} (hearing : W → Hearing) (held : Option State) (states rest : List State) (held_now : Option State) (crowd crowd_now : List W) (written written_now : Option (List ℕ)) (writes writes_now : ℕ) (all : Bool)
-    → rest ≡ [] → SoFar hearing held states rest held_now crowd crowd_now written written_now writes writes_now all
-    → AreOffered hearing held states held_now crowd crowd_now written written_now writes writes_now (Ok all)
+pub at_end : {W : Type 0} (hearing : W → Hearing) (held : Option State) (states rest : List State) (held_now : Option State)
+    (crowd crowd_now : List W) (written written_now : Option (List ℕ)) (writes writes_now : ℕ) (all : Bool) →
+    rest ≡ [] → SoFar hearing held states rest held_now crowd crowd_now written written_now writes writes_now all →
+    AreOffered hearing held states held_now crowd crowd_now (put_between written written_now writes writes_now) (Ok all)
 at_end hearing held states rest held_now crowd crowd_now written written_now writes writes_now all none so_far =
     let are : states ≡ so_far.front = so_far.are ∙ ap (λ xs. so_far.front ++ xs) none ∙ append-nil so_far.front in
     (so_far.answers, rw are so_far.answered, so_far.wrote, so_far.told, so_far.calm)

@@ -1,6 +1,7 @@
 -- What the steps of following come to.
 use Rattle.std.specs.Prelude.{◌≡◌, ℕ, Bool, List, ◌++◌, Option, Result, Ok, Err, MatchBool}
 use Rattle.ml_ratio.specs.Count.{one_more}
+use Rattle.ml_io.specs.Calls.{Put}
 use Rattle.ml_io.specs.Causes.{Appends, AppendsPart, IsCut}
 use Rattle.ml_follow.specs.declared.state.State.{State}
 use Rattle.ml_watch.specs.Hearing.{Hearing, AllHear}
@@ -32,15 +33,15 @@ IsOfferAnswered hearing held state held_after crowd crowd_after answer =
     (changes : List Change) × IsHeardOffer hearing held state (offered answer changes) held_after crowd crowd_after
 
 -- one state was offered, and its line printed, or a part of it; or memory was wanting, and all stays
-abbrev pub IsOfferPrinted : {W : Type 0} → (W → Hearing) → Option State → State → Option State → List W → List W → Option (List ℕ) → Option (List ℕ) → ℕ → ℕ → Result Bool Halt → Type 0
-IsOfferPrinted hearing held state held_after crowd crowd_after written written_after writes writes_after (Ok adopted) =
+abbrev pub IsOfferPrinted : {W : Type 0} → (W → Hearing) → Option State → State → Option State → List W → List W → Put → Result Bool Halt → Type 0
+IsOfferPrinted hearing held state held_after crowd crowd_after put (Ok adopted) =
     (answer : Offered) × IsHeardOffer hearing held state answer held_after crowd crowd_after
-    × Appends written written_after answer.line × (answer.adopted ≡ adopted) × (writes_after ≡ writes)
-IsOfferPrinted hearing held state held_after crowd crowd_after written written_after writes writes_after (Err WriteFault) =
+    × Appends put.written put.written_after answer.line × (answer.adopted ≡ adopted) × (put.faults_after ≡ put.faults)
+IsOfferPrinted hearing held state held_after crowd crowd_after put (Err WriteFault) =
     (answer : Offered) × IsHeardOffer hearing held state answer held_after crowd crowd_after
-    × AppendsPart written written_after answer.line × (writes_after ≡ one_more writes)
-IsOfferPrinted hearing held state held_after crowd crowd_after written written_after writes writes_after (Err Memory) =
-    (held_after ≡ held) × (crowd_after ≡ crowd) × (written_after ≡ written) × (writes_after ≡ writes)
+    × AppendsPart put.written put.written_after answer.line × (put.faults_after ≡ one_more put.faults)
+IsOfferPrinted hearing held state held_after crowd crowd_after put (Err Memory) =
+    (held_after ≡ held) × (crowd_after ≡ crowd) × (put.written_after ≡ put.written) × (put.faults_after ≡ put.faults)
 
 -- states were offered and answered so, and the watchers were told what changed by them
 pub record AreAnswered {W : Type 0} (hearing : W → Hearing) (held : Option State) (states : List State) (answers : List Offered) (held_after : Option State) (crowd crowd_after : List W) : Type 0 where
@@ -48,7 +49,8 @@ pub record AreAnswered {W : Type 0} (hearing : W → Hearing) (held : Option Sta
   pub hears : AllHear hearing (changes_of answers) crowd crowd_after
 
 -- the first of the states were answered, and these lines were printed
-pub record AreFirstAnswered {W : Type 0} (hearing : W → Hearing) (held : Option State) (states : List State) (held_after : Option State) (crowd crowd_after : List W) (Printed : List (List ℕ) → Type 0) : Type 0 where
+pub record AreFirstAnswered {W : Type 0} (hearing : W → Hearing) (held : Option State) (states : List State)
+    (held_after : Option State) (crowd crowd_after : List W) (Printed : List (List ℕ) → Type 0) : Type 0 where
   pub front : List State
   pub rest : List State
   pub are : states ≡ front ++ rest
@@ -57,17 +59,17 @@ pub record AreFirstAnswered {W : Type 0} (hearing : W → Hearing) (held : Optio
   pub printed : Printed (lines_of answers)
 
 -- all states were offered, and all lines printed; or what was offered before output or memory failed
-abbrev pub AreOffered : {W : Type 0} → (W → Hearing) → Option State → List State → Option State → List W → List W → Option (List ℕ) → Option (List ℕ) → ℕ → ℕ → Result Bool Halt → Type 0
-AreOffered hearing held states held_after crowd crowd_after written written_after writes writes_after (Ok all) =
+abbrev pub AreOffered : {W : Type 0} → (W → Hearing) → Option State → List State → Option State → List W → List W → Put → Result Bool Halt → Type 0
+AreOffered hearing held states held_after crowd crowd_after put (Ok all) =
     (answers : List Offered) × AreAnswered hearing held states answers held_after crowd crowd_after
-    × Appends written written_after (joined (lines_of answers)) × MatchBool all (AllAdopted answers) (SomeNotAdopted answers) × (writes_after ≡ writes)
-AreOffered hearing held states held_after crowd crowd_after written written_after writes writes_after (Err WriteFault) =
-    AreFirstAnswered hearing held states held_after crowd crowd_after (λ lines. IsCut written written_after lines) × (writes_after ≡ one_more writes)
-AreOffered hearing held states held_after crowd crowd_after written written_after writes writes_after (Err Memory) =
-    AreFirstAnswered hearing held states held_after crowd crowd_after (λ lines. Appends written written_after (joined lines)) × (writes_after ≡ writes)
+    × Appends put.written put.written_after (joined (lines_of answers)) × MatchBool all (AllAdopted answers) (SomeNotAdopted answers) × (put.faults_after ≡ put.faults)
+AreOffered hearing held states held_after crowd crowd_after put (Err WriteFault) =
+    AreFirstAnswered hearing held states held_after crowd crowd_after (λ lines. IsCut put.written put.written_after lines) × (put.faults_after ≡ one_more put.faults)
+AreOffered hearing held states held_after crowd crowd_after put (Err Memory) =
+    AreFirstAnswered hearing held states held_after crowd crowd_after (λ lines. Appends put.written put.written_after (joined lines)) × (put.faults_after ≡ put.faults)
 
 -- the line of what is held was printed, or a part of it; or memory was wanting, and nothing was
-abbrev pub IsHeldPrinted : Option State → Option (List ℕ) → Option (List ℕ) → ℕ → ℕ → Result (Unit {0}) Halt → Type 0
-IsHeldPrinted held written written_after writes writes_after (Ok _) = Appends written written_after (held_line held) × (writes_after ≡ writes)
-IsHeldPrinted held written written_after writes writes_after (Err WriteFault) = AppendsPart written written_after (held_line held) × (writes_after ≡ one_more writes)
-IsHeldPrinted held written written_after writes writes_after (Err Memory) = (written_after ≡ written) × (writes_after ≡ writes)
+abbrev pub IsHeldPrinted : Option State → Put → Result (Unit {0}) Halt → Type 0
+IsHeldPrinted held put (Ok _) = Appends put.written put.written_after (held_line held) × (put.faults_after ≡ put.faults)
+IsHeldPrinted held put (Err WriteFault) = AppendsPart put.written put.written_after (held_line held) × (put.faults_after ≡ one_more put.faults)
+IsHeldPrinted held put (Err Memory) = (put.written_after ≡ put.written) × (put.faults_after ≡ put.faults)

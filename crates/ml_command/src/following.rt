@@ -58,7 +58,8 @@ pub enum Halt {
 pub fn load_states<F: Files>(alloc: Global, files: &mut F, name: &str) -> Result<Seq<State>, Stop>
     ensures ok { IfOk result (λ states. HasStates (F.told files.old) name.now states) }
     ensures good { IfOk result (λ states. All IsGood states) }
-    ensures stop { IfErr result (IsStatesStop (seen F.told F.faults F.failed_name files.old files.new) name.now) }
+    ensures stop { IfErr result
+        (IsStatesStop (seen F.told F.faults F.failed_name files.old files.new) name.now) }
     ensures same { F.told files.new ≡ F.told files.old }
     ensures kept { Keeps (seen F.told F.faults F.failed_name files.old files.new) result }
     ensures later { F.faults files.old ≤ F.faults files.new }
@@ -91,7 +92,8 @@ pub fn follow<K: Sink, W: Watcher>(
     crowd: &mut Crowd<W>,
 ) -> FollowEnd
     requires good { All IsGood states }
-    ensures followed { IsFollowed W.hearing states crowd.old crowd.new (put K.written K.faults out.old out.new) result }
+    ensures followed { IsFollowed W.hearing states crowd.old crowd.new
+        (put K.written K.faults out.old out.new) result }
     ensures later { K.faults out.old ≤ K.faults out.new }
 {
     let mut follower = Follower::new(alloc);
@@ -136,7 +138,7 @@ fn offer_all<K: Sink, W: Watcher>(
 ) -> Result<bool, Halt>
     requires good { All IsGood states }
     ensures offered { AreOffered W.hearing follower.old states follower.new crowd.old crowd.new
-        (K.written out.old) (K.written out.new) (K.faults out.old) (K.faults out.new) result }
+        (put K.written K.faults out.old out.new) result }
     ensures later { K.faults out.old ≤ K.faults out.new }
 {
     hear_nothing::<W>();
@@ -161,7 +163,7 @@ fn offer<K: Sink, W: Watcher>(
 ) -> Result<bool, Halt>
     requires good { IsGood state }
     ensures turn { IsOfferPrinted W.hearing follower.old state follower.new crowd.old crowd.new
-        (K.written out.old) (K.written out.new) (K.faults out.old) (K.faults out.new) result }
+        (put K.written K.faults out.old out.new) result }
     ensures later { K.faults out.old ≤ K.faults out.new }
 {
     let Ok(answer) = answer_to(alloc, follower, state, crowd) else {
@@ -182,7 +184,8 @@ fn answer_to<W: Watcher>(
     crowd: &mut Crowd<W>,
 ) -> Result<Answer, AllocError>
     requires good { IsGood state }
-    ensures answered { IfOk result (IsOfferAnswered W.hearing follower.old state follower.new crowd.old crowd.new) }
+    ensures answered { IfOk result
+        (IsOfferAnswered W.hearing follower.old state follower.new crowd.old crowd.new) }
     ensures held { OnErr result (follower.new ≡ follower.old) }
     ensures crowd { OnErr result (crowd.new ≡ crowd.old) }
 {
@@ -207,7 +210,7 @@ fn answer_to<W: Watcher>(
 
 // Prints what is held.
 fn print_held<K: Sink>(alloc: Global, follower: &Follower, out: &mut K) -> Result<(), Halt>
-    ensures printed { IsHeldPrinted follower.now (K.written out.old) (K.written out.new) (K.faults out.old) (K.faults out.new) result }
+    ensures printed { IsHeldPrinted follower.now (put K.written K.faults out.old out.new) result }
     ensures later { K.faults out.old ≤ K.faults out.new }
 {
     let Ok(line) = held_line(alloc, follower) else {
