@@ -191,14 +191,14 @@ def many_parameters_are_told(pages: list[Page], names: Names) -> Iterator[Any]:
 
 
 def long_lines_are_counted(pages: list[Page], names: Names) -> Iterator[Any]:
-    """How many lines of proofs in a hundred are long is as told."""
-    pattern = r"Some (\w+) lines of proofs in a hundred have over (\d+) columns"
-    lengths = []
-    for path in paths(names, "*", "proofs", "**", "*.antt"):
-        with open(path, encoding="utf-8") as stream:
-            lengths += [len(one.rstrip("\n")) for one in stream]
-    share = round(100 * sum(one > COLUMNS for one in lengths) / max(len(lengths), 1))
-    yield from told(pages, "docs/DECISIONS.md", pattern, (share, COLUMNS), "long lines")
+    """How many lines of definitions and proofs are long is as told."""
+    pattern = r"Of definitions and proofs, (\w+) lines? ha(?:s|ve) over (\d+) columns"
+    count = 0
+    for folder in ("specs", "proofs"):
+        for path in paths(names, "*", folder, "**", "*.antt"):
+            with open(path, encoding="utf-8") as stream:
+                count += sum(len(one.rstrip("\n")) > COLUMNS for one in stream)
+    yield from told(pages, "docs/DECISIONS.md", pattern, (count, COLUMNS), "long lines")
 
 
 def steps_are_counted(pages: list[Page], _names: Names) -> Iterator[Any]:

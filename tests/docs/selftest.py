@@ -123,7 +123,7 @@ SPOILS: tuple[Spoil, ...] = (
         "crates.txt has",
     ),
     ("counts", "docs/DECISIONS.md", "; `live` of", "; that of", "live is not named"),
-    ("counts", "docs/DECISIONS.md", "Some three lines", "Some nine lines", "long lines: 3"),
+    ("counts", "docs/DECISIONS.md", "one line has over", "nine lines have over", "long lines: 1"),
     ("counts", "docs/READING.md", "In 16 steps", "In 15 steps", "steps: 16"),
     (
         "ways",

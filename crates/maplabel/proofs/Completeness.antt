@@ -140,8 +140,8 @@ module _ (known : KnownFiles) (files : FileSet) {S D I O W : Type 0} (r : Call S
   stopped : (stops : Stop → Type 0) → ((s : Stop) → stops s → s ≡ stop.Memory) → (status : Status) → IsStopped r.files r.out stops status → status ≡ Memory
   stopped stops for_memory status is = whole is.3.1 is.3.0 status is.3.3 ∙ (rw (for_memory is.0 is.1) at is.3.2).0
 
-  text_end : (due : Status → List ℕ → Type 0) (stops : Stop → Type 0) (P : Status → Type 0) → ((now : Status) (text : List ℕ) → due now text → P now) → ((s : Stop) → stops s → s ≡ stop.Memory) → (status : Status)
-      → IsTextEnd r due stops status → P status ⊎ (status ≡ Memory)
+  text_end : (due : Status → List ℕ → Type 0) (stops : Stop → Type 0) (P : Status → Type 0) → ((now : Status) (text : List ℕ) → due now text → P now) →
+      ((s : Stop) → stops s → s ≡ stop.Memory) → (status : Status) → IsTextEnd r due stops status → P status ⊎ (status ≡ Memory)
   text_end due stops P says for_memory status is =
       elim is.0 [
         | inl text ↦ inl (told due P says status text)

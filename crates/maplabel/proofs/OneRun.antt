@@ -83,8 +83,8 @@ due_text r due stops (inl (now, text, is, kept, printed), same) =
 due_text r due stops (inr (s, why, kept, printed), same) = absurd (no_stop s r.out printed)
 
 -- texts that are due are one
-one_text : {S D I O W : Type 0} (r o : Call S D I O W) (due given : Status → List ℕ → Type 0) (stops ceases : Stop → Type 0) → r.out.written ≡ o.out.written → ((a b : List ℕ) → due Done a → given Done b → a ≡ b)
-    → IsTextEnd r due stops Done → IsTextEnd o given ceases Done → r.out.written_after ≡ o.out.written_after
+one_text : {S D I O W : Type 0} (r o : Call S D I O W) (due given : Status → List ℕ → Type 0) (stops ceases : Stop → Type 0) → r.out.written ≡ o.out.written →
+    ((a b : List ℕ) → due Done a → given Done b → a ≡ b) → IsTextEnd r due stops Done → IsTextEnd o given ceases Done → r.out.written_after ≡ o.out.written_after
 one_text r o due given stops ceases same one x y =
     let a = due_text r due stops x in
     let b = due_text o given ceases y in
@@ -128,7 +128,8 @@ not_stopped r stops (s, why, kept, printed) = no_stop s r.out printed
 -- ---- the links of a door
 
 -- links at the front of links that tell their bytes tell theirs
-front_tells : {I O : Type 0} (ends : LinkEnds I O) (visits : List (Visit I O LinkAnswer)) (links rest : List (Link I O)) → links ≡ map (λ (v : Visit I O LinkAnswer). v.came) visits ++ rest → TellBytes ends links → AreTold ends visits
+front_tells : {I O : Type 0} (ends : LinkEnds I O) (visits : List (Visit I O LinkAnswer)) (links rest : List (Link I O)) →
+    links ≡ map (λ (v : Visit I O LinkAnswer). v.came) visits ++ rest → TellBytes ends links → AreTold ends visits
 front_tells ends [] links rest is tell = tt
 front_tells ends (visit ∷ visits) [] rest is tell = absurd (cc (is))
 front_tells {I} {O} ends (visit ∷ visits) (link ∷ links) rest is tell =
@@ -152,8 +153,9 @@ size_of {A} {B} f (x ∷ xs) rest (y ∷ all) is =
     ((let low = later.0 in omega (arith, low)), λ none. (let same = later.1 none in omega (arith, same)))
 
 -- how many were served: as many as were asked for, or as there were
-how_many : {I O : Type 0} (count : ℕ) (links : List (Link I O)) (coming after : Option (List (Link I O))) (visits : List (Visit I O LinkAnswer)) (lines : List (List ℕ)) → coming ≡ Some links
-    → Takes coming after (map (λ (v : Visit I O LinkAnswer). v.came) visits) → AreDone count (length visits) after lines → (length visits ≤ length links) × ((length visits ≡ count) ⊎ (length visits ≡ length links))
+how_many : {I O : Type 0} (count : ℕ) (links : List (Link I O)) (coming after : Option (List (Link I O))) (visits : List (Visit I O LinkAnswer)) (lines : List (List ℕ)) →
+    coming ≡ Some links → Takes coming after (map (λ (v : Visit I O LinkAnswer). v.came) visits) →
+    AreDone count (length visits) after lines → (length visits ≤ length links) × ((length visits ≡ count) ⊎ (length visits ≡ length links))
 how_many {I} {O} count links coming after visits lines is takes done =
     let f : Visit I O LinkAnswer → Link I O = λ (v : Visit I O LinkAnswer). v.came in
     let told : Takes (Some links) after (map f visits) = subst (λ (c : Option (List (Link I O))). Takes c after (map f visits)) is takes in
@@ -227,7 +229,8 @@ record Followed {W : Type 0} (hearing : W → Hearing) (states : List follow.Sta
   adopts : AllAdopted following.answers
   hears : AllHear hearing (changes_of following.answers) crowd after
 
-followed : {W : Type 0} (hearing : W → Hearing) (states : List follow.State) (crowd after : List W) (out : Put) → AreFollowed hearing states crowd after out Done → Followed hearing states crowd after out
+followed : {W : Type 0} (hearing : W → Hearing) (states : List follow.State) (crowd after : List W) (out : Put) →
+    AreFollowed hearing states crowd after out Done → Followed hearing states crowd after out
 followed hearing states crowd after out (end, is, status) =
     let ended : IsEndOfFollowing is.following out follow_end.Adopted = subst (λ (e : FollowEnd). IsEndOfFollowing is.following out e) (adopted end status) is.ended in
     record { following = is.following; printed = ended.0; adopts = ended.1; hears = is.hears }
@@ -236,7 +239,9 @@ followed hearing states crowd after out (end, is, status) =
 served_lines : {W I O : Type 0} (watchers : Watched W) (ends : LinkEnds I O) (first : State) (hours : Hours) (door : Passed I O) (out : Put) → (x : IsAllServed watchers ends first hours door out Done)
     → (lines : List (List ℕ)) × AreDone hours.count (length x.visits) door.coming_after lines × Appends out.written out.written_after (flat_map (λ (line : List ℕ). line) lines)
 served_lines watchers ends first hours door out x =
-    let printed = subst (λ (e : ServeEnd). IsEndOfServing hours.count (length x.visits) (record { listens = door.listens; coming_after = door.coming_after; faults = door.faults; faults_after = door.faults_after }) out.written out.written_after e) (served_all x.end x.status_is) x.printed in
+    let printed = subst (λ (e : ServeEnd). IsEndOfServing hours.count (length x.visits)
+    (record { listens = door.listens; coming_after = door.coming_after; faults = door.faults; faults_after = door.faults_after }) out.written out.written_after e)
+    (served_all x.end x.status_is) x.printed in
     (printed.0, printed.1, printed.3)
 
 like_first : {W : Type 0} (first : State) (crowd others : List W) → AreLikeStates (at_first first crowd) (at_first first others)
@@ -272,8 +277,10 @@ module _ {S D I O W : Type 0} (known : KnownRuns W I O) (r o : Call S D I O W) (
   piped : (bytes : List ℕ) → r.input.left ≡ Some bytes → o.input.left ≡ Some bytes → (first start : State) → IsState first → start ≡ first →
       IsPiped (watchers_of r) first r.input r.out Done → IsPiped (watchers_of o) start o.input o.out Done → Piped bytes first
   piped bytes told told_too first start is same x y =
-      let moved : IsLinkServed o.hearing (at_first first o.old.crowd) y.last o.input o.out y.end = subst (λ (s : State). IsLinkServed o.hearing (at_first s o.old.crowd) y.last o.input o.out y.end) same y.served in
-      let heard : IsLinkServed r.hearing (at_first first o.old.crowd) y.last o.input o.out y.end = subst (λ (h : W → Hearing). IsLinkServed h (at_first first o.old.crowd) y.last o.input o.out y.end) found.hearing_is moved in
+      let moved : IsLinkServed o.hearing (at_first first o.old.crowd) y.last o.input o.out y.end =
+      subst (λ (s : State). IsLinkServed o.hearing (at_first s o.old.crowd) y.last o.input o.out y.end) same y.served in
+      let heard : IsLinkServed r.hearing (at_first first o.old.crowd) y.last o.input o.out y.end =
+      subst (λ (h : W → Hearing). IsLinkServed h (at_first first o.old.crowd) y.last o.input o.out y.end) found.hearing_is moved in
       record {
         last = x.last;
         again = y.last;
@@ -328,9 +335,12 @@ module _ {S D I O W : Type 0} (known : KnownRuns W I O) (r o : Call S D I O W) (
   served : FindLinks r o → (first start : State) (hours : Hours) → start ≡ first →
       IsAllServed (watchers_of r) r.ends first hours r.door r.out Done → IsAllServed (watchers_of o) o.ends start hours o.door o.out Done → Served first
   served came first start hours same x y =
-      let moved : Headline o.hearing o.ends (at_first first o.old.crowd) y.last o.door y.visits = subst (λ (s : State). Headline o.hearing o.ends (at_first s o.old.crowd) y.last o.door y.visits) same y.headline in
-      let heard : Headline r.hearing o.ends (at_first first o.old.crowd) y.last o.door y.visits = subst (λ (h : W → Hearing). Headline h o.ends (at_first first o.old.crowd) y.last o.door y.visits) found.hearing_is moved in
-      let ended : Headline r.hearing r.ends (at_first first o.old.crowd) y.last o.door y.visits = subst (λ (e : LinkEnds I O). Headline r.hearing e (at_first first o.old.crowd) y.last o.door y.visits) found.ends_are heard in
+      let moved : Headline o.hearing o.ends (at_first first o.old.crowd) y.last o.door y.visits =
+      subst (λ (s : State). Headline o.hearing o.ends (at_first s o.old.crowd) y.last o.door y.visits) same y.headline in
+      let heard : Headline r.hearing o.ends (at_first first o.old.crowd) y.last o.door y.visits =
+      subst (λ (h : W → Hearing). Headline h o.ends (at_first first o.old.crowd) y.last o.door y.visits) found.hearing_is moved in
+      let ended : Headline r.hearing r.ends (at_first first o.old.crowd) y.last o.door y.visits =
+      subst (λ (e : LinkEnds I O). Headline r.hearing e (at_first first o.old.crowd) y.last o.door y.visits) found.ends_are heard in
       let p = served_lines (watchers_of r) r.ends first hours r.door r.out x in
       let q = served_lines (watchers_of o) o.ends start hours o.door o.out y in
       let m = how_many hours.count came.links r.door.coming r.door.coming_after x.visits p.0 came.door_is.0 x.headline.came p.1 in
@@ -377,8 +387,10 @@ module _ {S D I O W : Type 0} (known : KnownRuns W I O) (r o : Call S D I O W) (
         well = well;
         well_too = fine;
       } in
-      let ended : Headline r.hearing o.ends (at_first first o.old.crowd) p.again o.door p.others = subst (λ (e : LinkEnds I O). Headline r.hearing e (at_first first o.old.crowd) p.again o.door p.others) (sym found.ends_are) p.other in
-      let heard : Headline o.hearing o.ends (at_first first o.old.crowd) p.again o.door p.others = subst (λ (h : W → Hearing). Headline h o.ends (at_first first o.old.crowd) p.again o.door p.others) (sym found.hearing_is) ended in
+      let ended : Headline r.hearing o.ends (at_first first o.old.crowd) p.again o.door p.others =
+      subst (λ (e : LinkEnds I O). Headline r.hearing e (at_first first o.old.crowd) p.again o.door p.others) (sym found.ends_are) p.other in
+      let heard : Headline o.hearing o.ends (at_first first o.old.crowd) p.again o.door p.others =
+      subst (λ (h : W → Hearing). Headline h o.ends (at_first first o.old.crowd) p.again o.door p.others) (sym found.hearing_is) ended in
       record {
         first = first;
         loaded = loaded;
@@ -417,7 +429,8 @@ module _ {S D I O W : Type 0} (known : KnownRuns W I O) (r o : Call S D I O W) (
   followed_printed : r.out.written ≡ o.out.written → BothFollowed → r.out.written_after ≡ o.out.written_after
   followed_printed same p =
       appended r.out.written o.out.written r.out.written_after o.out.written_after _ _ same
-      (ap (λ (all : List Offered). joined (lines_of all) ++ held_line p.one.following.held) p.answers ∙ ap (λ (h : Option follow.State). joined (lines_of p.other.following.answers) ++ held_line h) p.held)
+      (ap (λ (all : List Offered). joined (lines_of all) ++ held_line p.one.following.held) p.answers
+      ∙ ap (λ (h : Option follow.State). joined (lines_of p.other.following.answers) ++ held_line h) p.held)
       p.one.printed.wrote p.other.printed.wrote
 
   followed_told : BothFollowed → TellAlike r o
@@ -431,7 +444,8 @@ module _ {S D I O W : Type 0} (known : KnownRuns W I O) (r o : Call S D I O W) (
       one_text r o _ _ _ _ same (λ a b p q. known.table found.files table.now task a b (of_r (λ t. IsTableAnswer t table.now task a) p.0) (of_o (λ t. IsTableAnswer t table.now task b) q.0)) x y
   printed_by same (Check table slots) reads x y = one_text r o _ _ _ _ same (λ a b p q. check_text r.files.told table.now slots.now a p ∙ sym (check_text o.files.told table.now slots.now b q)) x y
   printed_by same (OnMap style map task) reads x y =
-      one_text r o _ _ _ _ same (λ a b p q. known.map_text found.files style.now map.now task a b (of_r (λ t. IsMapAnswer t style.now map.now task a) p.0) (of_o (λ t. IsMapAnswer t style.now map.now task b) q.0)) x y
+      one_text r o _ _ _ _ same (λ a b p q. known.map_text found.files style.now map.now task a b
+      (of_r (λ t. IsMapAnswer t style.now map.now task a) p.0) (of_o (λ t. IsMapAnswer t style.now map.now task b) q.0)) x y
   printed_by same (Gen groups seed) reads x y = one_text r o _ _ _ _ same (λ a b p q. known.totals groups seed a b p.0 q.0) x y
   printed_by same (Live style map Pipe) reads (inl x) y = absurd (not_stopped r _ x.0)
   printed_by same (Live style map Pipe) reads (inr x) (inl y) = absurd (not_stopped o _ y.0)

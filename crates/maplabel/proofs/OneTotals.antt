@@ -39,9 +39,12 @@ pub record KnownMaps : Type 0 where
   pub one_style : (bytes : List ℕ) (one other : Style) → IsStyle bytes one → IsStyle bytes other → one ≡ other
   pub one_map : (bytes : List ℕ) (features others : List Feature) → IsMap bytes features → IsMap bytes others → features ≡ others
   pub same_is_one : (one other : Feature) → one.id ≡ other.id → some_shape_of one.geometry ≡ some_shape_of other.geometry → one.props ≡ other.props → one ≡ other
-  pub one_list : (style : Style) (features others : List Feature) (labels rest : List Label) → ((f : Feature) → (Rattle.std.proofs.Common.Contains features f) ↔ (Rattle.std.proofs.Common.Contains others f)) → AreLabelsOf style features labels → AreLabelsOf style others rest → labels ≡ rest
+  pub one_list : (style : Style) (features others : List Feature) (labels rest : List Label) →
+      ((f : Feature) → (Rattle.std.proofs.Common.Contains features f) ↔ (Rattle.std.proofs.Common.Contains others f)) →
+      AreLabelsOf style features labels → AreLabelsOf style others rest → labels ≡ rest
   pub longest : (labels : List Label) (one other : Choice) → IsLongest labels one → IsLongest labels other → (i : ℕ) → i < length labels → IsSame (one i) (other i)
-  pub one_changes : (labels : List Label) (slots : List Slot) (new_labels : List Label) (new_slots : List Slot) (changes others : List Change) → AreChanges labels slots new_labels new_slots changes → AreChanges labels slots new_labels new_slots others → changes ≡ others
+  pub one_changes : (labels : List Label) (slots : List Slot) (new_labels : List Label) (new_slots : List Slot) (changes others : List Change) →
+      AreChanges labels slots new_labels new_slots changes → AreChanges labels slots new_labels new_slots others → changes ≡ others
   pub one_cost : (before after : List Label) (id : List ℕ) (cost other : ℕ) → IsLabelList before → IsLabelList after → IsCost before after id cost → IsCost before after id other → cost ≡ other
   pub one_edit : (ask : Wish) (one other : Edit) → AsksFor ask one → AsksFor ask other → one ≡ other
 
@@ -77,7 +80,8 @@ module _ (known : KnownMaps) where
   same_ends : (labels : List Label) (slots others : List Slot) → IsLongest labels (ends slots) → IsLongest labels (ends others) → SameEnds labels slots others
   same_ends labels slots others x y p within = same_ratio (get_or slots p no_slot).until (get_or others p no_slot).until (known.longest labels (ends slots) (ends others) x y p within)
 
-  places_again : (labels : List Label) (slots others : List Slot) (view : View) (ps qs : List ℕ) → SameEnds labels slots others → AreShown labels (ends slots) view ps → AreShown labels (ends others) view qs → ps ≡ qs
+  places_again : (labels : List Label) (slots others : List Slot) (view : View) (ps qs : List ℕ) →
+      SameEnds labels slots others → AreShown labels (ends slots) view ps → AreShown labels (ends others) view qs → ps ≡ qs
   places_again labels slots others view ps qs same x y =
       same_listed (IsShown labels (ends slots) view) (IsShown labels (ends others) view) ps qs x.ascending y.ascending x.sound y.sound x.whole y.whole
       (λ p shown. (shown.0, λ d. subst (λ e. IsShownUntil (get_or labels p d) view (λ k. e) p) (ap value_of (same p shown.0)) (shown.1 d)))
@@ -96,7 +100,8 @@ module _ (known : KnownMaps) where
       (same_ends x.before y.slots_before x.slots_before longest_before x.have_before.longest) (same_ends x.after y.slots_after x.slots_after longest_after x.have_after.longest) y.changes are in
       x.number ∙ ap (λ (cs : List Change). length cs) (known.one_changes x.before x.slots_before x.after x.slots_after x.changes y.changes x.are_changes moved) ∙ sym y.number
 
-  cost_again : (o : Option (List ℕ)) (before after : List Label) (m n : ℕ) → IsLabelList before → IsLabelList after → MatchOption o (m ≡ 0) (λ id. IsCost before after id m) → MatchOption o (n ≡ 0) (λ id. IsCost before after id n) → m ≡ n
+  cost_again : (o : Option (List ℕ)) (before after : List Label) (m n : ℕ) → IsLabelList before → IsLabelList after →
+      MatchOption o (m ≡ 0) (λ id. IsCost before after id m) → MatchOption o (n ≡ 0) (λ id. IsCost before after id n) → m ≡ n
   cost_again None before after m n first second x y = x ∙ sym y
   cost_again (Some id) before after m n first second x y = known.one_cost before after id m n first second x y
 
@@ -137,8 +142,10 @@ module _ (known : KnownMaps) where
       let view : y.view ≡ x.view = view_again group y.view x.view y.asked x.asked in
       let changes : MakesChanges s t d.changes = rw state at y.changes in
       let costs : Costs edit s t d.evaluated = rw state at y.evaluated in
-      let shown : Shows t x.view d.shown = rw (state, view) at y.shown in
-      (same_counts c d (shows_again t x.view c.shown d.shown x.shown shown) (changes_again s t c.changes d.changes x.changes changes) (costs_again edit s t c.evaluated d.evaluated x.evaluated costs), sym state)
+      let shown : Shows t x.view d.shown = rw (state, view) at y.shown in (
+        same_counts c d (shows_again t x.view c.shown d.shown x.shown shown) (changes_again s t c.changes d.changes x.changes changes) (costs_again edit s t c.evaluated d.evaluated x.evaluated costs),
+        sym state,
+      )
 
   turn_again : (turn : Turn) (s t u : State) (c d : Counts) → IsTurn turn s c t → IsTurn turn s d u → (c ≡ d) × (t ≡ u)
   turn_again turn s t u c d (edit, makes, x) (other, made, y) =

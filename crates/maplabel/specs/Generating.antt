@@ -12,7 +12,8 @@ use Rattle.ml_command.specs.declared.stop.Stop.TheVariants as stop
 
 -- the style that generated maps are loaded under
 abbrev pub sample_style : List ℕ
-sample_style = codes "version = 1\nname = \"name\"\nrank = \"pop\"\n\n[fonts.sans]\nunits = 1000\ndefault = 500\nadvances = { \"i\" = 250, \"\\u0301\" = 0 }\n\n[[class]]\ngeometry = \"point\"\nkey = \"place\"\nvalue = \"city\"\nfont = \"sans\"\nsize = 20\npriority = 1\nmin = \"0\"\nmax = \"1000\"\n\n[[class]]\ngeometry = \"point\"\nfont = \"sans\"\nsize = 20\npriority = 2\nmin = \"0\"\nmax = \"1000\"\n\n[[class]]\ngeometry = \"line\"\nfont = \"sans\"\nsize = 20\npriority = 3\nref = 1000\nmin = \"0\"\nmax = \"2000\"\n\n[[class]]\ngeometry = \"area\"\nfont = \"sans\"\nsize = 20\npriority = 4\nmin = \"0\"\nmax = \"100000\"\n"
+sample_style = codes
+    "version = 1\nname = \"name\"\nrank = \"pop\"\n\n[fonts.sans]\nunits = 1000\ndefault = 500\nadvances = { \"i\" = 250, \"\\u0301\" = 0 }\n\n[[class]]\ngeometry = \"point\"\nkey = \"place\"\nvalue = \"city\"\nfont = \"sans\"\nsize = 20\npriority = 1\nmin = \"0\"\nmax = \"1000\"\n\n[[class]]\ngeometry = \"point\"\nfont = \"sans\"\nsize = 20\npriority = 2\nmin = \"0\"\nmax = \"1000\"\n\n[[class]]\ngeometry = \"line\"\nfont = \"sans\"\nsize = 20\npriority = 3\nref = 1000\nmin = \"0\"\nmax = \"2000\"\n\n[[class]]\ngeometry = \"area\"\nfont = \"sans\"\nsize = 20\npriority = 4\nmin = \"0\"\nmax = \"100000\"\n"
 
 -- the line of the totals of a map of so many groups, which was generated of this seed, loaded under the style and edited
 abbrev pub IsTotalsLine : ℕ → ℕ → Style → List ℕ → Type 0

@@ -63,7 +63,8 @@ pub record ServesFrom {S D I O W : Type 0} (r : Call S D I O W) (first : State) 
   pub headline : Headline r.hearing r.ends (at_first first r.old.crowd) last r.door visits
   pub crowd_is : last.crowd ≡ r.new.crowd
 
--- both runs served as many connections from the first state of the named map under the named style; where each of them ended by neither a fault nor a lack of memory, the runs wrote the same to each, and told their watchers the same changes
+-- both runs served as many connections from the first state of the named map under the named style; where each of them ended by
+-- neither a fault nor a lack of memory, the runs wrote the same to each, and told their watchers the same changes
 pub record ServeAlike {S D I O W : Type 0} (one other : Call S D I O W) (style map : List ℕ) : Type 0 where
   pub first : State
   pub loaded : IsFirstState one.files.told style map first

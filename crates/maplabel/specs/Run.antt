@@ -33,7 +33,8 @@ pub record Lent (S D W : Type 0) : Type 0 where
 abbrev pub lending : {S D W : Type 0} → S → D → List W → Lent S D W
 lending input door crowd = record { input = input; door = door; crowd = crowd }
 
--- what a run did to the objects that it was lent, as they tell it: files, output, input and door; input, door and watchers themselves, before and after; and what a watcher heard and the two ends of a connection hold
+-- what a run did to the objects that it was lent, as they tell it: files, output, input and door; input, door and
+-- watchers themselves, before and after; and what a watcher heard and the two ends of a connection hold
 pub record Call (S D I O W : Type 0) : Type 0 where
   pub files : Seen
   pub out : Put

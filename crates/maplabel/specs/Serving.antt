@@ -45,7 +45,8 @@ pub record Watched (W : Type 0) : Type 0 where
 abbrev pub watched : {W : Type 0} → (W → Hearing) → List W → List W → Watched W
 watched hearing crowd crowd_after = record { hearing = hearing; crowd = crowd; crowd_after = crowd_after }
 
--- one connection was served from this state: the defined replies to what the input brought were put out, and the watchers were told; input and output failed once exactly where that is what it ended by
+-- one connection was served from this state: the defined replies to what the input brought were put out, and the
+-- watchers were told; input and output failed once exactly where that is what it ended by
 pub record IsPiped {W : Type 0} (watchers : Watched W) (first : State) (input : Taken) (out : Put) (status : Status) : Type 0 where
   pub last : LinkState W
   pub end : ConnEnd
@@ -54,13 +55,15 @@ pub record IsPiped {W : Type 0} (watchers : Watched W) (first : State) (input : 
   pub crowd_is : last.crowd ≡ watchers.crowd_after
   pub status_is : status ≡ status_of_link end
 
--- connections were served one after another from this state at the port of these hours, as the headline says; a door that does not listen is never said to be ready, and door and output failed once exactly where that is what it ended by
+-- connections were served one after another from this state at the port of these hours, as the headline says; a door that does not
+-- listen is never said to be ready, and door and output failed once exactly where that is what it ended by
 pub record IsAllServed {W I O : Type 0} (watchers : Watched W) (ends : LinkEnds I O) (first : State) (hours : Hours) (door : Passed I O) (out : Put) (status : Status) : Type 0 where
   pub last : LinkState W
   pub visits : List (Visit I O LinkAnswer)
   pub end : ServeEnd
   pub headline : Headline watchers.hearing ends (at_first first watchers.crowd) last door visits
-  pub printed : IsEndOfServing hours.count (length visits) (record { listens = door.listens; coming_after = door.coming_after; faults = door.faults; faults_after = door.faults_after }) out.written out.written_after end
+  pub printed : IsEndOfServing hours.count (length visits)
+      (record { listens = door.listens; coming_after = door.coming_after; faults = door.faults; faults_after = door.faults_after }) out.written out.written_after end
   pub cause : HasServeCause door.faults door.faults_after out.faults out.faults_after end
   pub at_port : door.port ≡ Some hours.port
   pub crowd_is : last.crowd ≡ watchers.crowd_after

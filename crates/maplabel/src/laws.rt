@@ -33,7 +33,8 @@ use ml_style::laws::{one_style, style_or_fault};
 /// `follow` may adopt not all states, and each command may want memory.
 pub fn completes<S, D, I, O, W>()
     ensures { (r : Call S D I O W) (files : FileSet) (words : List (List ℕ)) (status : Status) →
-        r.files.told ≡ Some files → AreReady files words → IsCalm r → IsRun r words status → EndsWell words status }
+        r.files.told ≡ Some files → AreReady files words → IsCalm r →
+        IsRun r words status → EndsWell words status }
 {
     style_or_fault();
     map_or_fault();
@@ -46,14 +47,16 @@ pub fn completes<S, D, I, O, W>()
 /// The first state of a style and a map that were accepted can be reached. So what holds of each state that
 /// can be reached holds of all that a run serves.
 pub fn first_is_reached()
-    ensures { (told : Option FileSet) (style map : List ℕ) (first : State) → IsFirstState told style map first → IsState first }
+    ensures { (told : Option FileSet) (style map : List ℕ) (first : State) →
+        IsFirstState told style map first → IsState first }
 {
     ids_differ();
 }
 
 /// A generated map that is edited comes to one line of totals.
 pub fn one_totals()
-    ensures { (groups seed : ℕ) (one other : List ℕ) → IsTotalsOf groups seed one → IsTotalsOf groups seed other → one ≡ other }
+    ensures { (groups seed : ℕ) (one other : List ℕ) →
+        IsTotalsOf groups seed one → IsTotalsOf groups seed other → one ≡ other }
 {
     one_style();
     one_map();
@@ -71,10 +74,12 @@ pub fn one_totals()
 /// They tell their watchers the same changes, or nobody anything. On `serve` both serve as many connections; where
 /// each of them ended by neither a fault nor a lack of memory, they wrote the same to each.
 pub fn one_run<S, D, I, O, W>()
-    ensures printed { (one other : Call S D I O W) (words : List (List ℕ)) → FindAlike one other words →
+    ensures printed { (one other : Call S D I O W) (words : List (List ℕ)) →
+        FindAlike one other words →
         IsRun one words Done → IsRun other words Done →
         one.out.written ≡ other.out.written → one.out.written_after ≡ other.out.written_after }
-    ensures alike { (one other : Call S D I O W) (words : List (List ℕ)) → FindAlike one other words →
+    ensures alike { (one other : Call S D I O W) (words : List (List ℕ)) →
+        FindAlike one other words →
         IsRun one words Done → IsRun other words Done →
         (command : Command) × Ask words command × DoAlike one other command }
 {

@@ -49,7 +49,8 @@ pub fn program<F: Files, S: Source, K: Sink, D: Door, W: Watcher>(
         })
         (map string_bytes words.now) (exit_status result) }
     ensures same { F.told files.new ≡ F.told files.old }
-    ensures later { (F.faults files.old ≤ F.faults files.new) × (K.faults out.old ≤ K.faults out.new)
+    ensures later { (F.faults files.old ≤ F.faults files.new)
+        × (K.faults out.old ≤ K.faults out.new)
         × (S.faults input.old ≤ S.faults input.new) × (D.faults door.old ≤ D.faults door.new) }
     ensures out { D.is_out door.new ≡ false }
 {

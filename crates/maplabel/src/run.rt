@@ -48,7 +48,8 @@ pub fn run<F: Files, S: Source, K: Sink, D: Door, W: Watcher>(
         })
         (map string_bytes words.now) result }
     ensures same { F.told files.new ≡ F.told files.old }
-    ensures later { (F.faults files.old ≤ F.faults files.new) × (K.faults out.old ≤ K.faults out.new)
+    ensures later { (F.faults files.old ≤ F.faults files.new)
+        × (K.faults out.old ≤ K.faults out.new)
         × (S.faults input.old ≤ S.faults input.new) × (D.faults door.old ≤ D.faults door.new) }
     ensures out { D.is_out door.new ≡ false }
 {
@@ -86,7 +87,8 @@ fn follow_file<F: Files, K: Sink, W: Watcher>(
     ensures end { IsFollowEnd W.hearing (seen F.told F.faults F.failed_name files.old files.new)
         (put K.written K.faults out.old out.new) name.now crowd.old crowd.new result }
     ensures same { F.told files.new ≡ F.told files.old }
-    ensures later { (F.faults files.old ≤ F.faults files.new) × (K.faults out.old ≤ K.faults out.new) }
+    ensures later { (F.faults files.old ≤ F.faults files.new)
+        × (K.faults out.old ≤ K.faults out.new) }
 {
     match load_states(alloc, files, name) {
         Ok(states) => status_of_following(follow(alloc, states, out, crowd)),

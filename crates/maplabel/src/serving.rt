@@ -27,8 +27,10 @@ pub fn pipe<S: Source, K: Sink, W: Watcher>(
 ) -> Status
     requires none { site.1 ≡ no_tiles }
     ensures served { IsPiped (watched W.hearing crowd.old crowd.new) site.0.state
-        (taken S.left S.faults input.old input.new) (put K.written K.faults out.old out.new) result }
-    ensures later { (K.faults out.old ≤ K.faults out.new) × (S.faults input.old ≤ S.faults input.new) }
+        (taken S.left S.faults input.old input.new)
+        (put K.written K.faults out.old out.new) result }
+    ensures later { (K.faults out.old ≤ K.faults out.new)
+        × (S.faults input.old ≤ S.faults input.new) }
 {
     pipe_counted::<Brand, S, K, W>(alloc, site, input, out, crowd, Blank::new(1))
 }
@@ -47,8 +49,10 @@ fn pipe_counted<L: Ledger, S: Source, K: Sink, W: Watcher>(
     requires some { 0 < blank.parts }
     requires none { site.1 ≡ no_tiles }
     ensures served { IsPiped (watched W.hearing crowd.old crowd.new) site.0.state
-        (taken S.left S.faults input.old input.new) (put K.written K.faults out.old out.new) result }
-    ensures later { (K.faults out.old ≤ K.faults out.new) × (S.faults input.old ≤ S.faults input.new) }
+        (taken S.left S.faults input.old input.new)
+        (put K.written K.faults out.old out.new) result }
+    ensures later { (K.faults out.old ≤ K.faults out.new)
+        × (S.faults input.old ≤ S.faults input.new) }
 {
     let (mut editor, mut tiles) = site;
     let mut steps: Steps<L> = Steps::new(blank);
@@ -79,9 +83,11 @@ pub fn serve_at<K: Sink, D: Door, W: Watcher>(
     requires none { site.1 ≡ no_tiles }
     ensures served { IsAllServed (watched W.hearing crowd.old crowd.new)
         (link_ends D.In.left D.In.faults D.Out.written D.Out.faults) site.0.state hours
-        (passed D.coming D.served D.faults D.at_port D.listens door.old door.new) (put K.written K.faults out.old out.new) result }
+        (passed D.coming D.served D.faults D.at_port D.listens door.old door.new)
+        (put K.written K.faults out.old out.new) result }
     ensures out { D.is_out door.new ≡ false }
-    ensures later { (K.faults out.old ≤ K.faults out.new) × (D.faults door.old ≤ D.faults door.new) }
+    ensures later { (K.faults out.old ≤ K.faults out.new)
+        × (D.faults door.old ≤ D.faults door.new) }
 {
     serve_counted::<Brand, K, D, W>(alloc, site, out, door, crowd, hours, Blank::new(1))
 }
@@ -104,9 +110,11 @@ fn serve_counted<L: Ledger, K: Sink, D: Door, W: Watcher>(
     requires none { site.1 ≡ no_tiles }
     ensures served { IsAllServed (watched W.hearing crowd.old crowd.new)
         (link_ends D.In.left D.In.faults D.Out.written D.Out.faults) site.0.state hours
-        (passed D.coming D.served D.faults D.at_port D.listens door.old door.new) (put K.written K.faults out.old out.new) result }
+        (passed D.coming D.served D.faults D.at_port D.listens door.old door.new)
+        (put K.written K.faults out.old out.new) result }
     ensures out { D.is_out door.new ≡ false }
-    ensures later { (K.faults out.old ≤ K.faults out.new) × (D.faults door.old ≤ D.faults door.new) }
+    ensures later { (K.faults out.old ≤ K.faults out.new)
+        × (D.faults door.old ≤ D.faults door.new) }
 {
     let (mut editor, mut tiles) = site;
     let mut steps: Steps<L> = Steps::new(blank);

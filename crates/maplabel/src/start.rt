@@ -43,9 +43,11 @@ pub fn start<E: Sink + Drop, F: Files, S: Source, K: Sink, D: Door>(
           ends = link_ends D.In.left D.In.faults D.Out.written D.Out.faults;
         })
         values errors (exit_status result))
-        ⊎ (IsNotStarted values (exit_status result) × (files.new ≡ files.old) × (input.new ≡ input.old) × (out.new ≡ out.old) × (door.new ≡ door.old)) }
+        ⊎ (IsNotStarted values (exit_status result) × (files.new ≡ files.old)
+        × (input.new ≡ input.old) × (out.new ≡ out.old) × (door.new ≡ door.old)) }
     ensures same { F.told files.new ≡ F.told files.old }
-    ensures later { (F.faults files.old ≤ F.faults files.new) × (K.faults out.old ≤ K.faults out.new)
+    ensures later { (F.faults files.old ≤ F.faults files.new)
+        × (K.faults out.old ≤ K.faults out.new)
         × (S.faults input.old ≤ S.faults input.new) × (D.faults door.old ≤ D.faults door.new) }
     ensures out { D.is_out door.new ≡ false }
 {

@@ -24,7 +24,8 @@ not_same : (s n : ℤ) → s <ℤ n → s ≡ n → ⊥
 not_same s n h k = omega (arith, ints)
 
 -- a flat polygon
-pub flat_anchor : (rings : List (List Pos)) (ring : List Pos) (w e s n : ℤ) (p : Pos) → ring ≡ outer rings → AreBoundsOf ring w e s n → n ≤ℤ s → p.x ≡ floor (w +ℤ e) (pos 2) → p.y ≡ s → IsPolygonAnchor rings p
+pub flat_anchor : (rings : List (List Pos)) (ring : List Pos) (w e s n : ℤ) (p : Pos) → ring ≡ outer rings →
+    AreBoundsOf ring w e s n → n ≤ℤ s → p.x ≡ floor (w +ℤ e) (pos 2) → p.y ≡ s → IsPolygonAnchor rings p
 flat_anchor rings ring w e s n p is b low x y =
     let o = subst (λ (r : List Pos). AreBoundsOf r w e s n) is b in
     let wi = o.west_is in
@@ -37,7 +38,8 @@ flat_anchor rings ring w e s n p is b low x y =
     }
 
 -- one with height
-pub tall_anchor : (rings : List (List Pos)) (ring : List Pos) (w e s n : ℤ) (p : Pos) → ring ≡ outer rings → AreBoundsOf ring w e s n → s <ℤ n → IsMiddle (crossings (s +ℤ n) rings) p.x → p.y ≡ floor (s +ℤ n) (pos 2) → IsPolygonAnchor rings p
+pub tall_anchor : (rings : List (List Pos)) (ring : List Pos) (w e s n : ℤ) (p : Pos) → ring ≡ outer rings → AreBoundsOf ring w e s n →
+    s <ℤ n → IsMiddle (crossings (s +ℤ n) rings) p.x → p.y ≡ floor (s +ℤ n) (pos 2) → IsPolygonAnchor rings p
 tall_anchor rings ring w e s n p is b high x y =
     let o = subst (λ (r : List Pos). AreBoundsOf r w e s n) is b in
     let si = o.south_is in
@@ -64,7 +66,9 @@ sorted_in h rings xs ys zs e perm s =
     subst (λ (l : List ℤ). All IsInWorld l) (sym s) (All-permutation IsInWorld xs ys perm all)
 
 -- the middle of the widest two in the sorted list
-pub middle_from_sort : (h : ℤ) (rings : List (List Pos)) (xs ys zs : List ℤ) (k : ℕ) (a b m : ℤ) → xs ≡ crossings h rings → IsPermutation xs ys → IsSorted int_cmp ys → zs ≡ ys → IsFirstGreatest (pair_gap zs) (length zs / 2) k → a ≡ at ys (2 * k) → b ≡ at ys (2 * k + 1) → m ≡ floor (a +ℤ b) (pos 2) → IsMiddle (crossings h rings) m
+pub middle_from_sort : (h : ℤ) (rings : List (List Pos)) (xs ys zs : List ℤ) (k : ℕ) (a b m : ℤ) → xs ≡ crossings h rings →
+    IsPermutation xs ys → IsSorted int_cmp ys → zs ≡ ys → IsFirstGreatest (pair_gap zs) (length zs / 2) k →
+    a ≡ at ys (2 * k) → b ≡ at ys (2 * k + 1) → m ≡ floor (a +ℤ b) (pos 2) → IsMiddle (crossings h rings) m
 middle_from_sort h rings xs ys zs k a b m e perm up s best ea eb em =
     let best' = subst (λ (l : List ℤ). IsFirstGreatest (pair_gap l) (length l / 2) k) s best in
     let w = widest_pair xs ys perm (rising_from_sort ys up) k best' in

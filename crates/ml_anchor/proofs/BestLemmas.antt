@@ -58,14 +58,16 @@ pub no_wider : (w : Width) (a b x y : ℤ) → FitsSigned w a → FitsSigned w b
 no_wider w a b x y fa fb ea eb h = let k : int_lt b a ≡ false = simp to_z-of_z at h in grind (arith, ints)
 
 -- the loop takes place n, whose value it keeps beside it
-pub value_takes : (w : Width) (f : ℕ → ℤ) (n i b : ℕ) (best a r : ℤ) → FitsSigned w a → IsFirstGreatest f n i → best ≡ f i → a ≡ f n → int_lt best (to_z w (of_z w a)) ≡ true → b ≡ n → r ≡ to_z w (of_z w a) → IsFirstGreatest f (n + 1) b × (r ≡ f b)
+pub value_takes : (w : Width) (f : ℕ → ℤ) (n i b : ℕ) (best a r : ℤ) → FitsSigned w a → IsFirstGreatest f n i → best ≡ f i →
+    a ≡ f n → int_lt best (to_z w (of_z w a)) ≡ true → b ≡ n → r ≡ to_z w (of_z w a) → IsFirstGreatest f (n + 1) b × (r ≡ f b)
 value_takes w f n i b best a r fits first e k t bn rn =
     let lt : int_lt best a ≡ true = simp to_z-of_z at t in
     let less : f i <ℤ f n = grind (arith, ints) in
     (rw bn (best_takes f n i first less), rn ∙ (to_z-of_z w a fits ∙ (k ∙ ap f (sym bn))))
 
 -- the loop keeps the place that it has
-pub value_keeps : (w : Width) (f : ℕ → ℤ) (n i b : ℕ) (best a r : ℤ) → FitsSigned w a → IsFirstGreatest f n i → best ≡ f i → a ≡ f n → int_lt best (to_z w (of_z w a)) ≡ false → b ≡ i → r ≡ best → IsFirstGreatest f (n + 1) b × (r ≡ f b)
+pub value_keeps : (w : Width) (f : ℕ → ℤ) (n i b : ℕ) (best a r : ℤ) → FitsSigned w a → IsFirstGreatest f n i → best ≡ f i →
+    a ≡ f n → int_lt best (to_z w (of_z w a)) ≡ false → b ≡ i → r ≡ best → IsFirstGreatest f (n + 1) b × (r ≡ f b)
 value_keeps w f n i b best a r fits first e k t bi rb =
     let lt : int_lt best a ≡ false = simp to_z-of_z at t in
     let less : f n ≤ℤ f i = grind (arith, ints) in

@@ -1,5 +1,6 @@
 -- How many crossings there are, and where.
-use Rattle.std.proofs.Common.{◌≡◌, ℕ, ◌+◌, ◌-◌, ◌%◌, ◌<◌, ◌≤◌, List, [], ◌∷◌, length, get_or, map, ℤ, pos, ◌+ℤ◌, ◌*ℤ◌, ◌<ℤ◌, ◌≤ℤ◌, Bool, true, false, cond, not, ◌&&◌, zero, suc, Option, Some, None, refl, sym, ap, ◌∙◌, subst, inl, inr, ◌⊎◌, arith}
+use Rattle.std.proofs.Common.{◌≡◌, ℕ, ◌+◌, ◌-◌, ◌%◌, ◌<◌, ◌≤◌, List, [], ◌∷◌, length, get_or, map, ℤ, pos, ◌+ℤ◌, ◌*ℤ◌, ◌<ℤ◌, ◌≤ℤ◌, Bool, true}
+use Rattle.std.proofs.Common.{false, cond, not, ◌&&◌, zero, suc, Option, Some, None, refl, sym, ap, ◌∙◌, subst, inl, inr, ◌⊎◌, arith}
 use Rattle.std.specs.Prelude.{All, int_le, int_lt}
 use Rattle.std.specs.List.{Contains, filter_map, flat_map, cons_option}
 use Rattle.std.proofs.lemmas.Bool.{cases_lt, false≢true}
@@ -133,7 +134,8 @@ le_is_not : (a b : ℤ) → b <ℤ a → int_le a b ≡ false
 le_is_not a b h = grind (arith, ints)
 
 -- a ring with positions on both sides has a crossing
-crosses : (h : ℤ) (ring : List Pos) (i j : ℕ) (d : Pos) → i < length ring → j < length ring → is_low h (get_or ring i d) ≡ true → is_low h (get_or ring j d) ≡ false → 0 < length (ring_crossings h ring)
+crosses : (h : ℤ) (ring : List Pos) (i j : ℕ) (d : Pos) → i < length ring → j < length ring →
+    is_low h (get_or ring i d) ≡ true → is_low h (get_or ring j d) ≡ false → 0 < length (ring_crossings h ring)
 crosses h [] i j d hi hj low high = absurd (omega arith)
 crosses h (a ∷ rest) i j d hi hj low high =
     elim (cases_lt 0 (length (ring_crossings h (a ∷ rest)))) [

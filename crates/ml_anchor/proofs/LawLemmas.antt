@@ -31,7 +31,8 @@ first_pair xs h =
     (p.0, p.1, p.2)
 
 -- half way up a polygon that is not flat, some stretch lies inside
-pub some_stretch_is_inside : (rings : List (List Pos)) → IsPolygon rings → south (outer rings) <ℤ north (outer rings) → (i : ℕ) × (j : ℕ) × IsInsidePair (crossings (south (outer rings) +ℤ north (outer rings)) rings) i j
+pub some_stretch_is_inside : (rings : List (List Pos)) → IsPolygon rings → south (outer rings) <ℤ north (outer rings) →
+    (i : ℕ) × (j : ℕ) × IsInsidePair (crossings (south (outer rings) +ℤ north (outer rings)) rings) i j
 some_stretch_is_inside rings polygon tall = first_pair _ (crossings_two rings polygon tall)
 
 half_between : (a b : ℤ) → a ≤ℤ b → (a ≤ℤ floor (a +ℤ b) (pos 2)) × (floor (a +ℤ b) (pos 2) ≤ℤ b)

@@ -203,7 +203,8 @@ pair_lands xs ys perm up i j pair =
     record { even = ev; there = omega (arith, b.there, ne); same_gap = sym (ap (λ (z : ℤ). z -ℤ at ys (2 * (rank xs i / 2))) high ∙ ap (λ (z : ℤ). at xs j -ℤ z) low) }
 
 -- two neighbours in the sorted list are a pair inside
-pub pair_at : (xs ys : List ℤ) → IsPermutation xs ys → IsRising ys → (k : ℕ) → 2 * k + 1 < length ys → (i : ℕ) × (j : ℕ) × IsInsidePair xs i j × (rank xs i ≡ 2 * k) × (at xs i ≡ at ys (2 * k)) × (at xs j ≡ at ys (2 * k + 1))
+pub pair_at : (xs ys : List ℤ) → IsPermutation xs ys → IsRising ys → (k : ℕ) → 2 * k + 1 < length ys →
+    (i : ℕ) × (j : ℕ) × IsInsidePair xs i j × (rank xs i ≡ 2 * k) × (at xs i ≡ at ys (2 * k)) × (at xs j ≡ at ys (2 * k + 1))
 pair_at xs ys perm up k h =
     let a = ranked_at xs ys perm up (2 * k) (omega (arith, h)) in
     let b = ranked_at xs ys perm up (2 * k + 1) h in
@@ -224,7 +225,8 @@ lt_along : (a b c d : ℤ) → a ≡ b → b <ℤ c → d ≡ c → a <ℤ d
 lt_along a b c d e h f = omega (arith, ints)
 
 -- the widest neighbours of the sorted list are the widest pair inside
-pub widest_pair : (xs ys : List ℤ) → IsPermutation xs ys → IsRising ys → (k : ℕ) → IsFirstGreatest (pair_gap ys) (length ys / 2) k → (i : ℕ) × (j : ℕ) × IsWidestPair xs i j × (at xs i ≡ at ys (2 * k)) × (at xs j ≡ at ys (2 * k + 1))
+pub widest_pair : (xs ys : List ℤ) → IsPermutation xs ys → IsRising ys → (k : ℕ) → IsFirstGreatest (pair_gap ys) (length ys / 2) k →
+    (i : ℕ) × (j : ℕ) × IsWidestPair xs i j × (at xs i ≡ at ys (2 * k)) × (at xs j ≡ at ys (2 * k + 1))
 widest_pair xs ys perm up k best =
     let p = pair_at xs ys perm up k (omega (arith, best.there)) in
     let same : gap xs p.0 p.1 ≡ pair_gap ys k = ap (λ (z : ℤ). z -ℤ at xs p.0) p.5 ∙ ap (λ (z : ℤ). at ys (2 * k + 1) -ℤ z) p.4 in (

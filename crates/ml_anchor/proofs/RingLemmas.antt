@@ -42,7 +42,8 @@ bounds_of_first [] p h e = absurd (omega arith)
 bounds_of_first (q ∷ qs) p h e = record { west_is = ap (λ (r : Pos). r.x) e; east_is = ap (λ (r : Pos). r.x) e; south_is = ap (λ (r : Pos). r.y) e; north_is = ap (λ (r : Pos). r.y) e }
 
 -- the bounds with one position more
-pub bounds_more : (ring : List Pos) (i : ℕ) (d p : Pos) (w e s n w' e' s' n' : ℤ) → 0 < i → i < length ring → p ≡ get_or ring i d → AreBoundsOf (take i ring) w e s n → w' ≡ int_min w p.x → e' ≡ int_max e p.x → s' ≡ int_min s p.y → n' ≡ int_max n p.y → AreBoundsOf (take (i + 1) ring) w' e' s' n'
+pub bounds_more : (ring : List Pos) (i : ℕ) (d p : Pos) (w e s n w' e' s' n' : ℤ) → 0 < i → i < length ring → p ≡ get_or ring i d → AreBoundsOf (take i ring) w e s n →
+    w' ≡ int_min w p.x → e' ≡ int_max e p.x → s' ≡ int_min s p.y → n' ≡ int_max n p.y → AreBoundsOf (take (i + 1) ring) w' e' s' n'
 unfolding west east south north
 bounds_more ring i d p w e s n w' e' s' n' h k at b we ee se ne =
     let wl = least_more (λ q. q.x) ring i d h k in
@@ -139,7 +140,8 @@ bounds_are ring h =
 -- the area of a bounding box fits 128 bits
 pub area_fits : (w e s n : ℤ) → IsInWorld w → IsInWorld e → IsInWorld s → IsInWorld n → FitsSigned w128 ((e -ℤ w) *ℤ (n -ℤ s))
 area_fits w e s n wi ei si ni =
-    fits_signed_mul w128 (e -ℤ w) (n -ℤ s) (2 ^ 33) (2 ^ 33) (size_le (e -ℤ w) (2 ^ 33) (omega (arith, ints)) (omega (arith, ints))) (size_le (n -ℤ s) (2 ^ 33) (omega (arith, ints)) (omega (arith, ints))) (lit< tt)
+    fits_signed_mul w128 (e -ℤ w) (n -ℤ s) (2 ^ 33) (2 ^ 33) (size_le (e -ℤ w) (2 ^ 33) (omega (arith, ints)) (omega (arith, ints)))
+    (size_le (n -ℤ s) (2 ^ 33) (omega (arith, ints)) (omega (arith, ints))) (lit< tt)
 
 -- the same of numbers that are the bounds
 pub in_order : (ring : List Pos) (w e s n : ℤ) → 0 < length ring → AreBoundsOf ring w e s n → AreInOrder w e s n

@@ -29,14 +29,17 @@ length-edges [] = refl
 length-edges (p ∷ ps) = length-zip (p ∷ ps) ps ∙ omega arith
 
 edge_at : (ring : List Pos) (i : ℕ) (d : Pos) → 0 < i → i < length ring → get_or (edges ring) (i - 1) (d, d) ≡ (get_or ring (i - 1) d, get_or ring i d)
-edge_at ring i d h k = get_or-zip ring (drop 1 ring) (i - 1) (d, d) (omega arith) (simp length-drop (omega arith)) ∙ ap (λ (q : Pos). (get_or ring (i - 1) d, q)) (get_or-drop 1 ring (i - 1) d ∙ ap (λ (n : ℕ). get_or ring n d) (omega arith))
+edge_at ring i d h k = get_or-zip ring (drop 1 ring) (i - 1) (d, d) (omega arith) (simp length-drop (omega arith))
+    ∙ ap (λ (q : Pos). (get_or ring (i - 1) d, q)) (get_or-drop 1 ring (i - 1) d ∙ ap (λ (n : ℕ). get_or ring n d) (omega arith))
 
 one_option : (o : Option ℤ) → option_to_list o ≡ cons_option o []
 one_option None = refl
 one_option (Some x) = refl
 
 -- one edge more
-pub edges_more : (h : ℤ) (ring : List Pos) (i : ℕ) (a b : Pos) (had found : List ℤ) → 0 < i → i < length ring → a ≡ get_or ring (i - 1) a → b ≡ get_or ring i b → found ≡ had ++ filter_map (crossing h) (take (i - 1) (edges ring)) → found ++ option_to_list (crossing h (a, b)) ≡ had ++ filter_map (crossing h) (take (i + 1 - 1) (edges ring))
+pub edges_more : (h : ℤ) (ring : List Pos) (i : ℕ) (a b : Pos) (had found : List ℤ) → 0 < i → i < length ring →
+    a ≡ get_or ring (i - 1) a → b ≡ get_or ring i b → found ≡ had ++ filter_map (crossing h) (take (i - 1) (edges ring)) →
+    found ++ option_to_list (crossing h (a, b)) ≡ had ++ filter_map (crossing h) (take (i + 1 - 1) (edges ring))
 edges_more h ring i a b had found p q ea eb e =
     let E : List (Pos × Pos) = edges ring in
     let f : Pos × Pos → Option ℤ = crossing h in
@@ -63,7 +66,8 @@ edges_all h ring i had found k e =
     e ∙ ap (λ (xs : List (Pos × Pos)). had ++ filter_map (crossing h) xs) whole
 
 -- one ring more
-pub rings_more : (h : ℤ) (rings : List (List Pos)) (i : ℕ) (d : List Pos) (had found : List ℤ) → i < length rings → had ≡ flat_map (ring_crossings h) (take i rings) → found ≡ had ++ ring_crossings h (get_or rings i d) → found ≡ flat_map (ring_crossings h) (take (i + 1) rings)
+pub rings_more : (h : ℤ) (rings : List (List Pos)) (i : ℕ) (d : List Pos) (had found : List ℤ) → i < length rings →
+    had ≡ flat_map (ring_crossings h) (take i rings) → found ≡ had ++ ring_crossings h (get_or rings i d) → found ≡ flat_map (ring_crossings h) (take (i + 1) rings)
 rings_more h rings i d had found q e k =
     k
     ∙ ap (λ (xs : List ℤ). xs ++ ring_crossings h (get_or rings i d)) e

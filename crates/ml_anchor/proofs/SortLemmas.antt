@@ -40,7 +40,8 @@ place x (y ∷ ys) up =
     let low = All-cons (λ z. y ≤ℤ z) x ys (weaker _ _ less) (head_bounds y ys up) in
     record {
       all = y ∷ p.all;
-      moved = IsPermutation-trans (x ∷ (y ∷ ys)) (y ∷ (x ∷ ys)) (y ∷ p.all) (IsPermutation-sym (y ∷ (x ∷ ys)) (x ∷ (y ∷ ys)) (IsPermutation-middle (y ∷ []) x ys)) (IsPermutation-cons y (x ∷ ys) p.all p.moved);
+      moved = IsPermutation-trans (x ∷ (y ∷ ys)) (y ∷ (x ∷ ys)) (y ∷ p.all)
+          (IsPermutation-sym (y ∷ (x ∷ ys)) (x ∷ (y ∷ ys)) (IsPermutation-middle (y ∷ []) x ys)) (IsPermutation-cons y (x ∷ ys) p.all p.moved);
       up = rising_cons y p.all (All-permutation (λ z. y ≤ℤ z) (x ∷ ys) p.all p.moved low) p.up;
     })
     (λ more.

@@ -34,7 +34,8 @@ outer rings = slice_index_or rings 0 []
 -- the anchor of a polygon: half way up its outer ring, in the middle of the widest stretch inside; of a flat one the middle of its box
 pub record IsPolygonAnchor (rings : List (List Pos)) (anchor : Pos) : Type 0 where
   pub flat : south (outer rings) ≡ north (outer rings) → (anchor.x ≡ floor (west (outer rings) +ℤ east (outer rings)) (pos 2)) × (anchor.y ≡ south (outer rings))
-  pub tall : south (outer rings) <ℤ north (outer rings) → IsMiddle (crossings (south (outer rings) +ℤ north (outer rings)) rings) anchor.x × (anchor.y ≡ floor (south (outer rings) +ℤ north (outer rings)) (pos 2))
+  pub tall : south (outer rings) <ℤ north (outer rings) →
+      IsMiddle (crossings (south (outer rings) +ℤ north (outer rings)) rings) anchor.x × (anchor.y ≡ floor (south (outer rings) +ℤ north (outer rings)) (pos 2))
 
 -- the area of the bounding box of the outer ring of the part at i
 abbrev pub part_area : List (List (List Pos)) → ℕ → ℤ

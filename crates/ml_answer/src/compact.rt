@@ -22,7 +22,8 @@ pub(crate) fn compact(alloc: Global, value: &Value) -> Result<Seq<u8>, AllocErro
 
 // The text of what a value sends, with no space between its parts.
 pub(crate) fn written<T: Serialize>(alloc: Global, value: &T) -> Result<Vec<u8>, AllocError>
-    ensures { IfOk result (λ text. (log : Log) × T.writes value.now (Some []) log × IsTextOf log text.items) }
+    ensures { IfOk result
+        (λ text. (log : Log) × T.writes value.now (Some []) log × IsTextOf log text.items) }
 {
     match serde_json::to_vec(alloc, value) {
         Ok(text) => Ok(text),

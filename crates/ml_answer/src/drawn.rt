@@ -29,7 +29,8 @@ fn push_line(
     p: &BoxPx,
     piece: &str,
 ) -> Result<(), AllocError>
-    ensures { OnOk result (lines.new.items ≡ lines.old.items ++ box_line view.now label.now p.now piece.now) }
+    ensures { OnOk result
+        (lines.new.items ≡ lines.old.items ++ box_line view.now label.now p.now piece.now) }
 {
     let tag = box_tag(*lines.allocator(), view, label, p)?;
     lines.extend_from_slice(tag.as_bytes())?;

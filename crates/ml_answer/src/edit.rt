@@ -88,7 +88,8 @@ fn push_rev(text: &mut Vec<u8>, rev: u64) -> Result<(), AllocError>
 // Adds changes and the end of their list.
 fn push_changes(text: &mut Vec<u8>, changes: &[Change]) -> Result<(), AllocError>
     ensures { OnOk result
-        (text.new.items ≡ text.old.items ++ items_text false (items_of (map change_data changes.now))) }
+        (text.new.items
+        ≡ text.old.items ++ items_text false (items_of (map change_data changes.now))) }
 {
     let mut later = false;
     for change in changes {
@@ -101,7 +102,8 @@ fn push_changes(text: &mut Vec<u8>, changes: &[Change]) -> Result<(), AllocError
 // Adds a change, behind a comma where others stand before it.
 fn push_next(text: &mut Vec<u8>, later: bool, change: &Change) -> Result<(), AllocError>
     ensures { OnOk result
-        (text.new.items ≡ text.old.items ++ (comma_if later ++ compact_text (change_data change.now))) }
+        (text.new.items
+        ≡ text.old.items ++ (comma_if later ++ compact_text (change_data change.now))) }
 {
     push_comma(text, later)?;
     push_change(text, change)
@@ -109,7 +111,8 @@ fn push_next(text: &mut Vec<u8>, later: bool, change: &Change) -> Result<(), All
 
 // Adds a change.
 fn push_change(text: &mut Vec<u8>, change: &Change) -> Result<(), AllocError>
-    ensures { OnOk result (text.new.items ≡ text.old.items ++ compact_text (change_data change.now)) }
+    ensures { OnOk result
+        (text.new.items ≡ text.old.items ++ compact_text (change_data change.now)) }
 {
     push_members(text, change)
 }

@@ -87,7 +87,10 @@ pub fn view_svg(alloc: Global, editor: &Editor, view: &View) -> Result<Seq<u8>, 
 fn add_svg(svg: &mut SvgView, editor: &Editor, number: u32) -> Result<(), AllocError>
     requires { IsLive editor.now.engine.rows number }
     ensures { OnOk result ((row : Row) × Contains editor.now.engine.rows row × (row.number ≡ number)
-        × (svg.new ≡ record { view = svg.old.view; text = svg.old.text ++ label_lines svg.old.view row.label })) }
+        × (svg.new ≡ record {
+          view = svg.old.view;
+          text = svg.old.text ++ label_lines svg.old.view row.label;
+        })) }
 {
     svg.add(editor.label_at(number))
 }

@@ -27,14 +27,16 @@ pub(crate) fn push_comma(text: &mut Vec<u8>, later: bool) -> Result<(), AllocErr
 
 // Adds a whole number.
 pub(crate) fn push_number(text: &mut Vec<u8>, value: i64) -> Result<(), AllocError>
-    ensures { OnOk result (text.new.items ≡ text.old.items ++ compact_text (number (of_integer value))) }
+    ensures { OnOk result
+        (text.new.items ≡ text.old.items ++ compact_text (number (of_integer value))) }
 {
     push_signed(text, value)
 }
 
 // The same, in two parts.
 fn push_signed(text: &mut Vec<u8>, value: i64) -> Result<(), AllocError>
-    ensures { OnOk result (text.new.items ≡ text.old.items ++ (sign_text value ++ decimal (unsigned_abs value))) }
+    ensures { OnOk result
+        (text.new.items ≡ text.old.items ++ (sign_text value ++ decimal (unsigned_abs value))) }
 {
     push_sign(text, value)?;
     push_digits(text, value.unsigned_abs())
@@ -114,7 +116,8 @@ fn escaped(alloc: Global, value: &str) -> Result<Vec<u8>, AllocError>
 
 // Adds a fraction, which is a string.
 pub(crate) fn push_ratio(text: &mut Vec<u8>, ratio: Ratio) -> Result<(), AllocError>
-    ensures { OnOk result (text.new.items ≡ text.old.items ++ compact_text (string (ratio_text ratio))) }
+    ensures { OnOk result
+        (text.new.items ≡ text.old.items ++ compact_text (string (ratio_text ratio))) }
 {
     push_quoted_ratio(text, ratio)
 }

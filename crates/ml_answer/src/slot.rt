@@ -38,7 +38,8 @@ fn slot_value(
     until: Ratio,
     blocker: Option<&Text>,
 ) -> Result<Value, AllocError>
-    ensures { IfOk result (λ value. view value ≡ slot_data label.now until (option_copied blocker.entry)) }
+    ensures { IfOk result
+        (λ value. view value ≡ slot_data label.now until (option_copied blocker.entry)) }
 {
     let blocker = id_value(alloc, blocker)?;
     let max = ratio_value(alloc, label.max())?;

@@ -33,7 +33,8 @@ impl SvgView {
     /// # Errors
     /// Out of memory.
     pub fn new(alloc: Global, view: &View) -> Result<SvgView, AllocError>
-        ensures { IfOk result (λ svg. svg ≡ record { view = view.now; text = head_line view.now.w view.now.h }) }
+        ensures { IfOk result
+            (λ svg. svg ≡ record { view = view.now; text = head_line view.now.w view.now.h }) }
     {
         let head = head_of(alloc, view.w, view.h)?;
         Ok(SvgView {
@@ -48,7 +49,10 @@ impl SvgView {
     /// Out of memory, which leaves the drawing as it was.
     pub fn add(&mut self, label: &Label) -> Result<(), AllocError>
         ensures ok { OnOk result
-            (self.new ≡ record { view = self.old.view; text = self.old.text ++ label_lines self.old.view label.now }) }
+            (self.new ≡ record {
+              view = self.old.view;
+              text = self.old.text ++ label_lines self.old.view label.now;
+            }) }
         ensures err { OnErr result (self.new ≡ self.old) }
     {
         let alloc = *self.text.allocator();
@@ -70,7 +74,8 @@ impl SvgView {
     pub fn finish(self) -> Result<Seq<u8>, AllocError>
         ensures ok { IfOk result (λ text. text ≡ self.text ++ last_line) }
         ensures whole { IfOk result (λ text. (labels : List Label) →
-            self.text ≡ head_line self.view.w self.view.h ++ flat_map (label_lines self.view) labels →
+            self.text
+            ≡ head_line self.view.w self.view.h ++ flat_map (label_lines self.view) labels →
             text ≡ svg_text self.view labels) }
     {
         let mut text = self.text;

@@ -101,7 +101,8 @@ fn push_listed(
     label: &Label,
     until: Ratio,
 ) -> Result<(), AllocError>
-    ensures { OnOk result (all.new.items ≡ all.old.items ++ (comma_if later ++ shown_text label.now until)) }
+    ensures { OnOk result
+        (all.new.items ≡ all.old.items ++ (comma_if later ++ shown_text label.now until)) }
 {
     push_comma(all, later)?;
     push_label(all, label, until)

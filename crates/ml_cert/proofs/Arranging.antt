@@ -35,7 +35,8 @@ module _ (labels : List Label) (slots : List Slot) where
   }
 
   -- its spot is written
-  pub listed_more : (i n : ℕ) (spots : List Spot) (spot : Spot) → n < length spots → AreListed labels slots i spots n → IsSpotOf labels spot → spot.place ≡ i → AreListed labels slots (i + 1) (set spots n spot) (n + 1)
+  pub listed_more : (i n : ℕ) (spots : List Spot) (spot : Spot) → n < length spots → AreListed labels slots i spots n →
+      IsSpotOf labels spot → spot.place ≡ i → AreListed labels slots (i + 1) (set spots n spot) (n + 1)
   listed_more i n spots spot in' so_far is at = record {
     good = λ k d lt. elim (cases_lt k n) [
       | inl less ↦ let other : k ≢ n = omega arith in rw (get_or-set_other spots n k spot d other) (so_far.good k d less)
@@ -52,7 +53,8 @@ module _ (labels : List Label) (slots : List Slot) where
     ];
   }
 
-  module _ (spots part sorted : List Spot) (n : ℕ) (in' : n ≤ length spots) (is : part ≡ take n spots) (listed : AreListed labels slots (length labels) spots n) (same : IsPermutation part sorted) where
+  module _ (spots part sorted : List Spot) (n : ℕ) (in' : n ≤ length spots) (is : part ≡ take n spots)
+      (listed : AreListed labels slots (length labels) spots n) (same : IsPermutation part sorted) where
     long : length part ≡ n
     long = let h = length-take n spots in let e = ap length is in omega arith
 
@@ -91,8 +93,8 @@ module _ (labels : List Label) (spots : List Spot) where
   part_good from to le in' all k d lt = let long = part_length spots from to le in' in rw (part_read spots from to k d (omega arith)) (all (from + k) d (omega arith))
 
   -- spots from south to north, from one place until another, in an area that holds their labels, are a strip
-  pub strip_of : (strip : Strip) → strip.from ≤ strip.to → strip.to ≤ length spots → All (IsSpotOf labels) spots → AreRising spots strip.from strip.to → All (λ spot. (d : Label) → IsInArea (get_or labels spot.place d) strip.area) (slice_range spots strip.from strip.to) →
-      IsStripIn labels spots strip
+  pub strip_of : (strip : Strip) → strip.from ≤ strip.to → strip.to ≤ length spots → All (IsSpotOf labels) spots → AreRising spots strip.from strip.to →
+      All (λ spot. (d : Label) → IsInArea (get_or labels spot.place d) strip.area) (slice_range spots strip.from strip.to) → IsStripIn labels spots strip
   strip_of strip le in' all up held = record {
     order = le;
     within = in';
@@ -100,7 +102,8 @@ module _ (labels : List Label) (spots : List Spot) where
       good = part_good strip.from strip.to le in' all;
       rising = λ i j d less lt.
           let long = part_length spots strip.from strip.to le in' in
-          rw (part_read spots strip.from strip.to i d (omega arith), part_read spots strip.from strip.to j d (omega arith)) (up (strip.from + i) (strip.from + j) d (omega arith) (omega arith) (omega arith));
+          rw (part_read spots strip.from strip.to i d (omega arith), part_read spots strip.from strip.to j d (omega arith))
+          (up (strip.from + i) (strip.from + j) d (omega arith) (omega arith) (omega arith));
       held = held;
     };
   }
@@ -114,7 +117,8 @@ module _ (labels : List Label) (spots : List Spot) where
   }
 
   -- with the strip that begins where the last one ended, the spots before its end are in the first n + 1 strips
-  pub cut_more : (strips : List Strip) (n from : ℕ) (strip : Strip) → n < length strips → strip.from ≡ from → IsStripIn labels spots strip → AreCut labels spots strips n from → AreCut labels spots (set strips n strip) (n + 1) strip.to
+  pub cut_more : (strips : List Strip) (n from : ℕ) (strip : Strip) → n < length strips → strip.from ≡ from →
+      IsStripIn labels spots strip → AreCut labels spots strips n from → AreCut labels spots (set strips n strip) (n + 1) strip.to
   cut_more strips n from strip in' begins is so_far = record {
     few = let long = length-set strips n strip in omega arith;
     good = λ k d lt. elim (cases_lt k n) [
@@ -141,7 +145,8 @@ module _ (labels : List Label) (spots : List Spot) where
     parts_read : (k : ℕ) (d : Strip) → k < n → get_or parts k d ≡ get_or strips k d
     parts_read k d lt = ap (λ (xs : List Strip). get_or xs k d) is ∙ get_or-take n strips k d lt
 
-    in_part : (strip : Strip) (m : ℕ) (spot : Spot) (j : ℕ) → IsStripIn labels spots strip → strip.from ≤ m → m < strip.to → get_or spots m spot ≡ spot → spot.place ≡ j → HasSpot (slice_range spots strip.from strip.to) j
+    in_part : (strip : Strip) (m : ℕ) (spot : Spot) (j : ℕ) → IsStripIn labels spots strip → strip.from ≤ m →
+        m < strip.to → get_or spots m spot ≡ spot → spot.place ≡ j → HasSpot (slice_range spots strip.from strip.to) j
     in_part strip m spot j good from to is its =
         let order = good.order in
         let within = good.within in

@@ -35,7 +35,9 @@ pub record ArePair (labels : List Label) (c : Choice) (i j : ℕ) (a b : Label) 
   pub good : IsEnd a u
 
 -- the pair that a program reads
-pub pair_of : (labels : List Label) (slots : List Slot) (i j : ℕ) (a b : Label) (s t : Slot) → j < i → i < length labels → length slots ≡ length labels → a ≡ get_or labels i a → b ≡ get_or labels j b → HasGoodEnd labels (ends slots) i → ArePair labels (ends slots) i j a b (value_of (get_or slots i s).until) (value_of (get_or slots j t).until)
+pub pair_of : (labels : List Label) (slots : List Slot) (i j : ℕ) (a b : Label) (s t : Slot) → j < i → i < length labels →
+    length slots ≡ length labels → a ≡ get_or labels i a → b ≡ get_or labels j b → HasGoodEnd labels (ends slots) i →
+    ArePair labels (ends slots) i j a b (value_of (get_or slots i s).until) (value_of (get_or slots j t).until)
 pair_of labels slots i j a b s t lt in' same its other good =
     let its_label : (d : Label) → get_or labels i d ≡ a = (λ (d : Label). get_or_default labels i d a in' ∙ sym its) in
     let slot : get_or slots i no_slot ≡ get_or slots i s = get_or_default slots i no_slot s (omega arith) in

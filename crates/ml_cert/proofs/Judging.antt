@@ -54,7 +54,9 @@ pub record IsJudged (labels : List Label) (slots : List Slot) (i : ℕ) (a : Lab
   pub all : IsDue labels (ends slots) i i due
 
 -- what a program has read and found
-pub judged_of : (labels : List Label) (slots : List Slot) (i : ℕ) (a : Label) (s : Slot) (due : Option ℕ) → i < length labels → length slots ≡ length labels → AllSoundBefore labels slots i → a ≡ get_or labels i a → s ≡ get_or slots i s → IsEnd a (value_of s.until) → IsDue labels (ends slots) i i due → IsJudged labels slots i a s due
+pub judged_of : (labels : List Label) (slots : List Slot) (i : ℕ) (a : Label) (s : Slot) (due : Option ℕ) →
+    i < length labels → length slots ≡ length labels → AllSoundBefore labels slots i → a ≡ get_or labels i a →
+    s ≡ get_or slots i s → IsEnd a (value_of s.until) → IsDue labels (ends slots) i i due → IsJudged labels slots i a s due
 judged_of labels slots i a s due in' same before label slot good all =
     record {
       question = record { is_label = in'; before = before };

@@ -7,7 +7,8 @@ use Rattle.ml_cone.specs.declared.slot.Slot.{Slot}
 use Rattle.ml_cert.specs.SlotLine.{IsWordsAnswer, IsLineAnswer}
 
 -- the answer for three words is the answer for the text that they make
-pub line_of_words : (labels : List Label) (i : ℕ) (line id until blocker : List ℕ) (answer : Option Slot) → IsUtf8 line → parts 32 line ≡ id ∷ until ∷ blocker ∷ [] → IsWordsAnswer labels i id until blocker answer → IsLineAnswer labels i line answer
+pub line_of_words : (labels : List Label) (i : ℕ) (line id until blocker : List ℕ) (answer : Option Slot) → IsUtf8 line →
+    parts 32 line ≡ id ∷ until ∷ blocker ∷ [] → IsWordsAnswer labels i id until blocker answer → IsLineAnswer labels i line answer
 line_of_words labels i line id until blocker None text words h =
     λ slot l.
     let e : l.id ∷ l.until ∷ l.blocker ∷ [] ≡ id ∷ until ∷ blocker ∷ [] = sym l.words ∙ words in

@@ -18,7 +18,8 @@ use Rattle.ml_cert.proofs.Dues.{ArePair, aside_of, blocker_of}
 -- ---- the label that is asked, and one before it
 
 -- the label that is asked about and one before it, with their ends, are a pair of the choice
-pub asked_pair : (asked : Asked) (j : ℕ) → j < asked.place → ArePair asked.labels.now (ends asked.slots.now) asked.place j asked.low.now (get_or asked.labels.now j asked.low.now) (value_of asked.until) (ends asked.slots.now j)
+pub asked_pair : (asked : Asked) (j : ℕ) → j < asked.place → ArePair asked.labels.now (ends asked.slots.now) asked.place j asked.low.now
+    (get_or asked.labels.now j asked.low.now) (value_of asked.until) (ends asked.slots.now j)
 asked_pair asked j lt =
     let there = asked.there in
     record {
@@ -36,8 +37,9 @@ pub aside_there : Known → (asked : Asked) (j : ℕ) → j < asked.place → Se
 aside_there known asked j lt none = aside_of known (asked_pair asked j lt) none
 
 -- its limit is the end
-pub blocker_there : Known → (asked : Asked) (j : ℕ) → j < asked.place → {f : Fraction} → IsLimit asked.low.now (get_or asked.labels.now j asked.low.now) (ends asked.slots.now j) f → IsLess f (value_of asked.low.now.max) → IsSame f (value_of asked.until) →
-    AllowsAt asked.labels.now (ends asked.slots.now) j asked.place × Blocks asked.labels.now (ends asked.slots.now) j asked.place
+pub blocker_there : Known → (asked : Asked) (j : ℕ) → j < asked.place → {f : Fraction} →
+    IsLimit asked.low.now (get_or asked.labels.now j asked.low.now) (ends asked.slots.now j) f → IsLess f (value_of asked.low.now.max) →
+    IsSame f (value_of asked.until) → AllowsAt asked.labels.now (ends asked.slots.now) j asked.place × Blocks asked.labels.now (ends asked.slots.now) j asked.place
 blocker_there known asked j lt limit below same = blocker_of known (asked_pair asked j lt) limit below same
 
 -- what a program reads of the label at a place and of its slot
@@ -75,7 +77,8 @@ module _ (labels : List Label) (c : Choice) (i : ℕ) where
   }
 
   -- labels that allow the end and do not block it were not seen
-  pub due_wider : (seen all : ℕ → Type 0) (due : Option ℕ) → IsDueAmong labels c i seen due → ((k : ℕ) → all k → k < i → seen k ⊎ (AllowsAt labels c k i × ¬ (Blocks labels c k i))) → IsDueAmong labels c i all due
+  pub due_wider : (seen all : ℕ → Type 0) (due : Option ℕ) → IsDueAmong labels c i seen due →
+      ((k : ℕ) → all k → k < i → seen k ⊎ (AllowsAt labels c k i × ¬ (Blocks labels c k i))) → IsDueAmong labels c i all due
   due_wider seen all due among either = record {
     allowed = λ k saw lt. elim (either k saw lt) [ inl old ↦ among.allowed k old lt | inr aside ↦ aside.0 ];
     first = first due among.first;
@@ -87,27 +90,32 @@ module _ (labels : List Label) (c : Choice) (i : ℕ) where
       first (Some m) (lt_m, blocks, h) = (lt_m, blocks, λ k saw lt. elim (either k saw (omega arith)) [ inl old ↦ h k old lt | inr aside ↦ aside.1 ])
 
   -- the label at j was seen too
-  pub due_with : (seen all : ℕ → Type 0) (j : ℕ) (due next : Option ℕ) → IsDueAmong labels c i seen due → IsDueWith labels c i j due next → ((k : ℕ) → all k → seen k ⊎ (k ≡ j)) → IsDueAmong labels c i all next
+  pub due_with : (seen all : ℕ → Type 0) (j : ℕ) (due next : Option ℕ) → IsDueAmong labels c i seen due →
+      IsDueWith labels c i j due next → ((k : ℕ) → all k → seen k ⊎ (k ≡ j)) → IsDueAmong labels c i all next
   due_with seen all j due next among more either = record {
     allowed = λ k saw lt. elim (either k saw) [ inl old ↦ among.allowed k old lt | inr same ↦ subst (λ (m : ℕ). AllowsAt labels c m i) (sym same) (more.allowed (omega arith)) ];
     first = elim more.first [
-      | inl kept ↦ subst (λ (o : Option ℕ). MatchOption o ((k : ℕ) → all k → k < i → ¬ (Blocks labels c k i)) (λ m. (m < i) × Blocks labels c m i × ((k : ℕ) → all k → k < m → ¬ (Blocks labels c k i)))) (sym kept.1) (same_due due kept.0 among.first)
+      | inl kept ↦ subst (λ (o : Option ℕ). MatchOption o ((k : ℕ) → all k → k < i → ¬ (Blocks labels c k i))
+          (λ m. (m < i) × Blocks labels c m i × ((k : ℕ) → all k → k < m → ¬ (Blocks labels c k i)))) (sym kept.1) (same_due due kept.0 among.first)
       | inr new ↦
           let n : ℕ = new.2.0 in
-          subst (λ (o : Option ℕ). MatchOption o ((k : ℕ) → all k → k < i → ¬ (Blocks labels c k i)) (λ m. (m < i) × Blocks labels c m i × ((k : ℕ) → all k → k < m → ¬ (Blocks labels c k i)))) (sym new.2.1) (sooner_due n due new.0 new.1 among.first new.2.2)
+          subst (λ (o : Option ℕ). MatchOption o ((k : ℕ) → all k → k < i → ¬ (Blocks labels c k i)) (λ m. (m < i) × Blocks labels c m i × ((k : ℕ) → all k → k < m → ¬ (Blocks labels c k i))))
+          (sym new.2.1) (sooner_due n due new.0 new.1 among.first new.2.2)
     ];
   }
     where
       clear : (k : ℕ) → k ≡ j → (j < i → ¬ (Blocks labels c j i)) → k < i → ¬ (Blocks labels c k i)
       clear k same none lt = subst (λ (m : ℕ). ¬ (Blocks labels c m i)) (sym same) (none (omega arith))
 
-      same_due : (due : Option ℕ) → (j < i → ¬ (Blocks labels c j i)) → MatchOption due ((k : ℕ) → seen k → k < i → ¬ (Blocks labels c k i)) (λ m. (m < i) × Blocks labels c m i × ((k : ℕ) → seen k → k < m → ¬ (Blocks labels c k i))) →
+      same_due : (due : Option ℕ) → (j < i → ¬ (Blocks labels c j i)) → MatchOption due ((k : ℕ) → seen k → k < i → ¬ (Blocks labels c k i))
+          (λ m. (m < i) × Blocks labels c m i × ((k : ℕ) → seen k → k < m → ¬ (Blocks labels c k i))) →
           MatchOption due ((k : ℕ) → all k → k < i → ¬ (Blocks labels c k i)) (λ m. (m < i) × Blocks labels c m i × ((k : ℕ) → all k → k < m → ¬ (Blocks labels c k i)))
       same_due None none h = λ k saw lt. elim (either k saw) [ inl old ↦ h k old lt | inr same ↦ clear k same none lt ]
       same_due (Some m) none (lt_m, blocks, h) = (lt_m, blocks, λ k saw lt. elim (either k saw) [ inl old ↦ h k old lt | inr same ↦ clear k same none (omega arith) ])
 
-      sooner_due : (n : ℕ) (due : Option ℕ) → j < i → Blocks labels c j i → MatchOption due ((k : ℕ) → seen k → k < i → ¬ (Blocks labels c k i)) (λ m. (m < i) × Blocks labels c m i × ((k : ℕ) → seen k → k < m → ¬ (Blocks labels c k i))) → IsSooner due j n →
-          (n < i) × Blocks labels c n i × ((k : ℕ) → all k → k < n → ¬ (Blocks labels c k i))
+      sooner_due : (n : ℕ) (due : Option ℕ) → j < i → Blocks labels c j i → MatchOption due ((k : ℕ) → seen k → k < i → ¬ (Blocks labels c k i))
+          (λ m. (m < i) × Blocks labels c m i × ((k : ℕ) → seen k → k < m → ¬ (Blocks labels c k i))) →
+          IsSooner due j n → (n < i) × Blocks labels c n i × ((k : ℕ) → all k → k < n → ¬ (Blocks labels c k i))
       sooner_due n None lt_j blocks h same = (
         omega arith,
         subst (λ (m : ℕ). Blocks labels c m i) (sym same) blocks,
@@ -120,13 +128,15 @@ module _ (labels : List Label) (c : Choice) (i : ℕ) where
       )
 
   -- some labels and others were seen
-  pub due_both : (seen others all : ℕ → Type 0) (due other next : Option ℕ) → IsDueAmong labels c i seen due → IsDueAmong labels c i others other → IsSoonest due other next → ((k : ℕ) → all k → seen k ⊎ others k) → IsDueAmong labels c i all next
+  pub due_both : (seen others all : ℕ → Type 0) (due other next : Option ℕ) → IsDueAmong labels c i seen due →
+      IsDueAmong labels c i others other → IsSoonest due other next → ((k : ℕ) → all k → seen k ⊎ others k) → IsDueAmong labels c i all next
   due_both seen others all due other next one two soonest either = record {
     allowed = λ k saw lt. elim (either k saw) [ inl old ↦ one.allowed k old lt | inr new ↦ two.allowed k new lt ];
     first = first due other one.first two.first soonest;
   }
     where
-      both : (n : ℕ) (due : Option ℕ) (j : ℕ) → IsFirstOf labels c i seen due → (j < i) × Blocks labels c j i × ((k : ℕ) → others k → k < j → ¬ (Blocks labels c k i)) → IsSooner due j n → (n < i) × Blocks labels c n i × ((k : ℕ) → all k → k < n → ¬ (Blocks labels c k i))
+      both : (n : ℕ) (due : Option ℕ) (j : ℕ) → IsFirstOf labels c i seen due → (j < i) × Blocks labels c j i × ((k : ℕ) → others k → k < j → ¬ (Blocks labels c k i)) →
+          IsSooner due j n → (n < i) × Blocks labels c n i × ((k : ℕ) → all k → k < n → ¬ (Blocks labels c k i))
       both n None j h (lt_j, blocks, g) same = (
         omega arith,
         subst (λ (m : ℕ). Blocks labels c m i) (sym same) blocks,

@@ -50,7 +50,8 @@ module _ (labels : List Label) (differ : HaveOwnIds labels) (named : IsNoId labe
       let m = w.one_slot in
       same_lists slots others (n ∙ sym m) (λ k d lt.
       let inside : k < length labels = omega arith in
-      get_or_default slots k d no_slot lt ∙ slot_same k (entry bytes k).1 (get_or slots k no_slot) (get_or others k no_slot) (v.written k inside) (w.written k inside) ∙ get_or_default others k no_slot d (omega arith))
+      get_or_default slots k d no_slot lt ∙ slot_same k (entry bytes k).1 (get_or slots k no_slot) (get_or others k no_slot) (v.written k inside) (w.written k inside)
+      ∙ get_or_default others k no_slot d (omega arith))
 
 module _ (labels : List Label) (bytes : List ℕ) where
   -- a text that gives slots has no faulty line and lacks none
@@ -81,13 +82,15 @@ module _ (labels : List Label) (bytes : List ℕ) where
   -- ---- what an answer says is all that there is to say
 
   -- a text that gives slots is read as those, where ids differ and none is a minus, unless memory is wanting
-  pub reads_from : (r : Result (List Slot) SlotsFault) → IfOk r (λ slots. AreSlotLines labels bytes slots) → IfErr r (λ fault. IsSlotsFault labels bytes fault) → HaveOwnIds labels → IsNoId labels (codes "-") → (slots : List Slot) → AreSlotLines labels bytes slots → GivesSlots r slots
+  pub reads_from : (r : Result (List Slot) SlotsFault) → IfOk r (λ slots. AreSlotLines labels bytes slots) → IfErr r (λ fault. IsSlotsFault labels bytes fault) →
+      HaveOwnIds labels → IsNoId labels (codes "-") → (slots : List Slot) → AreSlotLines labels bytes slots → GivesSlots r slots
   reads_from (Ok others) ok err differ named slots are = inl (ap Ok (one_slots labels differ named bytes others slots ok are))
   reads_from (Err (BadLine k)) ok err differ named slots are = absurd (faultless slots k are err)
   reads_from (Err Memory) ok err differ named slots are = inr refl
 
   -- a text of slots is refused at a number exactly where it is at fault there
-  pub refused_from : (r : Result (List Slot) SlotsFault) → IfOk r (λ slots. AreSlotLines labels bytes slots) → IfErr r (λ fault. IsSlotsFault labels bytes fault) → (k : ℕ) → RefusesExactly r (BadLine k) Memory (IsSlotsFault labels bytes (BadLine k))
+  pub refused_from : (r : Result (List Slot) SlotsFault) → IfOk r (λ slots. AreSlotLines labels bytes slots) →
+      IfErr r (λ fault. IsSlotsFault labels bytes fault) → (k : ℕ) → RefusesExactly r (BadLine k) Memory (IsSlotsFault labels bytes (BadLine k))
   refused_from (Ok slots) ok err k = (λ e. absurd (cc e), λ is. absurd (faultless slots k ok is))
   refused_from (Err (BadLine j)) ok err k = (
     λ e.

@@ -29,15 +29,18 @@ module _ (labels : List Label) (n : ℕ) (own : List ℕ) (a : Label) (its_id : 
   more_here : (id : List ℕ) → own ≡ id → IsPlaceBefore labels (n + 1) id n
   more_here id e = (omega arith, λ d. its_id d ∙ e)
 
-  more_other : (id : List ℕ) → ¬ (own ≡ id) → (found : Option ℕ) → MatchOption found ((j : ℕ) → ¬ (IsPlaceBefore labels n id j)) (IsPlaceBefore labels n id) → MatchOption found ((j : ℕ) → ¬ (IsPlaceBefore labels (n + 1) id j)) (IsPlaceBefore labels (n + 1) id)
+  more_other : (id : List ℕ) → ¬ (own ≡ id) → (found : Option ℕ) → MatchOption found ((j : ℕ) → ¬ (IsPlaceBefore labels n id j)) (IsPlaceBefore labels n id) →
+      MatchOption found ((j : ℕ) → ¬ (IsPlaceBefore labels (n + 1) id j)) (IsPlaceBefore labels (n + 1) id)
   more_other id differ None h =
       λ j k. elim (cases_lt j n) [ inl less ↦ h j (less, k.1) | inr more ↦ let p = k.0 in let same : j ≡ n = omega arith in differ (sym (its_id a) ∙ (rw same at (k.1 a))) ]
   more_other id differ (Some j) h = let p = h.0 in (omega arith, h.1)
 
-  by_test : (b : Bool) (id : List ℕ) → bytes_eq own id ≡ b → (found : Option ℕ) → MatchOption found ((j : ℕ) → ¬ (IsPlaceBefore labels n id j)) (IsPlaceBefore labels n id) → MatchOption (cond b (Some n) found) ((j : ℕ) → ¬ (IsPlaceBefore labels (n + 1) id j)) (IsPlaceBefore labels (n + 1) id)
+  by_test : (b : Bool) (id : List ℕ) → bytes_eq own id ≡ b → (found : Option ℕ) → MatchOption found ((j : ℕ) → ¬ (IsPlaceBefore labels n id j)) (IsPlaceBefore labels n id) →
+      MatchOption (cond b (Some n) found) ((j : ℕ) → ¬ (IsPlaceBefore labels (n + 1) id j)) (IsPlaceBefore labels (n + 1) id)
   by_test true id e found h = more_here id ((bytes_eq-Decides own id).0 e)
   by_test false id e found h = more_other id (λ same. absurd (false≢true (sym e ∙ (bytes_eq-Decides own id).1 same))) found h
 
   -- one label more
-  pub before_more : (old new : BTreeMap (Bor (List ℕ)) ℕ) → ((id : List ℕ) → find_place new id ≡ cond (bytes_eq own id) (Some n) (find_place old id)) → FindsBefore labels old n → FindsBefore labels new (n + 1)
+  pub before_more : (old new : BTreeMap (Bor (List ℕ)) ℕ) → ((id : List ℕ) → find_place new id ≡ cond (bytes_eq own id) (Some n) (find_place old id)) →
+      FindsBefore labels old n → FindsBefore labels new (n + 1)
   before_more old new updates before id = rw (updates id) (by_test (bytes_eq own id) id refl (find_place old id) (before id))

@@ -34,7 +34,8 @@ module _ (labels : List Label) (bytes rest : List ℕ) (count : ℕ) (slots : Li
     counted_more = let e : length (lines rest) ≡ suc (length (lines after)) = ap length next in let k = so_far.counted in omega arith
 
     split_more : 0 < length line → entries bytes ≡ so_far.done ++ ((count + 1, line) ∷ written_lines (count + 1 + 1) (lines after))
-    split_more some = so_far.split ∙ ap (λ (xs : List (List ℕ)). so_far.done ++ written_lines (count + 1) xs) next ∙ ap (λ (xs : List (ℕ × List ℕ)). so_far.done ++ xs) (written_some (count + 1) line (lines after) some)
+    split_more some = so_far.split ∙ ap (λ (xs : List (List ℕ)). so_far.done ++ written_lines (count + 1) xs) next
+        ∙ ap (λ (xs : List (ℕ × List ℕ)). so_far.done ++ xs) (written_some (count + 1) line (lines after) some)
 
     -- a line that is not empty and writes the slot of the label due there adds that slot
     pub read_more : 0 < length line → (slot : Slot) → IsSlotLine labels (length slots) line slot → ReadSoFar labels bytes after (count + 1) (slots ++ slot ∷ [])
@@ -62,7 +63,8 @@ module _ (labels : List Label) (bytes rest : List ℕ) (count : ℕ) (slots : Li
     faulty_line some faulty =
         let e = split_more some in
         let more : List (ℕ × List ℕ) = (count + 1, line) ∷ written_lines (count + 1 + 1) (lines after) in
-        let here : entry bytes (length so_far.done) ≡ (count + 1, line) = ap (λ (xs : List (ℕ × List ℕ)). get_or xs (length so_far.done) no_entry) e ∙ get_or-append_seam so_far.done (count + 1, line) (written_lines (count + 1 + 1) (lines after)) no_entry in
+        let here : entry bytes (length so_far.done) ≡ (count + 1, line) = ap (λ (xs : List (ℕ × List ℕ)). get_or xs (length so_far.done) no_entry) e
+        ∙ get_or-append_seam so_far.done (count + 1, line) (written_lines (count + 1 + 1) (lines after)) no_entry in
         record {
           place = length so_far.done;
           is_there = let l : length (entries bytes) ≡ length (so_far.done ++ more) = ap length e in omega (arith, length-append so_far.done more);

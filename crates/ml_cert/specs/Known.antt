@@ -10,5 +10,8 @@ pub record Known : Type 0 where
   pub smaller : (low high : Label) (u v e f : Fraction) → IsAtMost v u → IsAtMost e f → Allows low high u f → Allows low high v e
   pub same : (low high : Label) (u v f g : Fraction) → IsSame u v → IsSame f g → IsLimit low high u f → IsLimit low high v g
   pub allowed : (low high : Label) (u bound : Fraction) → IsAtMost bound (value_of low.max) → SetsNoneUpTo low high u bound → Allows low high u bound
-  pub limits : (labels : List Label) (choice : Choice) (j i : ℕ) (d : Label) → IsEnd (slice_index_or labels i d) (choice i) → Allows (slice_index_or labels i d) (slice_index_or labels j d) (choice j) (choice i) → Blocks labels choice j i → IsLimit (slice_index_or labels i d) (slice_index_or labels j d) (choice j) (choice i)
-  pub blocks : (labels : List Label) (choice : Choice) (j i : ℕ) → j < i → ((d : Label) → IsLess (choice i) (value_of (slice_index_or labels i d).max)) → ((d : Label) → IsLimit (slice_index_or labels i d) (slice_index_or labels j d) (choice j) (choice i)) → Blocks labels choice j i
+  pub limits : (labels : List Label) (choice : Choice) (j i : ℕ) (d : Label) → IsEnd (slice_index_or labels i d) (choice i) →
+      Allows (slice_index_or labels i d) (slice_index_or labels j d) (choice j) (choice i) →
+      Blocks labels choice j i → IsLimit (slice_index_or labels i d) (slice_index_or labels j d) (choice j) (choice i)
+  pub blocks : (labels : List Label) (choice : Choice) (j i : ℕ) → j < i → ((d : Label) → IsLess (choice i) (value_of (slice_index_or labels i d).max)) →
+      ((d : Label) → IsLimit (slice_index_or labels i d) (slice_index_or labels j d) (choice j) (choice i)) → Blocks labels choice j i

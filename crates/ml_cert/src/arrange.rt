@@ -82,7 +82,8 @@ fn width_for(count: usize) -> usize
 /// Cuts the spots into strips, as many as there is room for at most. The answer is how many, if all fit.
 pub fn cut(labels: &[Label], spots: &[Spot], strips: &mut [Strip]) -> Option<usize>
     requires { All (IsSpotOf labels.now) spots.now }
-    ensures { IfSome result (λ many. AreCut labels.now spots.now strips.new many (length spots.now)) }
+    ensures { IfSome result
+        (λ many. AreCut labels.now spots.now strips.new many (length spots.now)) }
 {
     let mut many = 0;
     let mut from = 0;
@@ -122,7 +123,8 @@ fn end_of(spots: &[Spot], from: usize) -> usize
 fn area_of(labels: &[Label], spots: &[Spot]) -> Area
     requires good { All (IsSpotOf labels.now) spots.now }
     requires some { 0 < length spots.now }
-    ensures { All (λ spot. (d : ALabel) → IsInArea (slice_index_or labels.now spot.place d) result) spots.now }
+    ensures { All (λ spot. (d : ALabel) →
+        IsInArea (slice_index_or labels.now spot.place d) result) spots.now }
 {
     let mut area = Area::of(&labels[spots[0].place as usize]);
     for k in 0..spots.len() {

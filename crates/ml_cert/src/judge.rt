@@ -61,7 +61,8 @@ fn judge_in_strips(labels: &[Label], slots: &[Slot], spots: &[Spot]) -> Verdict
     requires lengths { length slots.now ≡ length labels.now }
     requires some { 0 < length labels.now }
     requires good { All (IsSpotOf labels.now) spots.now }
-    requires each { (j : ℕ) → j < length labels.now → HasSpot spots.now j ⊎ IsIdle labels.now slots.now j }
+    requires each { (j : ℕ) → j < length labels.now →
+        HasSpot spots.now j ⊎ IsIdle labels.now slots.now j }
     ensures verdict { IsVerdict labels.now slots.now result }
     ensures one { (verdict : Verdict) → IsVerdict labels.now slots.now verdict → result ≡ verdict }
     ensures best { (result ≡ Verdict.Best) ↔ AreSlots (λ j. j) labels.now slots.now }

@@ -29,10 +29,12 @@ pub fn one_verdict()
 /// A text of slots has one reading at most, where the labels have ids of their own and none is called
 /// `-`; none where it is refused; and one line is at fault.
 pub fn one_list_of_slots()
-    ensures one { (labels : List Label) (bytes : List ℕ) (slots others : List Slot) → HaveOwnIds labels → IsNoId labels (codes "-") →
+    ensures one { (labels : List Label) (bytes : List ℕ) (slots others : List Slot) →
+        HaveOwnIds labels → IsNoId labels (codes "-") →
         AreSlotLines labels bytes slots → AreSlotLines labels bytes others → slots ≡ others }
     ensures faultless { (labels : List Label) (bytes : List ℕ) (slots : List Slot) (k : ℕ) →
         AreSlotLines labels bytes slots → ¬ (IsSlotsFault labels bytes (SlotsFault.BadLine k)) }
     ensures fault { (labels : List Label) (bytes : List ℕ) (k j : ℕ) →
-        IsSlotsFault labels bytes (SlotsFault.BadLine k) → IsSlotsFault labels bytes (SlotsFault.BadLine j) → k ≡ j }
+        IsSlotsFault labels bytes (SlotsFault.BadLine k) →
+        IsSlotsFault labels bytes (SlotsFault.BadLine j) → k ≡ j }
 {}

@@ -47,8 +47,10 @@ impl Asked<'_> {
     /// The first label before that blocks the label, if any does; none at all where a label before may refuse
     /// its end.
     pub fn due(&self, field: &Field<'_>) -> Option<Option<usize>>
-        requires { IsFieldOf self.now.labels.now self.now.slots.now field.now.spots.now field.now.strips.now }
-        ensures { IfSome result (λ due. IsDueAmong self.now.labels.now (ends self.now.slots.now) self.now.place (λ j. j < self.now.place) due) }
+        requires { IsFieldOf self.now.labels.now self.now.slots.now
+            field.now.spots.now field.now.strips.now }
+        ensures { IfSome result (λ due. IsDueAmong self.now.labels.now
+            (ends self.now.slots.now) self.now.place (λ j. j < self.now.place) due) }
     {
         known_limits();
         idle_labels();
@@ -64,7 +66,8 @@ impl Asked<'_> {
     // What the spots of a strip say.
     fn due_in(&self, spots: &[Spot], area: &Area) -> Option<Option<usize>>
         requires { IsStripOf self.now.labels.now spots.now area.now }
-        ensures { IfSome result (λ due. IsDueAmong self.now.labels.now (ends self.now.slots.now) self.now.place (HasSpot spots.now) due) }
+        ensures { IfSome result (λ due. IsDueAmong self.now.labels.now
+            (ends self.now.slots.now) self.now.place (HasSpot spots.now) due) }
     {
         known_limits();
         if self.area.is_away(area, &self.until) {
@@ -79,7 +82,8 @@ impl Asked<'_> {
     fn south(&self, spots: &[Spot], area: &Area, start: usize) -> Option<Option<usize>>
         requires strip { IsStripOf self.now.labels.now spots.now area.now }
         requires start { start ≤ length spots.now }
-        ensures { IfSome result (λ due. IsDueAmong self.now.labels.now (ends self.now.slots.now) self.now.place (SeesSpot spots.now 0 start) due) }
+        ensures { IfSome result (λ due. IsDueAmong self.now.labels.now
+            (ends self.now.slots.now) self.now.place (SeesSpot spots.now 0 start) due) }
     {
         known_limits();
         let pixels = (self.area.along.reach + area.along.reach) as u64;
@@ -107,8 +111,10 @@ impl Asked<'_> {
     ) -> Option<Option<usize>>
         requires strip { IsStripOf self.now.labels.now spots.now area.now }
         requires start { start ≤ length spots.now }
-        requires before { IsDueAmong self.now.labels.now (ends self.now.slots.now) self.now.place (SeesSpot spots.now 0 start) before }
-        ensures { IfSome result (λ due. IsDueAmong self.now.labels.now (ends self.now.slots.now) self.now.place (HasSpot spots.now) due) }
+        requires before { IsDueAmong self.now.labels.now
+            (ends self.now.slots.now) self.now.place (SeesSpot spots.now 0 start) before }
+        ensures { IfSome result (λ due. IsDueAmong self.now.labels.now
+            (ends self.now.slots.now) self.now.place (HasSpot spots.now) due) }
     {
         known_limits();
         let pixels = (self.area.along.reach + area.along.reach) as u64;
@@ -126,7 +132,8 @@ impl Asked<'_> {
     // What is due with the label of the spot; none where it may refuse the end.
     fn next_due(&self, spot: &Spot, due: Option<usize>) -> Option<Option<usize>>
         requires { IsSpotOf self.now.labels.now spot.now }
-        ensures { IfSome result (λ next. IsDueWith self.now.labels.now (ends self.now.slots.now) self.now.place spot.now.place due next) }
+        ensures { IfSome result (λ next. IsDueWith self.now.labels.now
+            (ends self.now.slots.now) self.now.place spot.now.place due next) }
     {
         match self.stance(spot) {
             Stance::Aside => Some(due),
@@ -139,7 +146,8 @@ impl Asked<'_> {
     // not be looked at itself.
     fn stance(&self, spot: &Spot) -> Stance
         requires { IsSpotOf self.now.labels.now spot.now }
-        ensures { IsStance self.now.labels.now (ends self.now.slots.now) self.now.place spot.now.place result }
+        ensures { IsStance self.now.labels.now
+            (ends self.now.slots.now) self.now.place spot.now.place result }
     {
         known_limits();
         clear_labels();

@@ -60,7 +60,8 @@ module _ (rows : List Row) (are : AreSlots (number_at rows) (labels_in rows) (sl
       let placed = by_place (number_at rows) (labels_in rows) (ends (slots_in rows)) i own.blocker (are.blockers i within) in
       (record { until = own.until; blocker = placed.0 }, (refl, placed.1))
 
-  untils : (slots : List Slot) → length slots ≡ length (labels_in rows) → ((i : ℕ) → i < length (labels_in rows) → IsPlacedAt rows i (get_or slots i no_slot)) → (i : ℕ) → (get_or (slots_in rows) i no_slot).until ≡ (get_or slots i no_slot).until
+  untils : (slots : List Slot) → length slots ≡ length (labels_in rows) → ((i : ℕ) → i < length (labels_in rows) → IsPlacedAt rows i (get_or slots i no_slot)) →
+      (i : ℕ) → (get_or (slots_in rows) i no_slot).until ≡ (get_or slots i no_slot).until
   untils slots size placed i = elim (cases_lt i (length (labels_in rows))) [
     | inl within ↦ sym (placed i within).0
     | inr past ↦ ap (λ s. s.until) (get_or_past (slots_in rows) i no_slot (omega (arith, past, many)) ∙ sym (get_or_past slots i no_slot (omega (arith, past, size))))
@@ -88,7 +89,8 @@ module _ (rows : List Row) (are : AreSlots (number_at rows) (labels_in rows) (sl
 abbrev pub OneRowANumber : Type 0
 OneRowANumber = (rows : List Row) (one other : Row) → HaveOwnNumbers rows → Contains rows one → Contains rows other → one.number ≡ other.number → one ≡ other
 
-module _ (one_row : OneRowANumber) (rows : List Row) (own : HaveOwnNumbers rows) (slots : List Slot) (untils : (i : ℕ) → (get_or (slots_in rows) i no_slot).until ≡ (get_or slots i no_slot).until) where
+module _ (one_row : OneRowANumber) (rows : List Row) (own : HaveOwnNumbers rows) (slots : List Slot)
+    (untils : (i : ℕ) → (get_or (slots_in rows) i no_slot).until ≡ (get_or slots i no_slot).until) where
   many_labels : length (labels_in rows) ≡ length rows
   many_labels = length-map rows (λ r. r.label)
 
@@ -109,7 +111,8 @@ module _ (one_row : OneRowANumber) (rows : List Row) (own : HaveOwnNumbers rows)
   heads x y xs ys e = (cc, cc)
 
   -- the labels at the places of shown rows
-  pub shown_rows : (places : List ℕ) (shown : List Row) → All (λ p. p < length (labels_in rows)) places → All (Contains rows) shown → numbers_in shown ≡ map (number_at rows) places → filter_map (shown_at (labels_in rows) slots) places ≡ map shown_of shown
+  pub shown_rows : (places : List ℕ) (shown : List Row) → All (λ p. p < length (labels_in rows)) places → All (Contains rows) shown →
+      numbers_in shown ≡ map (number_at rows) places → filter_map (shown_at (labels_in rows) slots) places ≡ map shown_of shown
   shown_rows [] [] within among are = refl
   shown_rows [] (r ∷ shown) within among are = cc
   shown_rows (p ∷ places) [] within among are = cc
@@ -120,7 +123,8 @@ module _ (one_row : OneRowANumber) (rows : List Row) (own : HaveOwnNumbers rows)
       ap (λ o. cons_option o (filter_map (shown_at (labels_in rows) slots) places)) first ∙ ap (λ ss. shown_of r ∷ ss) rest
 
 -- the text of a view and the end of a line are the line of the view
-pub map_lined : OneRowANumber → (classes : Style) (features : List Feature) (s : State) (view : View) (text line : List ℕ) → s ≡ first_state classes features → IsViewText json_body s view text → line ≡ text ++ codes "\n" → IsMapView classes features view line
+pub map_lined : OneRowANumber → (classes : Style) (features : List Feature) (s : State) (view : View) (text line : List ℕ) →
+    s ≡ first_state classes features → IsViewText json_body s view text → line ≡ text ++ codes "\n" → IsMapView classes features view line
 map_lined one_row classes features s view text line is (rows, its, (shown, are, body)) end =
     let placed = slots_by_place rows its.settled.slots in
     let places = are.numbers.places in

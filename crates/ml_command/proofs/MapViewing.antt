@@ -15,7 +15,8 @@ use Rattle.ml_command.specs.declared.stop.Stop.{Stop}
 use Rattle.ml_command.specs.declared.stop.Stop.TheVariants as stop
 
 -- a refused style
-pub style_stopped : (seen : Seen) (name bytes : List ℕ) (fault : StyleFault) (s : Stop) → IsLoaded seen.told name most_bytes bytes → IsRefusal bytes fault → IsStyleRefusal fault s → IsStyleStop seen name s
+pub style_stopped : (seen : Seen) (name bytes : List ℕ) (fault : StyleFault) (s : Stop) →
+    IsLoaded seen.told name most_bytes bytes → IsRefusal bytes fault → IsStyleRefusal fault s → IsStyleStop seen name s
 style_stopped seen name bytes fault (stop.StyleRefused line) loaded refused h = (bytes, fault, loaded, refused, h)
 style_stopped seen name bytes fault (stop.InputRefused line) loaded refused h = absurd h
 style_stopped seen name bytes fault stop.FileFault loaded refused h = absurd h
@@ -23,7 +24,8 @@ style_stopped seen name bytes fault stop.TooLong loaded refused h = absurd h
 style_stopped seen name bytes fault stop.Memory loaded refused h = tt
 
 -- a map of too many features
-pub map_full : (seen : Seen) (name bytes : List ℕ) (features : List Feature) (s : Stop) → IsLoaded seen.told name most_bytes bytes → IsMap bytes features → most_labels < length features → IsInputRefusal IsFullLine s → IsMapStop seen name s
+pub map_full : (seen : Seen) (name bytes : List ℕ) (features : List Feature) (s : Stop) → IsLoaded seen.told name most_bytes bytes →
+    IsMap bytes features → most_labels < length features → IsInputRefusal IsFullLine s → IsMapStop seen name s
 map_full seen name bytes features (stop.StyleRefused line) loaded is more h = absurd h
 map_full seen name bytes features (stop.InputRefused line) loaded is more h = inr (bytes, features, loaded, is, more, h)
 map_full seen name bytes features stop.FileFault loaded is more h = absurd h
@@ -49,6 +51,8 @@ map_earlier one two name stop.TooLong same calm h = rw same at h
 map_earlier one two name stop.Memory same calm h = tt
 
 -- a map that was not read after its style was
-pub map_stopped : {A : Type 0} (one two : Seen) (style map : List ℕ) (classes : Style) (answer : Result A Stop) (s : Stop) → two.told ≡ one.told → two.faults_before ≡ one.faults_before → HasStyle one.told style classes → IsErrAnd answer (λ e. e ≡ s) → IsMapStop two map s → IfErr answer (IsMapAnswerStop (since one two) style map)
+pub map_stopped : {A : Type 0} (one two : Seen) (style map : List ℕ) (classes : Style) (answer : Result A Stop) (s : Stop) →
+    two.told ≡ one.told → two.faults_before ≡ one.faults_before → HasStyle one.told style classes →
+    IsErrAnd answer (λ e. e ≡ s) → IsMapStop two map s → IfErr answer (IsMapAnswerStop (since one two) style map)
 map_stopped one two style map classes (Ok a) s same calm has is h = tt
 map_stopped one two style map classes (Err e) s same calm has is h = inr (classes, has, map_earlier one two map e same calm (rw (sym is) at h))

@@ -101,7 +101,8 @@ module _ (styles : (bytes : List ℕ) (one other : Style) → IsStyle bytes one 
       x.is ∙ ap (λ (s : Style). first_state s x.features) (same_style files style x.classes y.classes x.has_style y.has_style)
       ∙ ap (first_state y.classes) (same_map files name x.features y.features x.has_map y.has_map) ∙ sym y.is
 
-  module _ (lists : (style : Style) (features others : List Feature) (labels rest : List Label) → ((f : Feature) → Contains features f ↔ Contains others f) → AreLabelsOf style features labels → AreLabelsOf style others rest → labels ≡ rest)
+  module _ (lists : (style : Style) (features others : List Feature) (labels rest : List Label) →
+      ((f : Feature) → Contains features f ↔ Contains others f) → AreLabelsOf style features labels → AreLabelsOf style others rest → labels ≡ rest)
       (choice : OneChoice)
       (timelines : (labels : List Label) (slots : List Slot) (at : Window) (all others : List (List Stay)) → AreTimelines labels slots at all → AreTimelines labels slots at others → all ≡ others)
       (peaks : (all : List (List Stay)) (peak other : Peak) → IsPeak all peak → IsPeak all other → peak ≡ other) where

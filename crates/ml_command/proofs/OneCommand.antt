@@ -100,7 +100,8 @@ kind_of (Follow states) = of_follow
 -- the kind of a name
 abbrev kind_named : List ℕ → Kind
 kind_named name =
-    if bytes_eq name (codes "show") then of_show else (if bytes_eq name (codes "slots") then of_slots else (if bytes_eq name (codes "gaps") then of_gaps else (if bytes_eq name (codes "gapview") then of_gapview else
+    if bytes_eq name (codes "show") then of_show
+    else (if bytes_eq name (codes "slots") then of_slots else (if bytes_eq name (codes "gaps") then of_gaps else (if bytes_eq name (codes "gapview") then of_gapview else
     (if bytes_eq name (codes "check") then of_check else (if bytes_eq name (codes "view") then of_view else (if bytes_eq name (codes "zoom") then of_zoom else
     (if bytes_eq name (codes "pipe") then of_pipe else (if bytes_eq name (codes "serve") then of_serve else (if bytes_eq name (codes "gen") then of_gen else of_follow)))))))))
 
@@ -149,7 +150,8 @@ it_is rest (Follow states) takes = (states, refl, takes)
 same_parts : (rest : List (List ℕ)) (one other : Command) → AreRest one rest → Is (kind_of one) rest other → plain one ≡ plain other
 same_parts rest (OnTable table (Show view)) other x (named, seen, is, y) =
     let e : table.now ∷ x.0 ≡ named.now ∷ y.0 = sym x.1 ∙ y.1 in
-    ap (λ (t : Bor (List ℕ)). OnTable t (Show view)) (same_name table named (cc (e))) ∙ ap (λ (v : View). OnTable (plain_name named) (Show v)) (view_once x.0 y.0 view seen (cc (e)) x.2 y.2) ∙ ap plain (sym is)
+    ap (λ (t : Bor (List ℕ)). OnTable t (Show view)) (same_name table named (cc (e)))
+    ∙ ap (λ (v : View). OnTable (plain_name named) (Show v)) (view_once x.0 y.0 view seen (cc (e)) x.2 y.2) ∙ ap plain (sym is)
 same_parts rest (OnTable table Slots) other x (named, is, y) =
     let e : table.now ∷ [] ≡ named.now ∷ [] = sym x ∙ y in
     ap (λ (t : Bor (List ℕ)). OnTable t Slots) (same_name table named (cc (e))) ∙ ap plain (sym is)
@@ -158,24 +160,29 @@ same_parts rest (OnTable table Gaps) other x (named, is, y) =
     ap (λ (t : Bor (List ℕ)). OnTable t Gaps) (same_name table named (cc (e))) ∙ ap plain (sym is)
 same_parts rest (OnTable table (GapView view)) other x (named, seen, is, y) =
     let e : table.now ∷ x.0 ≡ named.now ∷ y.0 = sym x.1 ∙ y.1 in
-    ap (λ (t : Bor (List ℕ)). OnTable t (GapView view)) (same_name table named (cc (e))) ∙ ap (λ (v : View). OnTable (plain_name named) (GapView v)) (view_once x.0 y.0 view seen (cc (e)) x.2 y.2) ∙ ap plain (sym is)
+    ap (λ (t : Bor (List ℕ)). OnTable t (GapView view)) (same_name table named (cc (e)))
+    ∙ ap (λ (v : View). OnTable (plain_name named) (GapView v)) (view_once x.0 y.0 view seen (cc (e)) x.2 y.2) ∙ ap plain (sym is)
 same_parts rest (Check table slots) other x (named, given, is, y) =
     let e : table.now ∷ slots.now ∷ [] ≡ named.now ∷ given.now ∷ [] = sym x ∙ y in
     ap (λ (t : Bor (List ℕ)). Check t (plain_name slots)) (same_name table named (cc (e))) ∙ ap (Check (plain_name named)) (same_name slots given (cc (e))) ∙ ap plain (sym is)
 same_parts rest (OnMap style map (ViewMap view)) other x (classes, features, seen, is, y) =
     let e : style.now ∷ map.now ∷ x.0 ≡ classes.now ∷ features.now ∷ y.0 = sym x.1 ∙ y.1 in
-    ap (λ (t : Bor (List ℕ)). OnMap t (plain_name map) (ViewMap view)) (same_name style classes (cc (e))) ∙ ap (λ (t : Bor (List ℕ)). OnMap (plain_name classes) t (ViewMap view)) (same_name map features (cc (e)))
+    ap (λ (t : Bor (List ℕ)). OnMap t (plain_name map) (ViewMap view)) (same_name style classes (cc (e)))
+    ∙ ap (λ (t : Bor (List ℕ)). OnMap (plain_name classes) t (ViewMap view)) (same_name map features (cc (e)))
     ∙ ap (λ (v : View). OnMap (plain_name classes) (plain_name features) (ViewMap v)) (view_once x.0 y.0 view seen (cc (e)) x.2 y.2) ∙ ap plain (sym is)
 same_parts rest (OnMap style map (Zoom window)) other x (classes, features, seen, is, y) =
     let e : style.now ∷ map.now ∷ x.0 ≡ classes.now ∷ features.now ∷ y.0 = sym x.1 ∙ y.1 in
-    ap (λ (t : Bor (List ℕ)). OnMap t (plain_name map) (Zoom window)) (same_name style classes (cc (e))) ∙ ap (λ (t : Bor (List ℕ)). OnMap (plain_name classes) t (Zoom window)) (same_name map features (cc (e)))
+    ap (λ (t : Bor (List ℕ)). OnMap t (plain_name map) (Zoom window)) (same_name style classes (cc (e)))
+    ∙ ap (λ (t : Bor (List ℕ)). OnMap (plain_name classes) t (Zoom window)) (same_name map features (cc (e)))
     ∙ ap (λ (w : Window). OnMap (plain_name classes) (plain_name features) (Zoom w)) (window_once x.0 y.0 window seen (cc (e)) x.2 y.2) ∙ ap plain (sym is)
 same_parts rest (Live style map Pipe) other x (classes, features, is, y) =
     let e : style.now ∷ map.now ∷ [] ≡ classes.now ∷ features.now ∷ [] = sym x ∙ y in
-    ap (λ (t : Bor (List ℕ)). Live t (plain_name map) Pipe) (same_name style classes (cc (e))) ∙ ap (λ (t : Bor (List ℕ)). Live (plain_name classes) t Pipe) (same_name map features (cc (e))) ∙ ap plain (sym is)
+    ap (λ (t : Bor (List ℕ)). Live t (plain_name map) Pipe) (same_name style classes (cc (e)))
+    ∙ ap (λ (t : Bor (List ℕ)). Live (plain_name classes) t Pipe) (same_name map features (cc (e))) ∙ ap plain (sym is)
 same_parts rest (Live style map (Serve port count)) other x (classes, features, door, most, is, y) =
     let e : style.now ∷ map.now ∷ x.0 ∷ x.1 ∷ [] ≡ classes.now ∷ features.now ∷ y.0 ∷ y.1 ∷ [] = sym x.2 ∙ y.2 in
-    ap (λ (t : Bor (List ℕ)). Live t (plain_name map) (Serve port count)) (same_name style classes (cc (e))) ∙ ap (λ (t : Bor (List ℕ)). Live (plain_name classes) t (Serve port count)) (same_name map features (cc (e)))
+    ap (λ (t : Bor (List ℕ)). Live t (plain_name map) (Serve port count)) (same_name style classes (cc (e)))
+    ∙ ap (λ (t : Bor (List ℕ)). Live (plain_name classes) t (Serve port count)) (same_name map features (cc (e)))
     ∙ ap (λ (n : ℕ). Live (plain_name classes) (plain_name features) (Serve n count)) (number_once 1 65535 x.0 y.0 port door (cc (e)) x.3 y.3)
     ∙ ap (λ (n : ℕ). Live (plain_name classes) (plain_name features) (Serve door n)) (number_once 1 1000000 x.1 y.1 count most (cc (e)) x.4 y.4) ∙ ap plain (sym is)
 same_parts rest (Gen groups seed) other x (number, begun, is, y) =

@@ -38,7 +38,8 @@ not_both a b first second =
     let tie = tied_itself nat_list_cmp_total a.id in
     cc
 
-ascending : (changes : List Change) → IsStrictlySortedBy (slice_cmp nat_cmp) (map (λ (c : Change). c.id) changes) → (j i : ℕ) (d : Change) → j < i → i < length changes → less (get_or changes j d) (get_or changes i d)
+ascending : (changes : List Change) → IsStrictlySortedBy (slice_cmp nat_cmp) (map (λ (c : Change). c.id) changes) →
+    (j i : ℕ) (d : Change) → j < i → i < length changes → less (get_or changes j d) (get_or changes i d)
 ascending changes up j i d lt within =
     let id_of : Change → List ℕ = λ (c : Change). c.id in
     let many = length-map changes id_of in
@@ -48,7 +49,8 @@ ascending changes up j i d lt within =
     let sorted = Less-from_sorted (slice_cmp nat_cmp) (map id_of changes) j i d.id up lt (omega (arith, within, many)) in
     subst (λ (b : List ℕ). slice_cmp nat_cmp (get_or changes j d).id b ≡ Less) at_i (subst (λ (a : List ℕ). slice_cmp nat_cmp a (get_or (map id_of changes) i d.id) ≡ Less) at_j sorted)
 
-same_changes : (labels : List Label) (slots : List Slot) (new_labels : List Label) (new_slots : List Slot) (changes others : List Change) → AreChanges labels slots new_labels new_slots changes → AreChanges labels slots new_labels new_slots others → changes ≡ others
+same_changes : (labels : List Label) (slots : List Slot) (new_labels : List Label) (new_slots : List Slot) (changes others : List Change) →
+    AreChanges labels slots new_labels new_slots changes → AreChanges labels slots new_labels new_slots others → changes ≡ others
 same_changes labels slots new_labels new_slots changes others a b =
     one_list less not_both changes others (ascending changes a.ascending) (ascending others b.ascending)
     (λ c there. b.whole c (subst (IsChange labels slots new_labels new_slots) there.2 (a.sound there.0 c there.1)))
@@ -76,7 +78,8 @@ first_adopts a rest all = all 0 a (omega arith)
 rest_adopts : (a : Offered) (rest : List Offered) → AllAdopted (a ∷ rest) → AllAdopted rest
 rest_adopts a rest all k d lt = all (suc k) d (omega (arith, lt))
 
-same_offers : (held : Option State) (states : List State) (xs ys : List Offered) (after next : Option State) → AllAdopted xs → AllAdopted ys → Offers held states xs after → Offers held states ys next → (xs ≡ ys) × (after ≡ next)
+same_offers : (held : Option State) (states : List State) (xs ys : List Offered) (after next : Option State) →
+    AllAdopted xs → AllAdopted ys → Offers held states xs after → Offers held states ys next → (xs ≡ ys) × (after ≡ next)
 same_offers held [] [] [] after next p q x y = (refl, x ∙ sym y)
 same_offers held [] (a ∷ xs) ys after next p q x y = absurd x
 same_offers held [] [] (b ∷ ys) after next p q x y = absurd y

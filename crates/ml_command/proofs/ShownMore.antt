@@ -15,7 +15,8 @@ module _ (labels : List Label) (slots : List Slot) (one_each : length slots ≡ 
       rw (slice_get_read labels (length labels) i label refl within is, get_or_default slots i no_slot slot (rw one_each within)) refl
 
   -- from the k-th place on there is left to show the label there, until its slot ends, and what is left from the next place on
-  pub shown_more : (places : List ℕ) (k : ℕ) → k < length places → get_or places k 0 < length labels → label ≡ get_or labels (get_or places k 0) label → filter_map (shown_at labels slots) (drop k places) ≡ record { label = label; until = (get_or slots (get_or places k 0) slot).until } ∷ filter_map (shown_at labels slots) (drop (k + 1) places)
+  pub shown_more : (places : List ℕ) (k : ℕ) → k < length places → get_or places k 0 < length labels → label ≡ get_or labels (get_or places k 0) label →
+      filter_map (shown_at labels slots) (drop k places) ≡ record { label = label; until = (get_or slots (get_or places k 0) slot).until } ∷ filter_map (shown_at labels slots) (drop (k + 1) places)
   shown_more places k left within is =
       let rest = filter_map (shown_at labels slots) (drop (k + 1) places) in
       ap (filter_map (shown_at labels slots)) (drop_more places k 0 left) ∙ ap (λ o. cons_option o rest) (shown_there (get_or places k 0) within is)

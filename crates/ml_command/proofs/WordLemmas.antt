@@ -9,7 +9,8 @@ use Rattle.ml_view.specs.Words.{WritesView, IsFirstBad}
 use Rattle.ml_command.specs.Words.{AreViewWords, AreWindowWords}
 
 -- a list of four, each of which is known
-pub four_items : {A B : Type 0} (f : A → B) (items : List A) (a b c d : A) → 4 ≤ length items → length items < 5 → a ≡ get_or items 0 a → b ≡ get_or items 1 b → c ≡ get_or items 2 c → d ≡ get_or items 3 d → map f items ≡ f a ∷ f b ∷ f c ∷ f d ∷ []
+pub four_items : {A B : Type 0} (f : A → B) (items : List A) (a b c d : A) → 4 ≤ length items → length items < 5 →
+    a ≡ get_or items 0 a → b ≡ get_or items 1 b → c ≡ get_or items 2 c → d ≡ get_or items 3 d → map f items ≡ f a ∷ f b ∷ f c ∷ f d ∷ []
 four_items f (p ∷ q ∷ r ∷ s ∷ []) a b c d at_least below ea eb ec ed = rw (sym ea, sym eb, sym ec, sym ed) refl
 four_items f [] a b c d at_least below ea eb ec ed = absurd (omega arith)
 four_items f (p ∷ []) a b c d at_least below ea eb ec ed = absurd (omega arith)
@@ -18,7 +19,8 @@ four_items f (p ∷ q ∷ r ∷ []) a b c d at_least below ea eb ec ed = absurd 
 four_items f (p ∷ q ∷ r ∷ s ∷ t ∷ items) a b c d at_least below ea eb ec ed = absurd (omega arith)
 
 -- a list of five, each of which is known
-pub five_items : {A B : Type 0} (f : A → B) (items : List A) (a b c d e : A) → 5 ≤ length items → length items < 6 → a ≡ get_or items 0 a → b ≡ get_or items 1 b → c ≡ get_or items 2 c → d ≡ get_or items 3 d → e ≡ get_or items 4 e → map f items ≡ f a ∷ f b ∷ f c ∷ f d ∷ f e ∷ []
+pub five_items : {A B : Type 0} (f : A → B) (items : List A) (a b c d e : A) → 5 ≤ length items → length items < 6 → a ≡ get_or items 0 a →
+    b ≡ get_or items 1 b → c ≡ get_or items 2 c → d ≡ get_or items 3 d → e ≡ get_or items 4 e → map f items ≡ f a ∷ f b ∷ f c ∷ f d ∷ f e ∷ []
 five_items f [] a b c d e at_least below ea eb ec ed ee = absurd (omega arith)
 five_items f (p ∷ items) a b c d e at_least below ea eb ec ed ee =
     let rest = four_items f items b c d e (omega arith) (omega arith) eb ec ed ee in
@@ -32,7 +34,8 @@ first_item f (p ∷ items) a at_least ea =
     rw (rest, sym ea) refl
 
 -- a list whose first two elements are known
-pub two_items : {A B : Type 0} (f : A → B) (items : List A) (a b : A) → 2 ≤ length items → a ≡ get_or items 0 a → b ≡ get_or items 1 b → map f items ≡ f a ∷ f b ∷ map f (take (length items - 2) (drop 2 items))
+pub two_items : {A B : Type 0} (f : A → B) (items : List A) (a b : A) → 2 ≤ length items → a ≡ get_or items 0 a →
+    b ≡ get_or items 1 b → map f items ≡ f a ∷ f b ∷ map f (take (length items - 2) (drop 2 items))
 two_items f [] a b at_least ea eb = absurd (omega arith)
 two_items f (p ∷ []) a b at_least ea eb = absurd (omega arith)
 two_items f (p ∷ q ∷ items) a b at_least ea eb =

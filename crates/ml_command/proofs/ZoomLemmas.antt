@@ -55,7 +55,8 @@ module _ (labels : List Label) (slots : List Slot) (at : Window) where
           rw (same, get_or-append_seam all its [] []) (rw (first.count, one, other) maximal)
 
 -- the lines of labels, and one more
-lines_push : (labels : List Label) (all : List (List Stay)) (label : Label) (its : List Stay) → length all ≡ length labels → zoom_lines (labels ++ label ∷ []) (all ++ its ∷ []) ≡ zoom_lines labels all ++ zoom_line label.order.id its
+lines_push : (labels : List Label) (all : List (List Stay)) (label : Label) (its : List Stay) → length all ≡ length labels →
+    zoom_lines (labels ++ label ∷ []) (all ++ its ∷ []) ≡ zoom_lines labels all ++ zoom_line label.order.id its
 lines_push [] [] label its n = append-nil (zoom_line label.order.id its)
 lines_push [] (s ∷ all) label its n = absurd (omega arith)
 lines_push (l ∷ labels) [] label its n = absurd (omega arith)
@@ -64,7 +65,8 @@ lines_push (l ∷ labels) (s ∷ all) label its n =
     ∙ sym (append_assoc (zoom_line l.order.id s) (zoom_lines labels all) (zoom_line label.order.id its))
 
 -- the zoom lines of the first i + 1 labels are those of the first i and that of the next label
-pub lines_more : (labels : List Label) (all : List (List Stay)) (i : ℕ) (d : Label) (e : List Stay) → length all ≡ length labels → i < length labels → zoom_lines (take (i + 1) labels) (take (i + 1) all) ≡ zoom_lines (take i labels) (take i all) ++ zoom_line (get_or labels i d).order.id (get_or all i e)
+pub lines_more : (labels : List Label) (all : List (List Stay)) (i : ℕ) (d : Label) (e : List Stay) → length all ≡ length labels → i < length labels →
+    zoom_lines (take (i + 1) labels) (take (i + 1) all) ≡ zoom_lines (take i labels) (take i all) ++ zoom_line (get_or labels i d).order.id (get_or all i e)
 lines_more labels all i d e n at =
     rw (take_more labels i d at, take_more all i e (omega arith))
     (lines_push (take i labels) (take i all) (get_or labels i d) (get_or all i e) (omega (arith, length-take i labels, length-take i all)))

@@ -22,8 +22,10 @@ pub fn check<F: Files>(
     table: &str,
     slots: &str,
 ) -> Result<(Verdict, Seq<u8>), Stop>
-    ensures ok { IfOk result (λ answer. IsVerdictTold (F.told files.old) table.now slots.now answer.0 answer.1) }
-    ensures stop { IfErr result (IsCheckStop (seen F.told F.faults F.failed_name files.old files.new) table.now slots.now) }
+    ensures ok { IfOk result
+        (λ answer. IsVerdictTold (F.told files.old) table.now slots.now answer.0 answer.1) }
+    ensures stop { IfErr result
+        (IsCheckStop (seen F.told F.faults F.failed_name files.old files.new) table.now slots.now) }
     ensures same { F.told files.new ≡ F.told files.old }
     ensures kept { Keeps (seen F.told F.faults F.failed_name files.old files.new) result }
     ensures later { F.faults files.old ≤ F.faults files.new }

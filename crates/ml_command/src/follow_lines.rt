@@ -101,7 +101,8 @@ fn id_at(ids: &[Seq<u8>], i: usize) -> &[u8]
 
 // Adds a word, an id, and the end of the line.
 fn push_named(line: &mut Vec<u8>, word: &[u8], id: &[u8]) -> Result<(), AllocError>
-    ensures { OnOk result (line.new.items ≡ line.old.items ++ (word.now ++ (id.now ++ codes "\n"))) }
+    ensures { OnOk result
+        (line.new.items ≡ line.old.items ++ (word.now ++ (id.now ++ codes "\n"))) }
 {
     line.extend_from_slice(word)?;
     line.extend_from_slice(id)?;
@@ -111,7 +112,8 @@ fn push_named(line: &mut Vec<u8>, word: &[u8], id: &[u8]) -> Result<(), AllocErr
 // Adds the words of a clash: the ids of a label and of the earlier one, and the limit that this one sets.
 fn push_clash(line: &mut Vec<u8>, id: &[u8], earlier: &[u8], limit: Ratio) -> Result<(), AllocError>
     ensures { OnOk result (line.new.items ≡ line.old.items
-        ++ (codes "Clash " ++ (id.now ++ (codes " " ++ (earlier.now ++ (codes " " ++ (ratio_text limit ++ codes "\n"))))))) }
+        ++ (codes "Clash " ++ (id.now
+        ++ (codes " " ++ (earlier.now ++ (codes " " ++ (ratio_text limit ++ codes "\n"))))))) }
 {
     let limit = limit.text(*line.allocator())?;
     line.extend_from_slice(b"Clash ")?;

@@ -22,7 +22,8 @@ const MOST_BYTES: u64 = 67_108_864;
 /// `FileFault` and `TooLong` where its file is not loaded; `InputRefused` where it is no table; `Memory`.
 pub fn load_table<F: Files>(alloc: Global, files: &mut F, name: &str) -> Result<Seq<Label>, Stop>
     ensures ok { IfOk result (λ labels. HasTable (F.told files.old) name.now labels) }
-    ensures stop { IfErr result (IsTableStop (seen F.told F.faults F.failed_name files.old files.new) name.now) }
+    ensures stop { IfErr result
+        (IsTableStop (seen F.told F.faults F.failed_name files.old files.new) name.now) }
     ensures same { F.told files.new ≡ F.told files.old }
     ensures kept { Keeps (seen F.told F.faults F.failed_name files.old files.new) result }
     ensures later { F.faults files.old ≤ F.faults files.new }
@@ -47,7 +48,8 @@ pub fn load_slots<F: Files>(
 ) -> Result<Seq<Slot>, Stop>
     requires { length labels.now ≤ most_labels }
     ensures ok { IfOk result (λ slots. HasSlots (F.told files.old) labels.now name.now slots) }
-    ensures stop { IfErr result (IsSlotsStop (seen F.told F.faults F.failed_name files.old files.new) labels.now name.now) }
+    ensures stop { IfErr result
+        (IsSlotsStop (seen F.told F.faults F.failed_name files.old files.new) labels.now name.now) }
     ensures same { F.told files.new ≡ F.told files.old }
     ensures kept { Keeps (seen F.told F.faults F.failed_name files.old files.new) result }
     ensures later { F.faults files.old ≤ F.faults files.new }
@@ -64,8 +66,10 @@ pub fn load_slots<F: Files>(
 /// # Errors
 /// `FileFault`, `TooLong`, `Memory`.
 pub fn load<F: Files>(alloc: Global, files: &mut F, name: &str) -> Result<Vec<u8>, Stop>
-    ensures ok { IfOk result (λ bytes. IsLoaded (F.told files.old) name.now most_bytes bytes.items) }
-    ensures stop { IfErr result (IsLoadStop (seen F.told F.faults F.failed_name files.old files.new) name.now) }
+    ensures ok { IfOk result
+        (λ bytes. IsLoaded (F.told files.old) name.now most_bytes bytes.items) }
+    ensures stop { IfErr result
+        (IsLoadStop (seen F.told F.faults F.failed_name files.old files.new) name.now) }
     ensures same { F.told files.new ≡ F.told files.old }
     ensures kept { Keeps (seen F.told F.faults F.failed_name files.old files.new) result }
     ensures later { F.faults files.old ≤ F.faults files.new }
@@ -106,7 +110,8 @@ fn slots_refusal(alloc: Global, fault: SlotsFault) -> Stop
 
 /// The line that refuses an input, if there was memory for it.
 pub fn input_refusal(line: Result<String, AllocError>) -> Stop
-    ensures { MatchResult line (λ line. result ≡ stop.InputRefused (string_bytes line)) (λ _. result ≡ stop.Memory) }
+    ensures { MatchResult line (λ line. result ≡ stop.InputRefused (string_bytes line))
+        (λ _. result ≡ stop.Memory) }
 {
     match line {
         Ok(line) => Stop::InputRefused(Seq::of_vec(line.into_bytes())),

@@ -24,13 +24,15 @@ use ml_style::laws::one_style;
 
 /// Words ask for one command at most, wherever its names stand in memory.
 pub fn one_command()
-    ensures { (words : List (List ℕ)) (one other : Command) → Ask words one → Ask words other → plain one ≡ plain other }
+    ensures { (words : List (List ℕ)) (one other : Command) →
+        Ask words one → Ask words other → plain one ≡ plain other }
 {}
 
 /// Of a table of told files there is one text for each task.
 pub fn one_table_answer()
     ensures { (files : FileSet) (table : List ℕ) (task : TableTask) (one other : List ℕ) →
-        IsTableAnswer (Some files) table task one → IsTableAnswer (Some files) table task other → one ≡ other }
+        IsTableAnswer (Some files) table task one →
+        IsTableAnswer (Some files) table task other → one ≡ other }
 {
     one_table();
     one_choice();
@@ -40,7 +42,8 @@ pub fn one_table_answer()
 /// Of a style and a map of told files there is one text for each task.
 pub fn one_map_answer()
     ensures { (files : FileSet) (style map : List ℕ) (task : MapTask) (one other : List ℕ) →
-        IsMapAnswer (Some files) style map task one → IsMapAnswer (Some files) style map task other → one ≡ other }
+        IsMapAnswer (Some files) style map task one →
+        IsMapAnswer (Some files) style map task other → one ≡ other }
 {
     one_style();
     one_map();
@@ -53,7 +56,8 @@ pub fn one_map_answer()
 /// A style and a map of told files have one first state.
 pub fn one_first_state()
     ensures { (files : FileSet) (style map : List ℕ) (one other : State) →
-        IsFirstState (Some files) style map one → IsFirstState (Some files) style map other → one ≡ other }
+        IsFirstState (Some files) style map one →
+        IsFirstState (Some files) style map other → one ≡ other }
 {
     one_style();
     one_map();
@@ -64,9 +68,11 @@ pub fn one_first_state()
 pub fn one_following()
     ensures states { (files : FileSet) (name : List ℕ) (states others : List followed.State) →
         HasStates (Some files) name states → HasStates (Some files) name others → states ≡ others }
-    ensures answers { (states : List followed.State) (one other : Following states) → one.rest ≡ [] → other.rest ≡ [] →
+    ensures answers { (states : List followed.State) (one other : Following states) →
+        one.rest ≡ [] → other.rest ≡ [] →
         AllAdopted one.answers → AllAdopted other.answers → one.answers ≡ other.answers }
-    ensures held { (states : List followed.State) (one other : Following states) → one.rest ≡ [] → other.rest ≡ [] →
+    ensures held { (states : List followed.State) (one other : Following states) →
+        one.rest ≡ [] → other.rest ≡ [] →
         AllAdopted one.answers → AllAdopted other.answers → one.held ≡ other.held }
 {
     one_reading();

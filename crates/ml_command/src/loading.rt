@@ -31,8 +31,10 @@ pub fn load_editor<F: Files>(
     style: &str,
     map: &str,
 ) -> Result<Site, Stop>
-    ensures ok { IfOk result (λ p. IsFirstState (F.told files.old) style.now map.now p.0.state × (p.1 ≡ no_tiles)) }
-    ensures stop { IfErr result (IsMapAnswerStop (seen F.told F.faults F.failed_name files.old files.new) style.now map.now) }
+    ensures ok { IfOk result
+        (λ p. IsFirstState (F.told files.old) style.now map.now p.0.state × (p.1 ≡ no_tiles)) }
+    ensures stop { IfErr result (IsMapAnswerStop
+        (seen F.told F.faults F.failed_name files.old files.new) style.now map.now) }
     ensures same { F.told files.new ≡ F.told files.old }
     ensures kept { Keeps (seen F.told F.faults F.failed_name files.old files.new) result }
     ensures later { F.faults files.old ≤ F.faults files.new }

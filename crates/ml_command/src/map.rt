@@ -31,7 +31,8 @@ pub fn on_map<F: Files>(
     task: MapTask,
 ) -> Result<Seq<u8>, Stop>
     ensures ok { IfOk result (IsMapAnswer (F.told files.old) style.now map.now task) }
-    ensures stop { IfErr result (IsMapAnswerStop (seen F.told F.faults F.failed_name files.old files.new) style.now map.now) }
+    ensures stop { IfErr result (IsMapAnswerStop
+        (seen F.told F.faults F.failed_name files.old files.new) style.now map.now) }
     ensures same { F.told files.new ≡ F.told files.old }
     ensures kept { Keeps (seen F.told F.faults F.failed_name files.old files.new) result }
     ensures later { F.faults files.old ≤ F.faults files.new }

@@ -21,7 +21,8 @@ use std::alloc::{AllocError, Global};
 /// `Memory`.
 pub fn load_style<F: Files>(alloc: Global, files: &mut F, name: &str) -> Result<Style, Stop>
     ensures ok { IfOk result (HasStyle (F.told files.old) name.now) }
-    ensures stop { IfErr result (IsStyleStop (seen F.told F.faults F.failed_name files.old files.new) name.now) }
+    ensures stop { IfErr result
+        (IsStyleStop (seen F.told F.faults F.failed_name files.old files.new) name.now) }
     ensures same { F.told files.new ≡ F.told files.old }
     ensures kept { Keeps (seen F.told F.faults F.failed_name files.old files.new) result }
     ensures later { F.faults files.old ≤ F.faults files.new }
@@ -41,7 +42,8 @@ pub fn load_style<F: Files>(alloc: Global, files: &mut F, name: &str) -> Result<
 pub fn load_map<F: Files>(alloc: Global, files: &mut F, name: &str) -> Result<Seq<Feature>, Stop>
     ensures ok { IfOk result (HasMap (F.told files.old) name.now) }
     ensures different_ids { IfOk result HaveDifferentIds }
-    ensures stop { IfErr result (IsMapStop (seen F.told F.faults F.failed_name files.old files.new) name.now) }
+    ensures stop { IfErr result
+        (IsMapStop (seen F.told F.faults F.failed_name files.old files.new) name.now) }
     ensures same { F.told files.new ≡ F.told files.old }
     ensures kept { Keeps (seen F.told F.faults F.failed_name files.old files.new) result }
     ensures later { F.faults files.old ≤ F.faults files.new }
@@ -120,7 +122,8 @@ fn full_refusal(alloc: Global) -> Stop
 
 // The line that refuses a style, if there was memory for it.
 fn refused_style(line: Result<String, AllocError>) -> Stop
-    ensures { MatchResult line (λ line. result ≡ stop.StyleRefused (string_bytes line)) (λ _. result ≡ stop.Memory) }
+    ensures { MatchResult line (λ line. result ≡ stop.StyleRefused (string_bytes line))
+        (λ _. result ≡ stop.Memory) }
 {
     match line {
         Ok(line) => Stop::StyleRefused(Seq::of_vec(line.into_bytes())),

@@ -26,7 +26,8 @@ pub fn on_table<F: Files>(
     task: TableTask,
 ) -> Result<Seq<u8>, Stop>
     ensures ok { IfOk result (IsTableAnswer (F.told files.old) table.now task) }
-    ensures stop { IfErr result (IsTableStop (seen F.told F.faults F.failed_name files.old files.new) table.now) }
+    ensures stop { IfErr result
+        (IsTableStop (seen F.told F.faults F.failed_name files.old files.new) table.now) }
     ensures same { F.told files.new ≡ F.told files.old }
     ensures kept { Keeps (seen F.told F.faults F.failed_name files.old files.new) result }
     ensures later { F.faults files.old ≤ F.faults files.new }

@@ -40,7 +40,8 @@ fn view_of(
 ) -> Result<JsonView, AllocError>
     requires one_each { length slots.now ≡ length labels.now }
     requires placed { All (λ place. place < length labels.now) places.now }
-    ensures { IfOk result (λ view. view ≡ with_labels (no_label scale) (filter_map (shown_at labels.now slots.now) places.now)) }
+    ensures { IfOk result (λ view. view
+        ≡ with_labels (no_label scale) (filter_map (shown_at labels.now slots.now) places.now)) }
 {
     let mut view = JsonView::new(alloc, scale)?;
     for place in places {

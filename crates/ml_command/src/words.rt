@@ -12,7 +12,9 @@ use ml_view::read_view;
 
 /// The view that five words write, if these do.
 pub fn view_words(words: &[String]) -> Option<View>
-    ensures { MatchOption result ((view : View) → ¬ (AreViewWords (map string_bytes words.now) view)) (AreViewWords (map string_bytes words.now)) }
+    ensures { MatchOption result
+        ((view : View) → ¬ (AreViewWords (map string_bytes words.now) view))
+        (AreViewWords (map string_bytes words.now)) }
 {
     match words {
         [cx, cy, w, h, scale] => view_of(
@@ -28,7 +30,9 @@ pub fn view_words(words: &[String]) -> Option<View>
 
 // The view that five words write.
 fn view_of(cx: &str, cy: &str, w: &str, h: &str, scale: &str) -> Option<View>
-    ensures { MatchOption result ((view : View) → ¬ (WritesView cx.now cy.now w.now h.now scale.now view)) (WritesView cx.now cy.now w.now h.now scale.now) }
+    ensures { MatchOption result
+        ((view : View) → ¬ (WritesView cx.now cy.now w.now h.now scale.now view))
+        (WritesView cx.now cy.now w.now h.now scale.now) }
 {
     match read_view(cx, cy, w, h, scale) {
         Ok(view) => Some(view),
@@ -38,7 +42,9 @@ fn view_of(cx: &str, cy: &str, w: &str, h: &str, scale: &str) -> Option<View>
 
 /// The window that four words write, if these do. Its bounds are those of a view's window, whatever the scale.
 pub fn window_words(words: &[String]) -> Option<Window>
-    ensures { MatchOption result ((window : Window) → ¬ (AreWindowWords (map string_bytes words.now) window)) (AreWindowWords (map string_bytes words.now)) }
+    ensures { MatchOption result
+        ((window : Window) → ¬ (AreWindowWords (map string_bytes words.now) window))
+        (AreWindowWords (map string_bytes words.now)) }
 {
     match words {
         [cx, cy, w, h] => match view_of(cx.as_str(), cy.as_str(), w.as_str(), h.as_str(), "1") {
@@ -51,7 +57,8 @@ pub fn window_words(words: &[String]) -> Option<Window>
 
 /// The number that a word writes, if it lies in `least..=most`.
 pub fn read_number(word: &str, least: u32, most: u32) -> Option<u32>
-    ensures { MatchOption result ((number : ℕ) → ¬ (IsNumberFrom least most word.now number)) (IsNumberFrom least most word.now) }
+    ensures { MatchOption result ((number : ℕ) → ¬ (IsNumberFrom least most word.now number))
+        (IsNumberFrom least most word.now) }
 {
     match read_whole(word) {
         Some(number) => {

@@ -59,7 +59,8 @@ fn stays_of(
     slot: &Slot,
     window: &Window,
 ) -> Result<Seq<Stay>, AllocError>
-    ensures stays { IfOk result (AreMaximal (IsShownAt label.now (span_of label.now slot.now) window.now)) }
+    ensures stays { IfOk result
+        (AreMaximal (IsShownAt label.now (span_of label.now slot.now) window.now)) }
     ensures apart { IfOk result AreApart }
 {
     let span = Span {

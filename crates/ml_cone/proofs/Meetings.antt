@@ -317,7 +317,8 @@ twice : (c : ℤ) (n : ℕ) → (pos 2 *ℤ (c *ℤ pos n)) ≡ (c *ℤ pos (2 *
 twice c n = omega (arith, ints)
 
 -- a stretch of columns from c to d, of `side` each, that holds the places from `low` to `high`, twice which reach into the window from `from` to `until`
-seen_column : (c d low high from until : ℤ) (side : ℕ) → 0 < side → c ≤ℤ d → from <ℤ until → (c *ℤ pos side) ≤ℤ low → high <ℤ ((d +ℤ pos 1) *ℤ pos side) → (pos 2 *ℤ low) <ℤ until → from <ℤ (pos 2 *ℤ high) →
+seen_column : (c d low high from until : ℤ) (side : ℕ) → 0 < side → c ≤ℤ d → from <ℤ until → (c *ℤ pos side) ≤ℤ low →
+    high <ℤ ((d +ℤ pos 1) *ℤ pos side) → (pos 2 *ℤ low) <ℤ until → from <ℤ (pos 2 *ℤ high) →
     (x : ℤ) × (c ≤ℤ x) × (x ≤ℤ d) × ((pos 2 *ℤ (x *ℤ pos side)) <ℤ until) × (from <ℤ (pos 2 *ℤ ((x +ℤ pos 1) *ℤ pos side)))
 seen_column c d low high from until side positive some wide begins ends below above =
     by_lt_z from (pos 2 *ℤ ((c +ℤ pos 1) *ℤ pos side))
@@ -348,7 +349,8 @@ unfolding IsInView BoxInView hull_of
 cell_of_view a v k band any =
     let p = any.1 in
     let seen = any.4 in
-    let inside : BoxInCells a (hull_of a k) (value_of v.scale) p = at_place (BoxInCells a (hull_of a k) (value_of v.scale)) a.boxes any.0 p (hull_holds_plain a k (value_of v.scale) band.below) any.2 any.3 in
+    let inside : BoxInCells a (hull_of a k) (value_of v.scale) p =
+    at_place (BoxInCells a (hull_of a k) (value_of v.scale)) a.boxes any.0 p (hull_holds_plain a k (value_of v.scale) band.below) any.2 any.3 in
     let w = few_columns a.x (reach_of a).l (reach_of a).r k (reach_extent a).wide in
     let t = few_columns a.y (reach_of a).b (reach_of a).t k (reach_extent a).high in
     let x = seen_side a.x p.l p.r v.cx v.w k _ _ (value_of v.scale) (let h = v.some_w in omega arith) v.above w.0 inside.0 seen.0 in

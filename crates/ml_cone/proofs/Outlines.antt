@@ -71,7 +71,8 @@ anchor_column x l r k h =
     )
 
 -- a stretch of so many pixels takes one to four columns of cells whose sides are a third of it at least
-pub few_about : (x u v : ℤ) (k j : ℕ) → u ≤ℤ v → ((v -ℤ u) *ℤ pos (2 ^ (k + 1))) ≤ℤ pos (3 * cell_side j) → (column_of x u k j ≤ℤ column_of x v k j) × (column_of x v k j ≤ℤ (column_of x u k j +ℤ pos 3))
+pub few_about : (x u v : ℤ) (k j : ℕ) → u ≤ℤ v → ((v -ℤ u) *ℤ pos (2 ^ (k + 1))) ≤ℤ pos (3 * cell_side j) →
+    (column_of x u k j ≤ℤ column_of x v k j) × (column_of x v k j ≤ℤ (column_of x u k j +ℤ pos 3))
 few_about x u v k j le few =
     let p : ℕ = 2 ^ (k + 1) in
     let side : ℕ = cell_side j in
@@ -92,7 +93,8 @@ few_about x u v k j le few =
     )
 
 -- the column of a label's anchor is among those of the area, where sides of both labels meet
-column_about : (x y l r m t : ℤ) (from to : ℤ) (first last : ℤ) (k j : ℕ) (s : Fraction) → s.num < 2 ^ (k + 1) * s.den → IsStretch from to → IsStretch first last → from ≤ℤ l → r ≤ℤ to → first ≤ℤ m → t ≤ℤ last → SidesMeet x l r y m t s →
+column_about : (x y l r m t : ℤ) (from to : ℤ) (first last : ℤ) (k j : ℕ) (s : Fraction) → s.num < 2 ^ (k + 1) * s.den →
+    IsStretch from to → IsStretch first last → from ≤ℤ l → r ≤ℤ to → first ≤ℤ m → t ≤ℤ last → SidesMeet x l r y m t s →
     (column_of x (from -ℤ last) k j ≤ℤ int_div_euclid y (pos (cell_side j))) × (int_div_euclid y (pos (cell_side j)) ≤ℤ column_of x (to -ℤ first) k j)
 unfolding IsBelow
 column_about x y l r m t from to first last k j s below own other h0 h1 h2 h3 meet =
@@ -164,7 +166,8 @@ meets_finer : (o : Outline) (a b : Label) (k j : ℕ) → o.low ≤ j → (j ≤
 meets_finer o a b k j from upto within over = elim upto [ inl low ↦ meets_lower o a b k j from low within over | inr early ↦ meets_early o b j from early within ]
 
 -- the label is kept in a cell of the area about one that overlaps it in a band up to m, from j on or where no range ends before j
-pub kept_about : (o : Outline) (a b : Label) (k m j : ℕ) → o.low ≤ j → j < 28 → (j ≤ k) ⊎ (j ≤ o.first_end) → k ≤ m → IsWithin o b → OverlapIn a b k → IsKeptAmong (about a (area_of (reach_of a) o.reach) m j) b
+pub kept_about : (o : Outline) (a b : Label) (k m j : ℕ) → o.low ≤ j → j < 28 → (j ≤ k) ⊎ (j ≤ o.first_end) →
+    k ≤ m → IsWithin o b → OverlapIn a b k → IsKeptAmong (about a (area_of (reach_of a) o.reach) m j) b
 unfolding Overlap BoxesOverlap hull_of
 kept_about o a b k m j from few upto under within over =
     let any = over.over in

@@ -38,7 +38,8 @@ pub record BoundBand (a b : Label) (f : Fraction) : Type 0 where
   pub first : MeetsBand band (value_of a.min) (value_of a.max)
   pub over : OverlapIn a b band
 
--- the label is within the outline: this reaches as far as the label to each side, the label's minimum is below the upper end of the band in which all have begun, and its range ends in no band before the first one in which any does
+-- the label is within the outline: this reaches as far as the label to each side, the label's minimum is below the upper end of
+-- the band in which all have begun, and its range ends in no band before the first one in which any does
 pub record IsWithin (o : Outline) (a : Label) : Type 0 where
   pub reach : Holds o.reach (reach_of a)
   pub begins : a.min.num < 2 ^ (o.low + 1) * a.min.den

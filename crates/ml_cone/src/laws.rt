@@ -17,7 +17,8 @@ ghost use Rattle.ml_cone.specs.declared.view.View.{View};
 /// A label that is active at two scales is active at every scale between.
 pub fn l3()
     ensures { (label : Label) (until low middle high : Fraction) →
-        ActiveUntil label until low → ActiveUntil label until high → IsAtMost low middle → IsAtMost middle high →
+        ActiveUntil label until low → ActiveUntil label until high →
+        IsAtMost low middle → IsAtMost middle high →
         ActiveUntil label until middle }
 {}
 
@@ -30,13 +31,15 @@ pub fn reach_is_least()
 /// The hull's cells in a band hold all that the label covers, with its boxes widened by its margin, at
 /// every scale of the band.
 pub fn hull_holds()
-    ensures { (label : Label) (k : ℕ) (s : Fraction) → IsInBand s k → HoldLabel (hull_of label k) label s }
+    ensures { (label : Label) (k : ℕ) (s : Fraction) →
+        IsInBand s k → HoldLabel (hull_of label k) label s }
 {}
 
 /// A hull has one to four columns of cells, and one to four rows.
 pub fn hulls_are_few()
     ensures { (label : Label) (k : ℕ) →
-        AreFew (hull_of label k).x0 (hull_of label k).x1 × AreFew (hull_of label k).y0 (hull_of label k).y1 }
+        AreFew (hull_of label k).x0 (hull_of label k).x1
+        × AreFew (hull_of label k).y0 (hull_of label k).y1 }
 {}
 
 /// Two labels that overlap at a scale in both selectable ranges share a cell in a band that meets both
@@ -74,5 +77,6 @@ pub fn seen_in_cell()
 /// each greater one.
 pub fn extents()
     ensures hold { (a b : Label) (s : Fraction) → Overlap a b s → ExtentsOverlap a b s }
-    ensures grow { (a b : Label) (s t : Fraction) → IsAtMost s t → ExtentsOverlap a b s → ExtentsOverlap a b t }
+    ensures grow { (a b : Label) (s t : Fraction) → IsAtMost s t →
+        ExtentsOverlap a b s → ExtentsOverlap a b t }
 {}

@@ -152,7 +152,8 @@ impl Outline {
     pub fn around(&self, label: &Label, band: u8) -> Cells
         requires { band ≤ 27 }
         ensures few { AreFew result.x0 result.x1 }
-        ensures whole { (a : Label) → IsWithin self.now a → OverlapIn label.now a band → IsKeptAmong result a }
+        ensures whole { (a : Label) → IsWithin self.now a →
+            OverlapIn label.now a band → IsKeptAmong result a }
     {
         let area = meeting_area(&extent(label), &self.reach);
         match self.finer(width_of(&area), band) {

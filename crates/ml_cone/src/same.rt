@@ -37,8 +37,10 @@ fn same_pieces(one: &[Text], other: &[Text]) -> bool
 
 // Whether the labels stand at one place of the world with the same margin.
 fn same_anchors(one: &Label, other: &Label) -> bool
-    ensures { MatchBool result ((one.now.x ≡ other.now.x) × (one.now.y ≡ other.now.y) × (one.now.margin ≡ other.now.margin))
-        (¬ ((one.now.x ≡ other.now.x) × (one.now.y ≡ other.now.y) × (one.now.margin ≡ other.now.margin))) }
+    ensures { MatchBool result ((one.now.x ≡ other.now.x)
+        × (one.now.y ≡ other.now.y) × (one.now.margin ≡ other.now.margin))
+        (¬ ((one.now.x ≡ other.now.x) × (one.now.y ≡ other.now.y)
+        × (one.now.margin ≡ other.now.margin))) }
 {
     one.x == other.x && one.y == other.y && one.margin == other.margin
 }
@@ -52,7 +54,8 @@ fn same_ratios(one: Ratio, other: Ratio) -> bool
 
 // Whether the orders are the same.
 fn same_orders(one: &Label, other: &Label) -> bool
-    ensures { MatchBool result (one.now.order ≡ other.now.order) (¬ (one.now.order ≡ other.now.order)) }
+    ensures { MatchBool result (one.now.order ≡ other.now.order)
+        (¬ (one.now.order ≡ other.now.order)) }
 {
     one.order == other.order
 }

@@ -1,5 +1,6 @@
 -- The labels of a map after an edit: those of the features after it.
-use Rattle.std.proofs.Common.{◌≡◌, ◌≢◌, ℕ, zero, suc, ◌<◌, ◌≤◌, Bool, true, false, cond, not, List, [], ◌∷◌, ◌++◌, length, get_or, filter, map, Contains, Some, None, Result, Ok, Err, ◌⊎◌, inl, inr, refl, sym, ap, subst, ◌∙◌, arith}
+use Rattle.std.proofs.Common.{◌≡◌, ◌≢◌, ℕ, zero, suc, ◌<◌, ◌≤◌, Bool, true, false, cond, not, List, [], ◌∷◌, ◌++◌, length, get_or}
+use Rattle.std.proofs.Common.{filter, map, Contains, Some, None, Result, Ok, Err, ◌⊎◌, inl, inr, refl, sym, ap, subst, ◌∙◌, arith}
 use Rattle.std.specs.Prelude.{◌↔◌}
 use Rattle.std.specs.List.{AllZip, AllPairs}
 use Rattle.std.specs.Str.{bytes_eq}
@@ -118,7 +119,8 @@ module _ (style : Style) where
   )
 
   -- labels in priority order that are those among the answers of features are the labels of the features
-  pub labels_of_answers : (fs : List Feature) (os : List Answer) (after : List Label) → Answered fs os → HaveDifferentIds fs → IsLabelList after → ((l : Label) → Contains (labels_in os) l → Contains after l) → ((l : Label) → Contains after l → Contains (labels_in os) l) → AreLabelsOf style fs after
+  pub labels_of_answers : (fs : List Feature) (os : List Answer) (after : List Label) → Answered fs os → HaveDifferentIds fs → IsLabelList after →
+      ((l : Label) → Contains (labels_in os) l → Contains after l) → ((l : Label) → Contains after l → Contains (labels_in os) l) → AreLabelsOf style fs after
   labels_of_answers fs os after all differ ordered forth back = record {
     unsorted = labels_in os;
     made = record { answers = os; answered = record { one_each = as_long fs os all; each = to_each fs os all }; labels_are = refl };
@@ -133,7 +135,8 @@ module _ (style : Style) where
   ok_in (o ∷ os) zero a l lt is = answer_here o os l is
   ok_in (o ∷ os) (suc k) a l lt is = answer_later o os l (ok_in os k a l (omega (arith, lt)) is)
 
-  no_answer : (f : Feature) (os : List Answer) (k : ℕ) (d a : Answer) → k < length os → get_or os k d ≡ a → IsLabelling style f a → ((l : Label) → Contains (labels_in os) l → l.order.id ≢ f.id) → IsUnlabelled style f
+  no_answer : (f : Feature) (os : List Answer) (k : ℕ) (d a : Answer) → k < length os → get_or os k d ≡ a →
+      IsLabelling style f a → ((l : Label) → Contains (labels_in os) l → l.order.id ≢ f.id) → IsUnlabelled style f
   no_answer f os k d (Ok l) lt is made none = absurd (none l (ok_in os k d l lt is) made.ordered.id_is)
   no_answer f os k d (Err reason) lt is made none = (reason, made)
 
@@ -180,7 +183,8 @@ module _ (style : Style) where
   abbrev IsOther : List ℕ → List Answer → Label → Type 0
   IsOther id os l = Contains (labels_in os) l × (l.order.id ≢ id)
 
-  out_one_forth : (id : List ℕ) (f : Feature) (a : Answer) (os rest : List Answer) (b : Bool) (l : Label) → bytes_eq f.id id ≡ b → IsLabelling style f a → (Contains (labels_in rest) l → IsOther id os l) → Contains (labels_in (cond (not b) (a ∷ rest) rest)) l → IsOther id (a ∷ os) l
+  out_one_forth : (id : List ℕ) (f : Feature) (a : Answer) (os rest : List Answer) (b : Bool) (l : Label) → bytes_eq f.id id ≡ b → IsLabelling style f a →
+      (Contains (labels_in rest) l → IsOther id os l) → Contains (labels_in (cond (not b) (a ∷ rest) rest)) l → IsOther id (a ∷ os) l
   out_one_forth id f a os rest true l test one others there = let o = others there in (answer_later a os l o.0, o.1)
   out_one_forth id f a os rest false l test one others there = elim (answer_cases a rest l there) [
     | inl is ↦ (answer_here a os l is, (λ same. true≢false (sym ((bytes_eq-Decides f.id id).1 (sym (own_id f a l one is) ∙ same)) ∙ test)))
@@ -193,7 +197,8 @@ module _ (style : Style) where
   out_forth id (f ∷ fs) [] all l there = absurd all
   out_forth id (f ∷ fs) (a ∷ os) all l there = out_one_forth id f a os (out id fs os) (bytes_eq f.id id) l refl all.0 (out_forth id fs os all.1 l) there
 
-  out_one_back : (id : List ℕ) (f : Feature) (a : Answer) (os rest : List Answer) (b : Bool) (l : Label) → bytes_eq f.id id ≡ b → IsLabelling style f a → (IsOther id os l → Contains (labels_in rest) l) → IsOther id (a ∷ os) l → Contains (labels_in (cond (not b) (a ∷ rest) rest)) l
+  out_one_back : (id : List ℕ) (f : Feature) (a : Answer) (os rest : List Answer) (b : Bool) (l : Label) → bytes_eq f.id id ≡ b → IsLabelling style f a →
+      (IsOther id os l → Contains (labels_in rest) l) → IsOther id (a ∷ os) l → Contains (labels_in (cond (not b) (a ∷ rest) rest)) l
   out_one_back id f a os rest true l test one others o = elim (answer_cases a os l o.0) [
     | inl is ↦ absurd (o.1 (own_id f a l one is ∙ (bytes_eq-Decides f.id id).0 test))
     | inr more ↦ others (more, o.1)
@@ -236,7 +241,8 @@ module _ (style : Style) where
     more a os l (inl o) = inl (answer_later a os l o.0, o.1)
     more a os l (inr is) = inr is
 
-    put_one_forth : (f : Feature) (a : Answer) (os rest : List Answer) (b : Bool) (l : Label) → bytes_eq f.id g.id ≡ b → IsLabelling style f a → (Contains (labels_in rest) l → IsOtherOrNew os l) → Contains (labels_in (cond b c a ∷ rest)) l → IsOtherOrNew (a ∷ os) l
+    put_one_forth : (f : Feature) (a : Answer) (os rest : List Answer) (b : Bool) (l : Label) → bytes_eq f.id g.id ≡ b → IsLabelling style f a →
+        (Contains (labels_in rest) l → IsOtherOrNew os l) → Contains (labels_in (cond b c a ∷ rest)) l → IsOtherOrNew (a ∷ os) l
     put_one_forth f a os rest true l test one others there = elim (answer_cases c rest l there) [
       | inl is ↦ inr is
       | inr later' ↦ more a os l (others later')
@@ -252,7 +258,8 @@ module _ (style : Style) where
     put_forth (f ∷ fs) [] all l there = absurd all
     put_forth (f ∷ fs) (a ∷ os) all l there = put_one_forth f a os (put fs os) (bytes_eq f.id g.id) l refl all.0 (put_forth fs os all.1 l) there
 
-    put_one_back : (f : Feature) (a : Answer) (os rest : List Answer) (b : Bool) (l : Label) → bytes_eq f.id g.id ≡ b → IsLabelling style f a → (IsOther g.id os l → Contains (labels_in rest) l) → IsOther g.id (a ∷ os) l → Contains (labels_in (cond b c a ∷ rest)) l
+    put_one_back : (f : Feature) (a : Answer) (os rest : List Answer) (b : Bool) (l : Label) → bytes_eq f.id g.id ≡ b → IsLabelling style f a →
+        (IsOther g.id os l → Contains (labels_in rest) l) → IsOther g.id (a ∷ os) l → Contains (labels_in (cond b c a ∷ rest)) l
     put_one_back f a os rest true l test one others o = elim (answer_cases a os l o.0) [
       | inl is ↦ absurd (o.1 (own_id f a l one is ∙ (bytes_eq-Decides f.id g.id).0 test))
       | inr later' ↦ answer_later c rest l (others (later', o.1))
@@ -273,7 +280,8 @@ module _ (style : Style) where
     put_one_new f a rest true l test is = answer_here c rest l is
     put_one_new f a rest false l test is = absurd (false≢true test)
 
-    put_at : (fs : List Feature) (os : List Answer) → Answered fs os → (f : Feature) (k : ℕ) → k < length fs → get_or fs k f ≡ f → f.id ≡ g.id → (l : Label) → c ≡ Ok l → Contains (labels_in (put fs os)) l
+    put_at : (fs : List Feature) (os : List Answer) → Answered fs os → (f : Feature) (k : ℕ) → k < length fs →
+        get_or fs k f ≡ f → f.id ≡ g.id → (l : Label) → c ≡ Ok l → Contains (labels_in (put fs os)) l
     put_at [] os all f k lt at same l is = absurd (omega (arith, lt))
     put_at (h ∷ fs) [] all f k lt at same l is = absurd all
     put_at (h ∷ fs) (a ∷ os) all f zero lt at same l is = put_one_new h a (put fs os) (bytes_eq h.id g.id) l ((bytes_eq-Decides h.id g.id).1 (ap (λ (x : Feature). x.id) at ∙ same)) is
@@ -386,7 +394,8 @@ module _ (style : Style) where
           ])
 
 -- labels in priority order that have the labels of a map are its labels
-pub labels_again : (style : Style) (fs : List Feature) (labels others : List Label) → AreLabelsOf style fs labels → IsLabelList others → ((l : Label) → Contains others l ↔ Contains labels l) → AreLabelsOf style fs others
+pub labels_again : (style : Style) (fs : List Feature) (labels others : List Label) → AreLabelsOf style fs labels →
+    IsLabelList others → ((l : Label) → Contains others l ↔ Contains labels l) → AreLabelsOf style fs others
 labels_again style fs labels others of ordered same = record {
   unsorted = of.unsorted;
   made = of.made;

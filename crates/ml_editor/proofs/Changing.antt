@@ -46,14 +46,17 @@ stands rows r id there same = record {
 }
 
 -- the same where its label, its minimum and its slot are given one by one
-pub stands_so : (rows : List Row) (r : Row) (id : List ℕ) (label : Label) (min : Ratio) (slot : Slot) → Contains rows r → r.label.order.id ≡ id → label ≡ r.label → min ≡ label.min → slot ≡ r.slot → IsStanding (labels_in rows) (slots_in rows) id (record { label = label; span = record { min = min; until = slot.until } })
+pub stands_so : (rows : List Row) (r : Row) (id : List ℕ) (label : Label) (min : Ratio) (slot : Slot) →
+    Contains rows r → r.label.order.id ≡ id → label ≡ r.label → min ≡ label.min → slot ≡ r.slot →
+    IsStanding (labels_in rows) (slots_in rows) id (record { label = label; span = record { min = min; until = slot.until } })
 stands_so rows r id label min slot there same labels mins slots =
     let low : r.label.min ≡ min = ap (λ (l : Label). l.min) (sym labels) ∙ sym mins in
     subst (IsStanding (labels_in rows) (slots_in rows) id) (λ i. record { label = sym labels i; span = record { min = low i; until = (sym slots i).until } }) (stands rows r id there same)
 
 -- ---- the change of an id
 
-module _ (old new : List Row) (settled : IsSettled old) (settled_too : IsSettled new) (id : List ℕ) (was is : Option Ranged) (before : IsStateOf (labels_in old) (slots_in old) id was) (after : IsStateOf (labels_in new) (slots_in new) id is) where
+module _ (old new : List Row) (settled : IsSettled old) (settled_too : IsSettled new) (id : List ℕ) (was is : Option Ranged)
+    (before : IsStateOf (labels_in old) (slots_in old) id was) (after : IsStateOf (labels_in new) (slots_in new) id is) where
   was_only : (c : Change) → (h : IsChangeIn old new c) → c.id ≡ id → h.was ≡ was
   was_only c h same =
       let P : List ℕ → Type 0 = λ i. IsStateOf (labels_in old) (slots_in old) i h.was in
@@ -68,7 +71,8 @@ module _ (old new : List Row) (settled : IsSettled old) (settled_too : IsSettled
   pub no_change : was ≡ is → IsChangeOf old new id None
   no_change same c = ((λ e. absurd cc), (λ h. absurd (h.0.differ (was_only c h.0 h.1 ∙ same ∙ sym (is_only c h.0 h.1)))))
 
-  module _ (differ : was ≢ is) (c : Change) (own : c.id ≡ id) (span_before : c.before ≡ option_map (λ (one : Ranged). one.span) was) (span_after : c.after ≡ option_map (λ (one : Ranged). one.span) is) where
+  module _ (differ : was ≢ is) (c : Change) (own : c.id ≡ id) (span_before : c.before ≡ option_map (λ (one : Ranged). one.span) was)
+      (span_after : c.after ≡ option_map (λ (one : Ranged). one.span) is) where
     changes : IsChangeIn old new c
     changes =
         let P : List ℕ → Type 0 = λ i. IsStateOf (labels_in old) (slots_in old) i was in
@@ -99,7 +103,8 @@ module _ (old new : List Row) where
     own = (λ i j d below within. absurd (omega (arith, within)));
   }
 
-  one_more_is : (fs : List Feature) (f : Feature) (change : Option Change) (before after : List Change) → AreChangesAt old new fs before → IsChangeOf old new f.id change → IsJoinedBy change before after → (c : Change) → Contains after c ↔ (IsChangeIn old new c × HasFeature (fs ++ f ∷ []) c.id)
+  one_more_is : (fs : List Feature) (f : Feature) (change : Option Change) (before after : List Change) → AreChangesAt old new fs before →
+      IsChangeOf old new f.id change → IsJoinedBy change before after → (c : Change) → Contains after c ↔ (IsChangeIn old new c × HasFeature (fs ++ f ∷ []) c.id)
   one_more_is fs f None before after at of joined c = rw joined (
     (λ h. let x = (at.are c).0 h in (x.0, one_behind fs f c.id x.1)),
     (λ h. elim (added_cases fs f c.id h.1) [
@@ -118,7 +123,8 @@ module _ (old new : List Row) where
     ]),
   )
 
-  one_more_own : (fs : List Feature) (f : Feature) (change : Option Change) (before after : List Change) → ¬ (HasFeature fs f.id) → AreChangesAt old new fs before → IsChangeOf old new f.id change → IsJoinedBy change before after → HaveOwnIds after
+  one_more_own : (fs : List Feature) (f : Feature) (change : Option Change) (before after : List Change) → ¬ (HasFeature fs f.id) →
+      AreChangesAt old new fs before → IsChangeOf old new f.id change → IsJoinedBy change before after → HaveOwnIds after
   one_more_own fs f None before after unknown at of joined = rw joined at.own
   one_more_own fs f (Some x) before after unknown at of joined = rw joined (all_pairs_push (λ (a : Change) (b : Change). a.id ≢ b.id) before x at.own (λ k d lt same.
       let own : x.id ≡ f.id = ((of x).0 refl).1 in
@@ -126,20 +132,24 @@ module _ (old new : List Row) where
       unknown (subst P (same ∙ own) ((at.are (get_or before k d)).0 (Contains-get_or before k d lt)).1)))
 
   -- the change of a further feature's id, if there is one, comes to those of the features before it
-  pub one_more_change : (fs : List Feature) (f : Feature) (before after : List Change) → ¬ (HasFeature fs f.id) → AreChangesAt old new fs before → IsTakenIn old new f.id before after → AreChangesAt old new (fs ++ f ∷ []) after
+  pub one_more_change : (fs : List Feature) (f : Feature) (before after : List Change) → ¬ (HasFeature fs f.id) →
+      AreChangesAt old new fs before → IsTakenIn old new f.id before after → AreChangesAt old new (fs ++ f ∷ []) after
   one_more_change fs f before after unknown at (change, of, joined) = record {
     are = one_more_is fs f change before after at of joined;
     own = one_more_own fs f change before after unknown at of joined;
   }
 
   -- an id that changes is that of a label
-  changed_id : (id : List ℕ) (was is : Option Ranged) → IsStateOf (labels_in old) (slots_in old) id was → IsStateOf (labels_in new) (slots_in new) id is → was ≢ is → HasId (labels_in old) id ⊎ HasId (labels_in new) id
+  changed_id : (id : List ℕ) (was is : Option Ranged) → IsStateOf (labels_in old) (slots_in old) id was →
+      IsStateOf (labels_in new) (slots_in new) id is → was ≢ is → HasId (labels_in old) id ⊎ HasId (labels_in new) id
   changed_id id None None before after differ = absurd (differ refl)
   changed_id id (Some a) is before after differ = inl (a.label, (before.place, before.is_place, before.its_label a.label), before.its_id)
   changed_id id None (Some b) before after differ = inr (b.label, (after.place, after.is_place, after.its_label b.label), after.its_id)
 
   -- where each label is that of a feature, the changes of the features' ids, sorted, are all changes between the two lists of labels
-  pub all_changes : (fs : List Feature) (some sorted : List Change) → ((id : List ℕ) → HasId (labels_in old) id → HasFeature fs id) → ((id : List ℕ) → HasId (labels_in new) id → HasFeature fs id) → AreChangesAt old new fs some → ((c : Change) → Contains sorted c ↔ Contains some c) → IsStrictlySortedBy (slice_cmp nat_cmp) (map (λ (c : Change). c.id) sorted) → AreChanges (labels_in old) (slots_in old) (labels_in new) (slots_in new) sorted
+  pub all_changes : (fs : List Feature) (some sorted : List Change) → ((id : List ℕ) → HasId (labels_in old) id → HasFeature fs id) →
+      ((id : List ℕ) → HasId (labels_in new) id → HasFeature fs id) → AreChangesAt old new fs some → ((c : Change) → Contains sorted c ↔ Contains some c) →
+      IsStrictlySortedBy (slice_cmp nat_cmp) (map (λ (c : Change). c.id) sorted) → AreChanges (labels_in old) (slots_in old) (labels_in new) (slots_in new) sorted
   all_changes fs some sorted known known_too at same ascending = record {
     ascending = ascending;
     sound = (λ k d lt. ((at.are (get_or sorted k d)).0 ((same (get_or sorted k d)).0 (Contains-get_or sorted k d lt))).0);

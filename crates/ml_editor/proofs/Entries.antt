@@ -1,5 +1,6 @@
 -- Features by their ids as entries of a map in order: what the edits of entries are as edits of features.
-use Rattle.std.proofs.Common.{◌≡◌, ℕ, zero, suc, ◌<◌, Bool, true, false, cond, not, List, [], ◌∷◌, length, filter, map, Option, Some, None, MatchOption, Contains, IsSome, refl, sym, ap, subst, ◌∙◌, get_or, arith}
+use Rattle.std.proofs.Common.{◌≡◌, ℕ, zero, suc, ◌<◌, Bool, true, false, cond, not, List, [], ◌∷◌, length, filter, map}
+use Rattle.std.proofs.Common.{Option, Some, None, MatchOption, Contains, IsSome, refl, sym, ap, subst, ◌∙◌, get_or, arith}
 use Rattle.std.specs.List.{IsDistinct, AllByRecursion}
 use Rattle.std.specs.Map.{keys_of, values_of, lookup, remove_entry, set_value}
 use Rattle.std.specs.Str.{bytes_eq}
@@ -35,7 +36,8 @@ turned : (id key other : List ℕ) → key ≡ other → bytes_eq other id ≡ b
 turned id key other same = nat_list_eq_equiv.symm other id ∙ ap (bytes_eq id) (sym same)
 
 -- where no key is the id, no feature is left out
-none_out : (id : List ℕ) (es : List Entry) → keys_of es ≡ ids (values_of es) → AllByRecursion (λ key. bytes_eq id key ≡ false) (keys_of es) → values_of es ≡ filter (λ (f : Feature). not (bytes_eq f.id id)) (values_of es)
+none_out : (id : List ℕ) (es : List Entry) → keys_of es ≡ ids (values_of es) → AllByRecursion (λ key. bytes_eq id key ≡ false) (keys_of es) →
+    values_of es ≡ filter (λ (f : Feature). not (bytes_eq f.id id)) (values_of es)
 none_out id [] own others = refl
 none_out id (e ∷ es) own others =
     let other : bytes_eq e.1.id id ≡ false = turned id e.0 e.1.id (front_is own) ∙ others.0 in
@@ -49,27 +51,31 @@ none_new f (e ∷ es) own others =
     rw other (ap (λ fs. e.1 ∷ fs) (none_new f es (rest_is own) others.1))
 
 -- one entry left out, or kept
-one_out : (e : Entry) (es rest : List Entry) (fs : List Feature) (b c : Bool) → c ≡ b → (b ≡ true → values_of es ≡ fs) → values_of rest ≡ fs → values_of (cond b es (e ∷ rest)) ≡ cond (not c) (e.1 ∷ fs) fs
+one_out : (e : Entry) (es rest : List Entry) (fs : List Feature) (b c : Bool) → c ≡ b → (b ≡ true → values_of es ≡ fs) →
+    values_of rest ≡ fs → values_of (cond b es (e ∷ rest)) ≡ cond (not c) (e.1 ∷ fs) fs
 one_out e es rest fs true true h found others = found refl
 one_out e es rest fs true false h found others = absurd (false≢true h)
 one_out e es rest fs false true h found others = absurd (true≢false h)
 one_out e es rest fs false false h found others = ap (λ vs. e.1 ∷ vs) others
 
 -- one entry replaced, or kept
-one_new : (e : Entry) (f : Feature) (es rest : List Entry) (fs : List Feature) (b c : Bool) → c ≡ b → (b ≡ true → values_of es ≡ fs) → values_of rest ≡ fs → values_of (cond b ((e.0, f) ∷ es) (e ∷ rest)) ≡ cond c f e.1 ∷ fs
+one_new : (e : Entry) (f : Feature) (es rest : List Entry) (fs : List Feature) (b c : Bool) → c ≡ b →
+    (b ≡ true → values_of es ≡ fs) → values_of rest ≡ fs → values_of (cond b ((e.0, f) ∷ es) (e ∷ rest)) ≡ cond c f e.1 ∷ fs
 one_new e f es rest fs true true h found others = ap (λ vs. f ∷ vs) (found refl)
 one_new e f es rest fs true false h found others = absurd (false≢true h)
 one_new e f es rest fs false true h found others = absurd (true≢false h)
 one_new e f es rest fs false false h found others = ap (λ vs. e.1 ∷ vs) others
 
 -- keys that differ from the first one differ from an equal one
-pub others_too : (id key : List ℕ) (keys : List (List ℕ)) → bytes_eq id key ≡ true → AllByRecursion (λ other. bytes_eq key other ≡ false) keys → AllByRecursion (λ other. bytes_eq id other ≡ false) keys
+pub others_too : (id key : List ℕ) (keys : List (List ℕ)) → bytes_eq id key ≡ true →
+    AllByRecursion (λ other. bytes_eq key other ≡ false) keys → AllByRecursion (λ other. bytes_eq id other ≡ false) keys
 others_too id key keys same others =
     let P : List ℕ → Type 0 = λ k. AllByRecursion (λ other. bytes_eq k other ≡ false) keys in
     subst P (sym ((bytes_eq-Decides id key).0 same)) others
 
 -- the entry with an id goes: the feature with the id goes
-pub removed_is : (id : List ℕ) (es : List Entry) → keys_of es ≡ ids (values_of es) → IsDistinct bytes_eq (keys_of es) → values_of (remove_entry (bytes_eq id) es) ≡ filter (λ (f : Feature). not (bytes_eq f.id id)) (values_of es)
+pub removed_is : (id : List ℕ) (es : List Entry) → keys_of es ≡ ids (values_of es) → IsDistinct bytes_eq (keys_of es) →
+    values_of (remove_entry (bytes_eq id) es) ≡ filter (λ (f : Feature). not (bytes_eq f.id id)) (values_of es)
 unfolding IsDistinct
 removed_is id [] own differ = refl
 removed_is id (e ∷ es) own differ =

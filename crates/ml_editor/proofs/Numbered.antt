@@ -13,7 +13,8 @@ use Rattle.ml_geojson.specs.Map.{ids}
 use Rattle.ml_editor.specs.State.{HasFeature, in_place}
 use Rattle.ml_editor.specs.Features.{AreNumbered, standing, number_with}
 use Rattle.ml_editor.proofs.Entries.{Entry, found_none, found_some, removed_is, replaced_is}
-use Rattle.ml_editor.proofs.Numbers.{Place, Held, by_id, by_values, by_keys, by_own, by_length, standing_behind, values_behind, ids_behind, keys_behind, number_behind, number_lacks, none_by, found_by, lacks_any, taken_is, kept_is, gone_is, left_is, one_less, out_differ, none_goes}
+use Rattle.ml_editor.proofs.Numbers.{Place, Held, by_id, by_values, by_keys, by_own, by_length, standing_behind, values_behind, ids_behind, keys_behind}
+use Rattle.ml_editor.proofs.Numbers.{number_behind, number_lacks, none_by, found_by, lacks_any, taken_is, kept_is, gone_is, left_is, one_less, out_differ, none_goes}
 
 -- a name by an id
 abbrev pub Name : Type 0
@@ -63,7 +64,8 @@ module _ (places : List Place) (names : List Name) (next taken : ℕ) (are : Are
           differ = differ;
           low = subst (All (λ n. n < next + 1)) (sym (ap keys_of is ∙ keys_behind places next (Some f))) (All-push (λ n. n < next + 1) (keys_of places) next low (omega arith));
           found = λ q. names_is q ∙ ap (λ o. cond (bytes_eq f.id q) (Some next) o) (are.found q) ∙ sym (ap (number_with q) stands_behind ∙ number_behind f next q (standing places) none);
-          own_ids = subst (IsDistinct bytes_eq) (sym (ap ids list_behind ∙ ids_behind (values_of (standing places)) f)) (IsDistinct-push nat_list_eq_equiv (ids (values_of (standing places))) f.id are.own_ids (lacks_any f.id (standing places) none));
+          own_ids = subst (IsDistinct bytes_eq) (sym (ap ids list_behind ∙ ids_behind (values_of (standing places)) f))
+              (IsDistinct-push nat_list_eq_equiv (ids (values_of (standing places))) f.id are.own_ids (lacks_any f.id (standing places) none));
           counted = omega (arith, are.counted, ap length stands_behind, length-append (standing places) ((next, f) ∷ []));
         }
 
@@ -116,7 +118,15 @@ module _ (places : List Place) (names : List Name) (next taken : ℕ) (are : Are
         low = low;
         found = λ q. names_is q ∙ ap (λ o. cond (bytes_eq id q) None o) (are.found q) ∙ sym (ap (number_with q) is ∙ left_is id n q places are.differ are.own_ids has);
         own_ids = own_by (standing new) _ stands_without (out_differ id (by_id (standing places)) (differ_by (standing places) are.own_ids));
-        counted = omega (arith, count, are.counted, by_length (standing new), by_length (standing places), ap length stands_without, one_less id (by_id (standing places)) (found_by id n (standing places) has));
+        counted = omega (
+          arith,
+          count,
+          are.counted,
+          by_length (standing new),
+          by_length (standing places),
+          ap length stands_without,
+          one_less id (by_id (standing places)) (found_by id n (standing places) has),
+        );
       }
 
   -- where none has the id, none goes

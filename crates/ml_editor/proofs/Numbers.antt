@@ -63,7 +63,8 @@ same_id a b e = (bytes_eq-Decides a b).0 e
 
 -- ---- numbers of features
 
-other_more : (k : ℕ) (id : List ℕ) (n key : ℕ) (o : Option Feature) (es : List Held) → nat_eq k key ≡ false → number_with id (with_place key o es) ≡ Some n → (number_with id es ≡ Some n → nat_eq k n ≡ false) → nat_eq k n ≡ false
+other_more : (k : ℕ) (id : List ℕ) (n key : ℕ) (o : Option Feature) (es : List Held) → nat_eq k key ≡ false →
+    number_with id (with_place key o es) ≡ Some n → (number_with id es ≡ Some n → nat_eq k n ≡ false) → nat_eq k n ≡ false
 other_more k id n key None es apart is rest = rest is
 other_more k id n key (Some f) es apart is rest = go (bytes_eq id f.id) is
   where
@@ -82,8 +83,10 @@ at_place None = None
 at_place (Some o) = o
 
 module _ (id : List ℕ) (n : ℕ) where
-  place_more : (key : ℕ) (o : Option Feature) (es : List Place) → AllByRecursion (λ m. nat_eq key m ≡ false) (keys_of es) → number_with id (with_place key o (standing es)) ≡ Some n →
-      (number_with id (standing es) ≡ Some n → at_place (lookup (nat_eq n) es) ≡ lookup (bytes_eq id) (by_id (standing es))) → at_place (cond (nat_eq n key) (Some o) (lookup (nat_eq n) es)) ≡ lookup (bytes_eq id) (by_id (with_place key o (standing es)))
+  place_more : (key : ℕ) (o : Option Feature) (es : List Place) →
+      AllByRecursion (λ m. nat_eq key m ≡ false) (keys_of es) → number_with id (with_place key o (standing es)) ≡ Some n →
+      (number_with id (standing es) ≡ Some n → at_place (lookup (nat_eq n) es) ≡ lookup (bytes_eq id) (by_id (standing es))) →
+      at_place (cond (nat_eq n key) (Some o) (lookup (nat_eq n) es)) ≡ lookup (bytes_eq id) (by_id (with_place key o (standing es)))
   place_more key None es apart is rest = rw (turned_number key n (number_other key id n es apart is)) (rest is)
   place_more key (Some f) es apart is rest = go (bytes_eq id f.id) refl
     where
@@ -103,12 +106,15 @@ module _ (id : List ℕ) (n : ℕ) where
 
   -- ---- a feature that goes
 
-  gone_more : (key : ℕ) (o : Option Feature) (es rest : List Place) → AllByRecursion (λ m. nat_eq key m ≡ false) (keys_of es) → number_with id (with_place key o (standing es)) ≡ Some n →
-      (number_with id (standing es) ≡ Some n → by_id (standing rest) ≡ remove_entry (bytes_eq id) (by_id (standing es))) → by_id (standing (cond (nat_eq n key) ((key, None) ∷ es) ((key, o) ∷ rest))) ≡ remove_entry (bytes_eq id) (by_id (with_place key o (standing es)))
+  gone_more : (key : ℕ) (o : Option Feature) (es rest : List Place) →
+      AllByRecursion (λ m. nat_eq key m ≡ false) (keys_of es) → number_with id (with_place key o (standing es)) ≡ Some n →
+      (number_with id (standing es) ≡ Some n → by_id (standing rest) ≡ remove_entry (bytes_eq id) (by_id (standing es))) →
+      by_id (standing (cond (nat_eq n key) ((key, None) ∷ es) ((key, o) ∷ rest))) ≡ remove_entry (bytes_eq id) (by_id (with_place key o (standing es)))
   gone_more key None es rest apart is others = rw (turned_number key n (number_other key id n es apart is)) (others is)
   gone_more key (Some f) es rest apart is others = go (bytes_eq id f.id) refl
     where
-      go : (b : Bool) → bytes_eq id f.id ≡ b → by_id (standing (cond (nat_eq n key) ((key, None) ∷ es) ((key, Some f) ∷ rest))) ≡ remove_entry (bytes_eq id) (by_id (with_place key (Some f) (standing es)))
+      go : (b : Bool) → bytes_eq id f.id ≡ b →
+          by_id (standing (cond (nat_eq n key) ((key, None) ∷ es) ((key, Some f) ∷ rest))) ≡ remove_entry (bytes_eq id) (by_id (with_place key (Some f) (standing es)))
       go true e =
           let here : key ≡ n = some_number key n (subst (λ b. cond b (Some key) (number_with id (standing es)) ≡ Some n) e is) in
           rw (e, subst (λ m. nat_eq n m ≡ true) (sym here) (same_number n)) refl
@@ -117,7 +123,8 @@ module _ (id : List ℕ) (n : ℕ) where
           rw (e, turned_number key n (number_other key id n es apart there)) (ap (λ xs. (f.id, f) ∷ xs) (others there))
 
   -- the place of its number is left: the feature with the id goes
-  pub gone_is : (es : List Place) → IsDistinct nat_eq (keys_of es) → number_with id (standing es) ≡ Some n → by_id (standing (set_value (nat_eq n) es None)) ≡ remove_entry (bytes_eq id) (by_id (standing es))
+  pub gone_is : (es : List Place) → IsDistinct nat_eq (keys_of es) → number_with id (standing es) ≡ Some n →
+      by_id (standing (set_value (nat_eq n) es None)) ≡ remove_entry (bytes_eq id) (by_id (standing es))
   unfolding IsDistinct
   gone_is [] differ is = absurd (no_number n is)
   gone_is (e ∷ es) differ is = gone_more e.0 e.1 es (set_value (nat_eq n) es None) differ.0 is (gone_is es differ.1)
@@ -128,7 +135,8 @@ number_none id [] all = refl
 number_none id (e ∷ es) all = rw all.0 (number_none id es all.1)
 
 module _ (id : List ℕ) (n : ℕ) (q : List ℕ) where
-  left_more : (key : ℕ) (o : Option Feature) (es rest : List Place) → AllByRecursion (λ m. nat_eq key m ≡ false) (keys_of es) → IsDistinct bytes_eq (ids (values_of (with_place key o (standing es)))) → number_with id (with_place key o (standing es)) ≡ Some n →
+  left_more : (key : ℕ) (o : Option Feature) (es rest : List Place) → AllByRecursion (λ m. nat_eq key m ≡ false) (keys_of es) →
+      IsDistinct bytes_eq (ids (values_of (with_place key o (standing es)))) → number_with id (with_place key o (standing es)) ≡ Some n →
       (IsDistinct bytes_eq (ids (values_of (standing es))) → number_with id (standing es) ≡ Some n → number_with q (standing rest) ≡ cond (bytes_eq id q) None (number_with q (standing es))) →
       number_with q (standing (cond (nat_eq n key) ((key, None) ∷ es) ((key, o) ∷ rest))) ≡ cond (bytes_eq id q) None (number_with q (with_place key o (standing es)))
   unfolding IsDistinct
@@ -145,13 +153,15 @@ module _ (id : List ℕ) (n : ℕ) (q : List ℕ) where
       here_too false true e d same = absurd (true≢false (sym (subst (λ x. bytes_eq id x ≡ true) (sym (same_id q f.id d)) same) ∙ e))
       here_too false false e d same = refl
 
-      behind : (b c : Bool) → bytes_eq id q ≡ b → bytes_eq q f.id ≡ c → bytes_eq id f.id ≡ false → (new : Option ℕ) → new ≡ cond b None old → cond c (Some key) new ≡ cond b None (cond c (Some key) old)
+      behind : (b c : Bool) → bytes_eq id q ≡ b → bytes_eq q f.id ≡ c → bytes_eq id f.id ≡ false →
+          (new : Option ℕ) → new ≡ cond b None old → cond c (Some key) new ≡ cond b None (cond c (Some key) old)
       behind true true e d other new same = absurd (true≢false (sym (subst (λ x. bytes_eq id x ≡ true) (same_id q f.id d) e) ∙ other))
       behind true false e d other new same = same
       behind false true e d other new same = refl
       behind false false e d other new same = same
 
-      go : (b : Bool) → bytes_eq id f.id ≡ b → number_with q (standing (cond (nat_eq n key) ((key, None) ∷ es) ((key, Some f) ∷ rest))) ≡ cond (bytes_eq id q) None (number_with q (with_place key (Some f) (standing es)))
+      go : (b : Bool) → bytes_eq id f.id ≡ b → number_with q (standing (cond (nat_eq n key) ((key, None) ∷ es) ((key, Some f) ∷ rest)))
+          ≡ cond (bytes_eq id q) None (number_with q (with_place key (Some f) (standing es)))
       go true e =
           let here : key ≡ n = some_number key n (subst (λ b. cond b (Some key) (number_with id (standing es)) ≡ Some n) e is) in
           rw (subst (λ m. nat_eq n m ≡ true) (sym here) (same_number n)) (here_too (bytes_eq id q) (bytes_eq q f.id) refl refl e)
@@ -169,12 +179,15 @@ module _ (id : List ℕ) (n : ℕ) (q : List ℕ) where
 -- ---- a feature in the place of another
 
 module _ (f : Feature) (n : ℕ) where
-  taken_more : (key : ℕ) (o : Option Feature) (es rest : List Place) → AllByRecursion (λ m. nat_eq key m ≡ false) (keys_of es) → number_with f.id (with_place key o (standing es)) ≡ Some n →
-      (number_with f.id (standing es) ≡ Some n → by_id (standing rest) ≡ set_value (bytes_eq f.id) (by_id (standing es)) f) → by_id (standing (cond (nat_eq n key) ((key, Some f) ∷ es) ((key, o) ∷ rest))) ≡ set_value (bytes_eq f.id) (by_id (with_place key o (standing es))) f
+  taken_more : (key : ℕ) (o : Option Feature) (es rest : List Place) →
+      AllByRecursion (λ m. nat_eq key m ≡ false) (keys_of es) → number_with f.id (with_place key o (standing es)) ≡ Some n →
+      (number_with f.id (standing es) ≡ Some n → by_id (standing rest) ≡ set_value (bytes_eq f.id) (by_id (standing es)) f) →
+      by_id (standing (cond (nat_eq n key) ((key, Some f) ∷ es) ((key, o) ∷ rest))) ≡ set_value (bytes_eq f.id) (by_id (with_place key o (standing es))) f
   taken_more key None es rest apart is others = rw (turned_number key n (number_other key f.id n es apart is)) (others is)
   taken_more key (Some g) es rest apart is others = go (bytes_eq f.id g.id) refl
     where
-      go : (b : Bool) → bytes_eq f.id g.id ≡ b → by_id (standing (cond (nat_eq n key) ((key, Some f) ∷ es) ((key, Some g) ∷ rest))) ≡ set_value (bytes_eq f.id) (by_id (with_place key (Some g) (standing es))) f
+      go : (b : Bool) → bytes_eq f.id g.id ≡ b →
+          by_id (standing (cond (nat_eq n key) ((key, Some f) ∷ es) ((key, Some g) ∷ rest))) ≡ set_value (bytes_eq f.id) (by_id (with_place key (Some g) (standing es))) f
       go true e =
           let here : key ≡ n = some_number key n (subst (λ b. cond b (Some key) (number_with f.id (standing es)) ≡ Some n) e is) in
           rw (e, subst (λ m. nat_eq n m ≡ true) (sym here) (same_number n)) (ap (λ (k : List ℕ). (k, f) ∷ by_id (standing es)) (same_id f.id g.id e))
@@ -183,13 +196,15 @@ module _ (f : Feature) (n : ℕ) where
           rw (e, turned_number key n (number_other key f.id n es apart there)) (ap (λ xs. (g.id, g) ∷ xs) (others there))
 
   -- the place of its number takes the new feature: this comes in the place of that with its id
-  pub taken_is : (es : List Place) → IsDistinct nat_eq (keys_of es) → number_with f.id (standing es) ≡ Some n → by_id (standing (set_value (nat_eq n) es (Some f))) ≡ set_value (bytes_eq f.id) (by_id (standing es)) f
+  pub taken_is : (es : List Place) → IsDistinct nat_eq (keys_of es) → number_with f.id (standing es) ≡ Some n →
+      by_id (standing (set_value (nat_eq n) es (Some f))) ≡ set_value (bytes_eq f.id) (by_id (standing es)) f
   unfolding IsDistinct
   taken_is [] differ is = absurd (no_number n is)
   taken_is (e ∷ es) differ is = taken_more e.0 e.1 es (set_value (nat_eq n) es (Some f)) differ.0 is (taken_is es differ.1)
 
-  kept_more : (q : List ℕ) (key : ℕ) (o : Option Feature) (es rest : List Place) → AllByRecursion (λ m. nat_eq key m ≡ false) (keys_of es) → number_with f.id (with_place key o (standing es)) ≡ Some n →
-      (number_with f.id (standing es) ≡ Some n → number_with q (standing rest) ≡ number_with q (standing es)) → number_with q (standing (cond (nat_eq n key) ((key, Some f) ∷ es) ((key, o) ∷ rest))) ≡ number_with q (with_place key o (standing es))
+  kept_more : (q : List ℕ) (key : ℕ) (o : Option Feature) (es rest : List Place) → AllByRecursion (λ m. nat_eq key m ≡ false) (keys_of es) →
+      number_with f.id (with_place key o (standing es)) ≡ Some n → (number_with f.id (standing es) ≡ Some n → number_with q (standing rest) ≡ number_with q (standing es)) →
+      number_with q (standing (cond (nat_eq n key) ((key, Some f) ∷ es) ((key, o) ∷ rest))) ≡ number_with q (with_place key o (standing es))
   kept_more q key None es rest apart is others = rw (turned_number key n (number_other key f.id n es apart is)) (others is)
   kept_more q key (Some g) es rest apart is others = go (bytes_eq f.id g.id) refl
     where
@@ -202,14 +217,16 @@ module _ (f : Feature) (n : ℕ) where
           rw (turned_number key n (number_other key f.id n es apart there)) (ap (λ o. cond (bytes_eq q g.id) (Some key) o) (others there))
 
   -- and all numbers are as they were
-  pub kept_is : (q : List ℕ) (es : List Place) → IsDistinct nat_eq (keys_of es) → number_with f.id (standing es) ≡ Some n → number_with q (standing (set_value (nat_eq n) es (Some f))) ≡ number_with q (standing es)
+  pub kept_is : (q : List ℕ) (es : List Place) → IsDistinct nat_eq (keys_of es) → number_with f.id (standing es) ≡ Some n →
+      number_with q (standing (set_value (nat_eq n) es (Some f))) ≡ number_with q (standing es)
   unfolding IsDistinct
   kept_is q [] differ is = absurd (no_number n is)
   kept_is q (e ∷ es) differ is = kept_more q e.0 e.1 es (set_value (nat_eq n) es (Some f)) differ.0 is (kept_is q es differ.1)
 
 -- ---- no place has the number
 
-unset_more : (e : Place) (o : Option Feature) (es rest : List Place) (p : Option (Option Feature)) (b : Bool) → cond b (Some e.1) p ≡ None → (p ≡ None → rest ≡ es) → cond b ((e.0, o) ∷ es) (e ∷ rest) ≡ e ∷ es
+unset_more : (e : Place) (o : Option Feature) (es rest : List Place) (p : Option (Option Feature)) (b : Bool) →
+    cond b (Some e.1) p ≡ None → (p ≡ None → rest ≡ es) → cond b ((e.0, o) ∷ es) (e ∷ rest) ≡ e ∷ es
 unset_more e o es rest p true none others = absurd (let f : Some e.1 ≡ None = none in cc)
 unset_more e o es rest p false none others = ap (λ xs. e ∷ xs) (others none)
 
@@ -244,7 +261,8 @@ pub keys_behind : (es : List Place) (n : ℕ) (o : Option Feature) → keys_of (
 keys_behind [] n o = refl
 keys_behind (e ∷ es) n o = ap (λ ks. e.0 ∷ ks) (keys_behind es n o)
 
-number_more : (f : Feature) (n : ℕ) (q : List ℕ) (e : Held) (old new : Option ℕ) (b c d : Bool) → bytes_eq f.id q ≡ b → bytes_eq q e.1.id ≡ c → bytes_eq f.id e.1.id ≡ d → d ≡ false → new ≡ cond b (Some n) old → cond c (Some e.0) new ≡ cond b (Some n) (cond c (Some e.0) old)
+number_more : (f : Feature) (n : ℕ) (q : List ℕ) (e : Held) (old new : Option ℕ) (b c d : Bool) → bytes_eq f.id q ≡ b → bytes_eq q e.1.id ≡ c →
+    bytes_eq f.id e.1.id ≡ d → d ≡ false → new ≡ cond b (Some n) old → cond c (Some e.0) new ≡ cond b (Some n) (cond c (Some e.0) old)
 number_more f n q e old new true true d fq qe fe other same = absurd (true≢false (sym (subst (λ x. bytes_eq f.id x ≡ true) (same_id q e.1.id qe) fq) ∙ fe ∙ other))
 number_more f n q e old new true false d fq qe fe other same = same
 number_more f n q e old new false true d fq qe fe other same = refl
@@ -308,7 +326,8 @@ pub by_length : (es : List Held) → length (by_id es) ≡ length es
 by_length [] = refl
 by_length (e ∷ es) = ap suc (by_length es)
 
-less_more : (e : Entry) (es rest : List Entry) (o : Option Feature) (b : Bool) → IsSome (cond b (Some e.1) o) → (IsSome o → suc (length rest) ≡ length es) → suc (length (cond b es (e ∷ rest))) ≡ suc (length es)
+less_more : (e : Entry) (es rest : List Entry) (o : Option Feature) (b : Bool) → IsSome (cond b (Some e.1) o) →
+    (IsSome o → suc (length rest) ≡ length es) → suc (length (cond b es (e ∷ rest))) ≡ suc (length es)
 less_more e es rest o true some others = refl
 less_more e es rest o false some others = ap suc (others some)
 
@@ -318,7 +337,8 @@ one_less id [] some = absurd (false≢true some)
 one_less id (e ∷ es) some = less_more e es (remove_entry (bytes_eq id) es) (lookup (bytes_eq id) es) (bytes_eq id e.0) some (one_less id es)
 
 -- a feature that has a number has an id
-found_more : (id : List ℕ) (n : ℕ) (e : Held) (es : List Held) → number_with id (e ∷ es) ≡ Some n → (number_with id es ≡ Some n → IsSome (lookup (bytes_eq id) (by_id es))) → IsSome (cond (bytes_eq id e.1.id) (Some e.1) (lookup (bytes_eq id) (by_id es)))
+found_more : (id : List ℕ) (n : ℕ) (e : Held) (es : List Held) → number_with id (e ∷ es) ≡ Some n →
+    (number_with id es ≡ Some n → IsSome (lookup (bytes_eq id) (by_id es))) → IsSome (cond (bytes_eq id e.1.id) (Some e.1) (lookup (bytes_eq id) (by_id es)))
 found_more id n e es is rest = go (bytes_eq id e.1.id) is
   where
     go : (b : Bool) → cond b (Some e.0) (number_with id es) ≡ Some n → IsSome (cond b (Some e.1) (lookup (bytes_eq id) (by_id es)))
@@ -331,7 +351,8 @@ found_by id n [] is = absurd (no_number n is)
 found_by id n (e ∷ es) is = found_more id n e es is (found_by id n es)
 
 -- and one that has none has none
-none_more : (id : List ℕ) (e : Held) (es : List Held) → number_with id (e ∷ es) ≡ None → (number_with id es ≡ None → lookup (bytes_eq id) (by_id es) ≡ None) → cond (bytes_eq id e.1.id) (Some e.1) (lookup (bytes_eq id) (by_id es)) ≡ None
+none_more : (id : List ℕ) (e : Held) (es : List Held) → number_with id (e ∷ es) ≡ None →
+    (number_with id es ≡ None → lookup (bytes_eq id) (by_id es) ≡ None) → cond (bytes_eq id e.1.id) (Some e.1) (lookup (bytes_eq id) (by_id es)) ≡ None
 none_more id e es is rest = let h = not_first (bytes_eq id e.1.id) e.0 (number_with id es) is in rw h.0 (rest h.1)
 
 -- a look-up by an id that has no number finds none
@@ -356,7 +377,8 @@ lacks_any id (e ∷ es) is = let h = not_first (bytes_eq id e.1.id) e.0 (number_
 
 -- ---- an entry that goes
 
-out_more : (P : List ℕ → Type 0) (e : Entry) (es rest : List Entry) (b : Bool) → P e.0 → AllByRecursion P (keys_of es) → AllByRecursion P (keys_of rest) → AllByRecursion P (keys_of (cond b es (e ∷ rest)))
+out_more : (P : List ℕ → Type 0) (e : Entry) (es rest : List Entry) (b : Bool) → P e.0 →
+    AllByRecursion P (keys_of es) → AllByRecursion P (keys_of rest) → AllByRecursion P (keys_of (cond b es (e ∷ rest)))
 out_more P e es rest true here all others = all
 out_more P e es rest false here all others = (here, others)
 
@@ -364,7 +386,8 @@ out_all : (P : List ℕ → Type 0) (id : List ℕ) (es : List Entry) → AllByR
 out_all P id [] all = all
 out_all P id (e ∷ es) all = out_more P e es (remove_entry (bytes_eq id) es) (bytes_eq id e.0) all.0 all.1 (out_all P id es all.1)
 
-out_differ_more : (e : Entry) (es rest : List Entry) (b : Bool) → IsDistinct bytes_eq (keys_of es) → AllByRecursion (λ k. bytes_eq e.0 k ≡ false) (keys_of rest) → IsDistinct bytes_eq (keys_of rest) → IsDistinct bytes_eq (keys_of (cond b es (e ∷ rest)))
+out_differ_more : (e : Entry) (es rest : List Entry) (b : Bool) → IsDistinct bytes_eq (keys_of es) →
+    AllByRecursion (λ k. bytes_eq e.0 k ≡ false) (keys_of rest) → IsDistinct bytes_eq (keys_of rest) → IsDistinct bytes_eq (keys_of (cond b es (e ∷ rest)))
 unfolding IsDistinct
 out_differ_more e es rest true all apart others = all
 out_differ_more e es rest false all apart others = (apart, others)

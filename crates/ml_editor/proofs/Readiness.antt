@@ -22,7 +22,8 @@ use Rattle.ml_editor.specs.declared.edit.Edit.TheVariants.{Add, Replace, Remove,
 use Rattle.ml_editor.specs.declared.work.Work.{Work}
 use Rattle.ml_editor.specs.State.{State, HasFeature, IsAllowed, step, last_rev}
 use Rattle.ml_editor.specs.Faults.{IsLast}
-use Rattle.ml_editor.specs.Editing.{Editing, Prepared, IsEditing, IsReady, IsWorkOn, IsWorkFor, IsDraft, IsLabelFor, IsFeatureDraft, IsStyleDraft, IsLabelWith, id_of, label_given, prepared, rows_after, changes_of, evaluated_of}
+use Rattle.ml_editor.specs.Editing.{Editing, Prepared, IsEditing, IsReady, IsWorkOn, IsWorkFor, IsDraft, IsLabelFor, IsFeatureDraft}
+use Rattle.ml_editor.specs.Editing.{IsStyleDraft, IsLabelWith, id_of, label_given, prepared, rows_after, changes_of, evaluated_of}
 use Rattle.ml_editor.proofs.After.{no_label, after_add, after_replace, after_remove, no_more_labels, fewer_labels, label_of_feature, labels_again}
 use Rattle.ml_editor.proofs.States.{reached}
 
@@ -38,25 +39,40 @@ own_label style f label made =
     subst P (sym made.2) (given_own style f made.0 made.1)
 
 -- there is a number for a label that comes
-pub room_for_label : (e : Editing) (id : List ℕ) → IsEditing e → HasFeature e.state.features id ⊎ (length e.state.features < 32768) → ¬ (HasId (labels_in e.engine.rows) id) → length e.engine.rows < 32768
+pub room_for_label : (e : Editing) (id : List ℕ) → IsEditing e → HasFeature e.state.features id ⊎ (length e.state.features < 32768) →
+    ¬ (HasId (labels_in e.engine.rows) id) → length e.engine.rows < 32768
 room_for_label e id holds (inl known) none =
-    omega (arith, fewer_labels e.state.style e.state.features (labels_in e.engine.rows) (labels_in e.engine.rows) holds.labels holds.settled.in_order id known none, holds.state.few, length-map e.engine.rows (λ (r : Row). r.label))
+    omega (
+      arith,
+      fewer_labels e.state.style e.state.features (labels_in e.engine.rows) (labels_in e.engine.rows) holds.labels holds.settled.in_order id known none,
+      holds.state.few,
+      length-map e.engine.rows (λ (r : Row). r.label),
+    )
 room_for_label e id holds (inr few) none =
-    omega (arith, no_more_labels e.state.style e.state.features (labels_in e.engine.rows) (labels_in e.engine.rows) holds.labels holds.settled.in_order, few, length-map e.engine.rows (λ (r : Row). r.label))
+    omega (
+      arith,
+      no_more_labels e.state.style e.state.features (labels_in e.engine.rows) (labels_in e.engine.rows) holds.labels holds.settled.in_order,
+      few,
+      length-map e.engine.rows (λ (r : Row). r.label),
+    )
 
 -- the id of a label is that of a feature
 pub known_id : (style : Style) (fs : List Feature) (labels : List Label) → AreLabelsOf style fs labels → IsLabelList labels → (id : List ℕ) → HasId labels id → HasFeature fs id
 known_id style fs labels of ordered id there = subst (HasFeature fs) there.2 (label_of_feature style fs labels labels of ordered there.0 there.1)
 
 -- an engine that was built of a map's labels has them
-pub made_anew : (style : Style) (fs given : List Feature) (labels built : List Label) (rows : List Row) → given ≡ fs → AreLabelsOf style given labels → built ≡ labels → ((l : Label) → Contains (labels_in rows) l ↔ Contains built l) → IsSettled rows → AreLabelsOf style fs (labels_in rows)
+pub made_anew : (style : Style) (fs given : List Feature) (labels built : List Label) (rows : List Row) → given ≡ fs → AreLabelsOf style given labels →
+    built ≡ labels → ((l : Label) → Contains (labels_in rows) l ↔ Contains built l) → IsSettled rows → AreLabelsOf style fs (labels_in rows)
 made_anew style fs given labels built rows same of all there settled =
     let P : List Label → Type 0 = λ ls. (l : Label) → Contains (labels_in rows) l ↔ Contains ls l in
     let Q : List Feature → Type 0 = λ xs. AreLabelsOf style xs (labels_in rows) in
     subst Q same (labels_again style given labels (labels_in rows) of settled.in_order (subst P all there))
 
 -- a state of a map, with an engine that was built of its labels
-pub first_editing : (style : Style) (features given kept : List Feature) (labels built : List Label) (engine : Stored) (room rev : ℕ) → rev ≤ last_rev → HaveDifferentIds features → length features ≤ 32768 → given ≡ features → kept ≡ features → AreLabelsOf style given labels → built ≡ labels → ((l : Label) → Contains (labels_in engine.rows) l ↔ Contains built l) → IsSettled engine.rows → IsEditing (record { state = record { style = style; features = kept; rev = rev }; engine = engine; room = room })
+pub first_editing : (style : Style) (features given kept : List Feature) (labels built : List Label) (engine : Stored) (room rev : ℕ) →
+    rev ≤ last_rev → HaveDifferentIds features → length features ≤ 32768 → given ≡ features → kept ≡ features →
+    AreLabelsOf style given labels → built ≡ labels → ((l : Label) → Contains (labels_in engine.rows) l ↔ Contains built l) →
+    IsSettled engine.rows → IsEditing (record { state = record { style = style; features = kept; rev = rev }; engine = engine; room = room })
 first_editing style features given kept labels built engine room rev low differ few same again of all there settled =
     let P : List Feature → Type 0 = λ fs. IsEditing (record { state = record { style = style; features = fs; rev = rev }; engine = engine; room = room }) in
     subst P (sym again) (record {

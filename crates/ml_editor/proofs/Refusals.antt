@@ -12,7 +12,8 @@ use Rattle.ml_style.specs.declared.fault.StyleFault.TheVariants as styles
 use Rattle.ml_style.specs.declared.style.Style.{Style}
 use Rattle.ml_editor.specs.State.{State, IsAllowed}
 use Rattle.ml_editor.specs.Editing.{Editing, Prepared, IsReady, IsSameMap, HasRoomFor}
-use Rattle.ml_editor.specs.Faults.{Wish, adds, replaces, removes, restyles, AsksFor, IsNoFeature, IsUnread, IsMoved, IsPresent, IsLast, IsBarred, IsDenied, IsRefused, IsFault, OrMemory, IsGranted, ExcludeOneAnother}
+use Rattle.ml_editor.specs.Faults.{Wish, adds, replaces, removes, restyles, AsksFor, IsNoFeature, IsUnread, IsMoved, IsPresent}
+use Rattle.ml_editor.specs.Faults.{IsLast, IsBarred, IsDenied, IsRefused, IsFault, OrMemory, IsGranted, ExcludeOneAnother}
 use Rattle.ml_editor.specs.Outcome.{IsPrepared}
 use Rattle.ml_editor.specs.declared.edit.Edit.{Edit}
 use Rattle.ml_editor.specs.declared.edit.Edit.TheVariants.{Add, Replace, Remove, Restyle}

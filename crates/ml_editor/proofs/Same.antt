@@ -92,4 +92,5 @@ module _ {X : Type 0} where
       ] in
       let others = same_elements xs (s.before ++ s.after) a.1 rest.0 there_too here_too in
       subst (λ (zs : List X). IsPermutation (x ∷ xs) zs) (sym s.is)
-      (IsPermutation-trans (x ∷ xs) (x ∷ (s.before ++ s.after)) (s.before ++ x ∷ s.after) (IsPermutation-append (x ∷ []) (x ∷ []) xs (s.before ++ s.after) (IsPermutation-refl (x ∷ [])) others) (to_middle s.before s.after x))
+      (IsPermutation-trans (x ∷ xs) (x ∷ (s.before ++ s.after)) (s.before ++ x ∷ s.after)
+      (IsPermutation-append (x ∷ []) (x ∷ []) xs (s.before ++ s.after) (IsPermutation-refl (x ∷ [])) others) (to_middle s.before s.after x))

@@ -1,5 +1,6 @@
 -- What holds of the state after an edit.
-use Rattle.std.proofs.Common.{◌≡◌, ℕ, zero, suc, ◌+◌, ◌<◌, ◌≤◌, Bool, true, false, cond, not, List, [], ◌∷◌, ◌++◌, length, get_or, filter, map, take, ◌⊎◌, inl, inr, refl, sym, ap, subst, ◌∙◌, arith, length-append}
+use Rattle.std.proofs.Common.{◌≡◌, ℕ, zero, suc, ◌+◌, ◌<◌, ◌≤◌, Bool, true, false, cond, not, List, [], ◌∷◌, ◌++◌, length}
+use Rattle.std.proofs.Common.{get_or, filter, map, take, ◌⊎◌, inl, inr, refl, sym, ap, subst, ◌∙◌, arith, length-append}
 use Rattle.std.proofs.lemmas.List.{length-map, length-take, get_or-take, get_or_default}
 use Rattle.std.proofs.lemmas.List.Elements.{Contains-append_left, Contains-append_right}
 use Rattle.std.specs.Str.{bytes_eq}
@@ -68,7 +69,8 @@ kept_differ_one f rest false new differ = differ
 
 kept_differ : (gone : List ℕ) (fs : List Feature) → HaveDifferentIds fs → HaveDifferentIds (kept gone fs)
 kept_differ gone [] differ = differ_none
-kept_differ gone (f ∷ fs) differ = kept_differ_one f (kept gone fs) (not (bytes_eq f.id gone)) (λ there. differ_first f fs differ (kept_has gone fs f.id there)) (kept_differ gone fs (differ_tail f fs differ))
+kept_differ gone (f ∷ fs) differ = kept_differ_one f (kept gone fs) (not (bytes_eq f.id gone))
+    (λ there. differ_first f fs differ (kept_has gone fs f.id there)) (kept_differ gone fs (differ_tail f fs differ))
 
 kept_long_one : (f : Feature) (fs rest : List Feature) (b : Bool) → length rest ≤ length fs → length (cond b (f ∷ rest) rest) ≤ length (f ∷ fs)
 kept_long_one f fs rest true le = omega (arith, le)

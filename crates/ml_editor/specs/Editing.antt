@@ -171,7 +171,9 @@ IsEditOf edit label before after = MatchOption (id_of edit) (Unit {0}) (λ id. I
 abbrev pub IsEditCost : Edit → List Label → List Label → ℕ → Type 0
 IsEditCost edit before after n = MatchOption (id_of edit) (n ≡ 0) (λ id. IsCost before after id n)
 
--- the edit was made ready for just this state and these labels: the features allow it, its work makes the labels of the features after it, its label is that of its feature among them, and the others stay, its revision is the next one, its changes are those of the labels, and so many labels were evaluated for it as it costs
+-- the edit was made ready for just this state and these labels: the features allow it, its work makes the labels of the
+-- features after it, its label is that of its feature among them, and the others stay, its revision is the next one, its
+-- changes are those of the labels, and so many labels were evaluated for it as it costs
 pub record IsReady (ready : Prepared) (s : State) (rows : List Row) : Type 0 where
   pub allowed : IsAllowed s.features ready.edit
   pub reached : IsState (step s ready.edit)

@@ -24,7 +24,8 @@ pub struct RangedLabel<'a> {
 
 // The label with this id, with its active range; none where no label has it.
 fn held_by<'a>(engine: &'a Engine, id: &Text) -> Option<RangedLabel<'a>>
-    ensures { IsStateOf (labels_in engine.now.rows) (slots_in engine.now.rows) id.now (ranged result) }
+    ensures { IsStateOf (labels_in engine.now.rows)
+        (slots_in engine.now.rows) id.now (ranged result) }
 {
     let number = engine.number_of(id)?;
     let label = engine.label_at(number);
@@ -37,14 +38,16 @@ fn held_by<'a>(engine: &'a Engine, id: &Text) -> Option<RangedLabel<'a>>
 
 // Whether both are the same label with the same active range.
 fn same_label(one: &RangedLabel<'_>, other: &RangedLabel<'_>) -> bool
-    ensures { MatchBool result (ranged_of one.now ≡ ranged_of other.now) (¬ (ranged_of one.now ≡ ranged_of other.now)) }
+    ensures { MatchBool result (ranged_of one.now ≡ ranged_of other.now)
+        (¬ (ranged_of one.now ≡ ranged_of other.now)) }
 {
     same_spans(one.span, other.span) && same_labels(one.label, other.label)
 }
 
 // Whether both are none, or the same label with the same active range.
 fn same_held(one: &Option<RangedLabel<'_>>, other: &Option<RangedLabel<'_>>) -> bool
-    ensures { MatchBool result (ranged one.now ≡ ranged other.now) (¬ (ranged one.now ≡ ranged other.now)) }
+    ensures { MatchBool result (ranged one.now ≡ ranged other.now)
+        (¬ (ranged one.now ≡ ranged other.now)) }
 {
     match (one, other) {
         (Some(one), Some(other)) => same_label(one, other),
@@ -91,7 +94,8 @@ fn push_change(
 ) -> Result<(), AllocError>
     requires old { IsSettled old.now.rows }
     requires new { IsSettled new.now.rows }
-    ensures { IfOk result (λ _. IsTakenIn old.now.rows new.now.rows id.now out.old.items out.new.items) }
+    ensures { IfOk result
+        (λ _. IsTakenIn old.now.rows new.now.rows id.now out.old.items out.new.items) }
 {
     match change_of(id, old, new)? {
         Some(change) => {
@@ -112,7 +116,8 @@ fn changes_at(
     requires differ { HaveDifferentIds features.now }
     requires old { IsSettled old.now.rows }
     requires new { IsSettled new.now.rows }
-    ensures { IfOk result (λ changes. AreChangesAt old.now.rows new.now.rows features.now changes.items) }
+    ensures { IfOk result
+        (λ changes. AreChangesAt old.now.rows new.now.rows features.now changes.items) }
 {
     let mut out = Vec::new(alloc);
     for feature in features {
@@ -134,7 +139,8 @@ pub(crate) fn changes_between(
     requires differ { HaveDifferentIds features.now }
     requires old { (id : List ℕ) → HasId (labels_in old.now.rows) id → HasFeature features.now id }
     requires new { (id : List ℕ) → HasId (labels_in new.now.rows) id → HasFeature features.now id }
-    ensures { IfOk result (AreChanges (labels_in old.now.rows) (slots_in old.now.rows) (labels_in new.now.rows) (slots_in new.now.rows)) }
+    ensures { IfOk result (AreChanges (labels_in old.now.rows)
+        (slots_in old.now.rows) (labels_in new.now.rows) (slots_in new.now.rows)) }
 {
     let _many = (old.len(), new.len());
     let changes = changes_at(alloc, features, old, new)?;

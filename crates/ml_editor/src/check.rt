@@ -74,7 +74,8 @@ impl Editor {
 
     // Whether a feature has the id.
     fn has_feature(&self, id: &Text) -> bool
-        ensures { MatchBool result (HasFeature self.now.state.features id.now) (¬ (HasFeature self.now.state.features id.now)) }
+        ensures { MatchBool result (HasFeature self.now.state.features id.now)
+            (¬ (HasFeature self.now.state.features id.now)) }
     {
         match self.features.get(id) {
             Some(_) => true,
@@ -84,7 +85,8 @@ impl Editor {
 
     // Whether there is no room for one more feature.
     fn is_full(&self) -> bool
-        ensures full { MatchBool result (length self.now.state.features ≡ most_labels) (length self.now.state.features < most_labels) }
+        ensures full { MatchBool result (length self.now.state.features ≡ most_labels)
+            (length self.now.state.features < most_labels) }
         ensures holds { IsEditing self.now }
     {
         self.features.len() == MOST_LABELS
@@ -100,7 +102,8 @@ impl Editor {
 
     // Whether a feature with this id may come as a new one.
     fn check_new(&self, id: &Text) -> Result<(), EditFault>
-        ensures ok { OnOk result (¬ (HasFeature self.now.state.features id.now) × (length self.now.state.features < most_labels)) }
+        ensures ok { OnOk result (¬ (HasFeature self.now.state.features id.now)
+            × (length self.now.state.features < most_labels)) }
         ensures err { IfErr result (OrMemory (IsBarred self.now.state.features id.now)) }
     {
         if self.has_feature(id) {
@@ -138,7 +141,8 @@ impl Editor {
 
     // Whether nothing refuses the edit.
     fn check_edit(&self, edit: &Edit) -> Result<(), EditFault>
-        ensures ok { OnOk result (IsAllowed self.now.state.features edit.now × ¬ (IsLast self.now.state)) }
+        ensures ok { OnOk result
+            (IsAllowed self.now.state.features edit.now × ¬ (IsLast self.now.state)) }
         ensures err { IfErr result (OrMemory (IsRefused self.now.state edit.now)) }
     {
         self.check_features(edit)?;

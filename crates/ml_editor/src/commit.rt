@@ -23,7 +23,8 @@ impl Editor {
         requires room { HasRoomFor ready self.old }
         ensures step { self.new.state ≡ step self.old.state ready.edit }
         ensures told { AllHear W.hearing ready.changes crowd.old crowd.new }
-        ensures changes { AreChanges (labels_in self.old.engine.rows) (slots_in self.old.engine.rows)
+        ensures changes { AreChanges (labels_in self.old.engine.rows)
+            (slots_in self.old.engine.rows)
             (labels_in self.new.engine.rows) (slots_in self.new.engine.rows) ready.changes }
         ensures stood { IsEditing self.old }
         ensures holds { IsEditing self.new }

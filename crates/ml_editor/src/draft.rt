@@ -37,7 +37,8 @@ impl Editor {
         steps: &mut Steps<L>,
     ) -> Result<Draft, AllocError>
         requires { IsAllowed self.now.state.features edit.now }
-        ensures draft { IfOk result (IsEditDraft self.now.state self.now.engine.rows edit.now steps.old steps.new) }
+        ensures draft { IfOk result
+            (IsEditDraft self.now.state self.now.engine.rows edit.now steps.old steps.new) }
         ensures holds { IsEditing self.now }
     {
         match edit {
@@ -67,7 +68,8 @@ impl Editor {
 
     // What is drawn up for a new style.
     fn draft_style(&self, alloc: Global, style: &Style) -> Result<Draft, AllocError>
-        ensures draft { IfOk result (IsStyleDraft style.now self.now.state.features self.now.engine.rows) }
+        ensures draft { IfOk result
+            (IsStyleDraft style.now self.now.state.features self.now.engine.rows) }
         ensures holds { IsEditing self.now }
     {
         let features = self.features.copy(alloc)?;
@@ -119,9 +121,11 @@ fn draft_for<L: Ledger>(
     steps: &mut Steps<L>,
 ) -> Result<Draft, AllocError>
     requires id { IfSome come (λ label. label.order.id ≡ id.now) }
-    requires few { IsSome come → ¬ (HasId (labels_in engine.now.rows) id.now) → length engine.now.rows < most_labels }
+    requires few { IsSome come → ¬ (HasId (labels_in engine.now.rows) id.now) →
+        length engine.now.rows < most_labels }
     requires settled { IsSettled engine.now.rows }
-    ensures { IfOk result (λ draft. IsDrawnFor draft engine.now.rows id.now come steps.old steps.new) }
+    ensures { IfOk result
+        (λ draft. IsDrawnFor draft engine.now.rows id.now come steps.old steps.new) }
 {
     let key = id.copy()?;
     let label = label_again(&come)?;

@@ -60,7 +60,8 @@ impl Editor {
         requires differ { HaveDifferentIds features }
         ensures ok { IfOk result (λ editor. editor.state ≡ first_state style features) }
         ensures holds { IfOk result IsEditing }
-        ensures full { RefusesExactly result LoadRefused.Full LoadRefused.Memory (most_labels < length features) }
+        ensures full { RefusesExactly result LoadRefused.Full LoadRefused.Memory
+            (most_labels < length features) }
     {
         Editor::load_at(alloc, style, features, 0)
     }
@@ -77,9 +78,11 @@ impl Editor {
     ) -> Result<Editor, LoadRefused>
         requires differ { HaveDifferentIds features }
         requires low { revision ≤ last_rev }
-        ensures ok { IfOk result (λ editor. editor.state ≡ record { style = style; features = features; rev = revision }) }
+        ensures ok { IfOk result (λ editor.
+            editor.state ≡ record { style = style; features = features; rev = revision }) }
         ensures holds { IfOk result IsEditing }
-        ensures full { RefusesExactly result LoadRefused.Full LoadRefused.Memory (most_labels < length features) }
+        ensures full { RefusesExactly result LoadRefused.Full LoadRefused.Memory
+            (most_labels < length features) }
     {
         if features.len() > MOST_LABELS {
             return Err(LoadRefused::Full);
@@ -132,7 +135,8 @@ impl Editor {
         ensures live { IfOk result (λ numbers. All (IsLive self.now.engine.rows) numbers) }
         ensures apart { IfOk result (AreApart self.now.engine.rows view.now) }
         ensures looks { IfOk result (λ _.
-            (n : ℕ) × AreNear (labels_in self.now.engine.rows) (slots_in self.now.engine.rows) view.now n × (looks.new ≡ looks.old + n)) }
+            (n : ℕ) × AreNear (labels_in self.now.engine.rows)
+            (slots_in self.now.engine.rows) view.now n × (looks.new ≡ looks.old + n)) }
     {
         self.engine.shown(alloc, view, looks)
     }
@@ -140,7 +144,8 @@ impl Editor {
     /// The label with this number, which is live.
     pub fn label_at(&self, number: u32) -> &Label
         requires { IsLive self.now.engine.rows number }
-        ensures { (r : Row) → Contains self.now.engine.rows r → r.number ≡ number → result.now ≡ r.label }
+        ensures { (r : Row) → Contains self.now.engine.rows r →
+            r.number ≡ number → result.now ≡ r.label }
     {
         self.engine.label_at(number)
     }
@@ -148,7 +153,8 @@ impl Editor {
     /// The slot of the label with this number, which is live.
     pub fn slot_at(&self, number: u32) -> Slot
         requires { IsLive self.now.engine.rows number }
-        ensures slot { (r : Row) → Contains self.now.engine.rows r → r.number ≡ number → result ≡ r.slot }
+        ensures slot { (r : Row) → Contains self.now.engine.rows r →
+            r.number ≡ number → result ≡ r.slot }
         ensures blocker { IfSome result.blocker (IsLive self.now.engine.rows) }
         ensures holds { IsEditing self.now }
     {

@@ -103,7 +103,8 @@ impl Features {
 
     /// The feature with this id; none where no feature has it.
     pub fn get(&self, id: &Text) -> Option<&Feature>
-        ensures { MatchOption (option_copied result) (¬ (HasFeature self.now.list id.now)) (λ f. Contains self.now.list f × (f.id ≡ id.now)) }
+        ensures { MatchOption (option_copied result) (¬ (HasFeature self.now.list id.now))
+            (λ f. Contains self.now.list f × (f.id ≡ id.now)) }
     {
         match self.names.get(id) {
             Some(number) => match self.places.get(number) {
@@ -198,7 +199,8 @@ fn set_place(places: &mut IndexMap<u64, Option<Feature>>, number: u64, feature: 
 fn close_few(places: &mut IndexMap<u64, Option<Feature>>, taken: usize)
     requires { IsDistinct nat_eq (keys_of places.old.entries) }
     ensures standing { standing places.new.entries ≡ standing places.old.entries }
-    ensures low { (next : ℕ) → All (λ n. n < next) (keys_of places.old.entries) → All (λ n. n < next) (keys_of places.new.entries) }
+    ensures low { (next : ℕ) → All (λ n. n < next) (keys_of places.old.entries) →
+        All (λ n. n < next) (keys_of places.new.entries) }
     ensures differ { IsDistinct nat_eq (keys_of places.new.entries) }
     ensures room { spare places.old ≤ spare places.new }
 {

@@ -10,7 +10,8 @@ use ml_style::laws::{one_fault as one_style_fault, one_style, style_or_fault};
 
 /// What is asked of a map is refused for one cause, or it is accepted, unless memory runs out.
 pub fn one_refusal()
-    ensures { (s : State) (rev : Option ℕ) (wish : Wish) → ExcludeOneAnother (IsFault s rev wish) (IsGranted s rev wish) }
+    ensures { (s : State) (rev : Option ℕ) (wish : Wish) →
+        ExcludeOneAnother (IsFault s rev wish) (IsGranted s rev wish) }
 {
     one_edit();
     one_geo_fault();
@@ -21,7 +22,8 @@ pub fn one_refusal()
 
 /// What is asked makes one edit at most.
 pub fn one_edit()
-    ensures { (wish : Wish) (one other : Edit) → AsksFor wish one → AsksFor wish other → one ≡ other }
+    ensures { (wish : Wish) (one other : Edit) →
+        AsksFor wish one → AsksFor wish other → one ≡ other }
 {
     one_feature();
     one_style();
@@ -29,5 +31,6 @@ pub fn one_edit()
 
 /// What the rules accept leads from a state that can be reached to one.
 pub fn accepted_is_reached()
-    ensures { (s : State) (rev : Option ℕ) (wish : Wish) (edit : Edit) → IsState s → IsGranted s rev wish edit → IsState (step s edit) }
+    ensures { (s : State) (rev : Option ℕ) (wish : Wish) (edit : Edit) →
+        IsState s → IsGranted s rev wish edit → IsState (step s edit) }
 {}

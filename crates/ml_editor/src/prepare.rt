@@ -114,8 +114,10 @@ impl Editor {
 
     // Takes the room for the edit and for the work that is drawn up for it.
     fn reserve_for(&mut self, edit: &Edit, draft: &Draft) -> Result<(), AllocError>
-        requires of_state { IsReady (prepared edit.now draft.now (self.old.state.rev + 1)) self.old.state self.old.engine.rows }
-        ensures ok { OnOk result (HasRoomFor (prepared edit.now draft.now (self.old.state.rev + 1)) self.new) }
+        requires of_state { IsReady (prepared edit.now draft.now
+            (self.old.state.rev + 1)) self.old.state self.old.engine.rows }
+        ensures ok { OnOk result
+            (HasRoomFor (prepared edit.now draft.now (self.old.state.rev + 1)) self.new) }
         ensures same { IsSameMap self.old self.new }
     {
         reserve_feature(&mut self.features, edit)?;
@@ -124,7 +126,8 @@ impl Editor {
 
     // The edit made ready, with the room that it and its work take.
     fn make_ready(&mut self, edit: Edit, draft: Draft) -> Result<Ready, AllocError>
-        requires of_state { IsReady (prepared edit draft (self.old.state.rev + 1)) self.old.state self.old.engine.rows }
+        requires of_state { IsReady
+            (prepared edit draft (self.old.state.rev + 1)) self.old.state self.old.engine.rows }
         requires key { IsKeyOf edit draft.key }
         ensures ok { IfOk result (λ ready. ready ≡ prepared edit draft (self.old.state.rev + 1)) }
         ensures room { IfOk result (λ ready. HasRoomFor ready self.new) }

@@ -81,8 +81,10 @@ shown_between a span at s m t one low high hs ht = (
 
 -- a fraction that a stay holds
 middle_held : (stay : Stay) → HoldsScale stay (middle (value_of stay.from) (value_of stay.to))
-middle_held stay =
-    (from_above stay.from_in (value_of stay.from) (middle (value_of stay.from) (value_of stay.to)) (middle_above (value_of stay.from) (value_of stay.to) stay.some), middle_below (value_of stay.from) (value_of stay.to) stay.some)
+middle_held stay = (
+  from_above stay.from_in (value_of stay.from) (middle (value_of stay.from) (value_of stay.to)) (middle_above (value_of stay.from) (value_of stay.to) stay.some),
+  middle_below (value_of stay.from) (value_of stay.to) stay.some,
+)
 
 -- so a label of one box has at most one stay
 pub one_stay : (a : Label) (span : Span) (at : Window) (stays : List Stay) → length a.boxes ≡ 1 → AreMaximal (IsShownAt a span at) stays → length stays ≤ 1

@@ -84,7 +84,8 @@ join_next pieces i done current d so_far lt sorted apart = record {
       (λ k e in'.
       let a : Stay = get_or done k e in
       let b : Stay = get_or pieces i d in
-      before_else b.from_in (value_of b.from) (value_of a.to) (λ h. not_both current.from_in (value_of current.from) (value_of a.to) (so_far.last k e in') (so_far.begins i d (omega arith) lt (value_of a.to) h)))
+      before_else b.from_in (value_of b.from) (value_of a.to)
+      (λ h. not_both current.from_in (value_of current.from) (value_of a.to) (so_far.last k e in') (so_far.begins i d (omega arith) lt (value_of a.to) h)))
       apart;
   begins = λ k e more in'.
       let at = get_or_default pieces i d e lt in
@@ -92,7 +93,8 @@ join_next pieces i done current d so_far lt sorted apart = record {
 }
 
 -- at the end
-pub join_scales : (pieces : List Stay) (i : ℕ) (done : List Stay) (current : Stay) → Joining pieces i done current → length pieces ≤ i → (s : Fraction) → HaveScale (done ++ current ∷ []) s ↔ HaveScale pieces s
+pub join_scales : (pieces : List Stay) (i : ℕ) (done : List Stay) (current : Stay) → Joining pieces i done current →
+    length pieces ≤ i → (s : Fraction) → HaveScale (done ++ current ∷ []) s ↔ HaveScale pieces s
 join_scales pieces i done current so_far all s = (
   λ any. elim (any_push_cases (λ a. HoldsScale a s) done current any) [ inl old ↦ so_far.done_sound s old | inr here ↦ so_far.sound s here ],
   λ any. elim (so_far.whole s (any_whole (λ a. HoldsScale a s) pieces i all any)) [

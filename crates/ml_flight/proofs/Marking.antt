@@ -107,7 +107,8 @@ pub mark_of_to : (all : List (List Stay)) (i j : ℕ) (stays : List Stay) (d : S
 mark_of_to all i j stays d lt e lt' = inr (i, stays, lt, sym e, any_of (IsEndOf (value_of (get_or stays j d).to)) stays j d lt' (inr refl))
 
 -- a label is shown at every scale just after m exactly where one of its stays is open there
-pub shown_after : (all : List (List Stay)) (m : Fraction) (i : ℕ) (stays : List Stay) → i < length all → stays ≡ get_or all i stays → ((s : Fraction) → IsJustAfter all m s → HaveScale stays s) ↔ Any (IsOpen m true) stays
+pub shown_after : (all : List (List Stay)) (m : Fraction) (i : ℕ) (stays : List Stay) → i < length all →
+    stays ≡ get_or all i stays → ((s : Fraction) → IsJustAfter all m s → HaveScale stays s) ↔ Any (IsOpen m true) stays
 shown_after all m i stays lt e = (forth, back)
   where
     forth : ((s : Fraction) → IsJustAfter all m s → HaveScale stays s) → Any (IsOpen m true) stays

@@ -28,7 +28,8 @@ module _ (stays : List Stay) (apart : AreApart stays) where
       let b : Stay = get_or stays m d in
       let held : HoldsScale b (value_of a.to) = found.2 in
       elim (cases_order j m) [
-        | inl same ↦ let own : HoldsScale a (value_of a.to) = subst (λ (n : ℕ). HoldsScale (get_or stays n d) (value_of a.to)) (sym same) held in let h : IsLess (value_of a.to) (value_of a.to) = own.1 in omega arith
+        | inl same ↦ let own : HoldsScale a (value_of a.to) = subst (λ (n : ℕ). HoldsScale (get_or stays n d) (value_of a.to)) (sym same) held in
+            let h : IsLess (value_of a.to) (value_of a.to) = own.1 in omega arith
         | inr (inl after) ↦ not_both b.from_in (value_of b.from) (value_of a.to) (apart j m d after found.1) held.0
         | inr (inr before) ↦
             let low : IsAtMost (value_of b.to) (value_of a.from) = before_most a.from_in (value_of a.from) (value_of b.to) (apart m j d before (omega arith)) in
@@ -58,7 +59,8 @@ module _ (stays : List Stay) (apart : AreApart stays) where
       ]
 
   -- a stay's lower end is held by that stay alone
-  from_held : (j k : ℕ) (d : Stay) → j < length stays → k < length stays → HoldsScale (get_or stays j d) (value_of (get_or stays k d).from) → HoldsScale (get_or stays k d) (value_of (get_or stays k d).from)
+  from_held : (j k : ℕ) (d : Stay) → j < length stays → k < length stays →
+      HoldsScale (get_or stays j d) (value_of (get_or stays k d).from) → HoldsScale (get_or stays k d) (value_of (get_or stays k d).from)
   from_held j k d in' in'' held =
       let a : Stay = get_or stays j d in
       let b : Stay = get_or stays k d in

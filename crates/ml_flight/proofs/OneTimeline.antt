@@ -57,7 +57,10 @@ inside a = middle (value_of a.from) (value_of a.to)
 
 held_inside : (a : Stay) → HoldsScale a (inside a)
 unfolding inside
-held_inside a = (from_above a.from_in (value_of a.from) (middle (value_of a.from) (value_of a.to)) (middle_above (value_of a.from) (value_of a.to) a.some), middle_below (value_of a.from) (value_of a.to) a.some)
+held_inside a = (
+  from_above a.from_in (value_of a.from) (middle (value_of a.from) (value_of a.to)) (middle_above (value_of a.from) (value_of a.to) a.some),
+  middle_below (value_of a.from) (value_of a.to) a.some,
+)
 
 -- a stay that holds all that another holds begins no later, and ends no earlier
 begins_by : (a b : Stay) → ((s : Fraction) → HoldsScale a s → HoldsScale b s) → IsAtMost (value_of b.from) (value_of a.from)
@@ -66,13 +69,17 @@ begins_by a b all =
       | inl less ↦ elim (cases_lt (a.to.num * b.from.den) (b.from.num * a.to.den)) [
         | inl early ↦
             let below = middle_below (value_of a.from) (value_of a.to) a.some in
-            let held = all (middle (value_of a.from) (value_of a.to)) (from_above a.from_in (value_of a.from) (middle (value_of a.from) (value_of a.to)) (middle_above (value_of a.from) (value_of a.to) a.some), below) in
+            let held = all (middle (value_of a.from) (value_of a.to))
+            (from_above a.from_in (value_of a.from) (middle (value_of a.from) (value_of a.to)) (middle_above (value_of a.from) (value_of a.to) a.some), below) in
             let late = from_least b.from_in (value_of b.from) (middle (value_of a.from) (value_of a.to)) held.0 in
             let under = less_trans (middle (value_of a.from) (value_of a.to)) (value_of a.to) (value_of b.from) below early in
             absurd (omega arith)
         | inr late ↦
             let below = middle_below (value_of a.from) (value_of b.from) less in
-            let held = all (middle (value_of a.from) (value_of b.from)) (from_above a.from_in (value_of a.from) (middle (value_of a.from) (value_of b.from)) (middle_above (value_of a.from) (value_of b.from) less), less_at_most (middle (value_of a.from) (value_of b.from)) (value_of b.from) (value_of a.to) below late) in
+            let held = all (middle (value_of a.from) (value_of b.from)) (
+              from_above a.from_in (value_of a.from) (middle (value_of a.from) (value_of b.from)) (middle_above (value_of a.from) (value_of b.from) less),
+              less_at_most (middle (value_of a.from) (value_of b.from)) (value_of b.from) (value_of a.to) below late,
+            ) in
             let after = from_least b.from_in (value_of b.from) (middle (value_of a.from) (value_of b.from)) held.0 in
             absurd (omega arith)
       ]
@@ -91,7 +98,10 @@ ends_by a b all =
             absurd (let h = held.1 in omega arith)
         | inr late ↦
             let above = middle_above (value_of b.to) (value_of a.to) less in
-            let held = all (middle (value_of b.to) (value_of a.to)) (from_above a.from_in (value_of a.from) (middle (value_of b.to) (value_of a.to)) (at_most_less (value_of a.from) (value_of b.to) (middle (value_of b.to) (value_of a.to)) late above), middle_below (value_of b.to) (value_of a.to) less) in
+            let held = all (middle (value_of b.to) (value_of a.to)) (
+              from_above a.from_in (value_of a.from) (middle (value_of b.to) (value_of a.to)) (at_most_less (value_of a.from) (value_of b.to) (middle (value_of b.to) (value_of a.to)) late above),
+              middle_below (value_of b.to) (value_of a.to) less,
+            ) in
             absurd (let h = held.1 in omega arith)
       ]
       | inr more ↦ more
@@ -141,7 +151,8 @@ tail_apart : {X : Type 0} (R : X → X → Type 0) (x : X) (xs : List X) → All
 tail_apart R x xs pairs i j d less lt = pairs (suc i) (suc j) d (omega arith) (omega arith)
 
 -- what is found among the elements of a list and is not its head is found among the others
-found_later : {X : Type 0} (R : X → X → Type 0) (x y : X) (xs ys : List X) → ((z : X) → R z z → ⊥) → AllPairs R (x ∷ xs) → x ≡ y → All (λ a. Any (λ b. a ≡ b) (y ∷ ys)) (x ∷ xs) → All (λ a. Any (λ b. a ≡ b) ys) xs
+found_later : {X : Type 0} (R : X → X → Type 0) (x y : X) (xs ys : List X) → ((z : X) → R z z → ⊥) →
+    AllPairs R (x ∷ xs) → x ≡ y → All (λ a. Any (λ b. a ≡ b) (y ∷ ys)) (x ∷ xs) → All (λ a. Any (λ b. a ≡ b) ys) xs
 found_later R x y xs ys irreflexive pairs same all k d lt =
     let z = get_or xs k d in
     elim (any_cases (λ b. z ≡ b) y ys (All-tail (λ a. Any (λ b. a ≡ b) (y ∷ ys)) x xs all k d lt)) [
@@ -149,7 +160,8 @@ found_later R x y xs ys irreflexive pairs same all k d lt =
       | inr there ↦ there
     ]
 
-sorted_same : {X : Type 0} (R : X → X → Type 0) → ((x : X) → R x x → ⊥) → ((x y : X) → R x y → R y x → ⊥) → (xs ys : List X) → AllPairs R xs → AllPairs R ys → All (λ a. Any (λ b. a ≡ b) ys) xs → All (λ a. Any (λ b. a ≡ b) xs) ys → xs ≡ ys
+sorted_same : {X : Type 0} (R : X → X → Type 0) → ((x : X) → R x x → ⊥) → ((x y : X) → R x y → R y x → ⊥) → (xs ys : List X) →
+    AllPairs R xs → AllPairs R ys → All (λ a. Any (λ b. a ≡ b) ys) xs → All (λ a. Any (λ b. a ≡ b) xs) ys → xs ≡ ys
 sorted_same R none both [] [] p q h k = refl
 sorted_same R none both [] (y ∷ ys) p q h k = absurd (any_none (λ b. y ≡ b) (All-head (λ a. Any (λ b. a ≡ b) []) y ys k))
 sorted_same R none both (x ∷ xs) [] p q h k = absurd (any_none (λ b. x ≡ b) (All-head (λ a. Any (λ b. a ≡ b) []) x xs h))
@@ -186,7 +198,8 @@ begins_either a b less more = omega arith
 -- a set has its maximal intervals in one way
 pub maximal_same : (S : Fraction → Type 0) (stays others : List Stay) → AreMaximal S stays → AreMaximal S others → stays ≡ others
 maximal_same S stays others are those =
-    sorted_same begins_before begins_once begins_either stays others (ascend stays are.ascending) (ascend others those.ascending) (all_found S stays others are those) (all_found S others stays those are)
+    sorted_same begins_before begins_once begins_either stays others (ascend stays are.ascending)
+    (ascend others those.ascending) (all_found S stays others are those) (all_found S others stays those are)
 
 -- ---- one timeline, one peak
 

@@ -94,7 +94,8 @@ balance m after all =
     ∙ (sum_by-plus (λ (s : Stay). cond (is_open m after s) 1 0) (λ (s : Stay). cond (is_ended m s.to) 1 0) (λ (s : Stay). cond (up_to m after (begin_of s)) 1 0) (balance_one m after) stays
     ∙ sym (count_by-map (up_to m after) begin_of stays))) in
     ap (λ (n : ℕ). opens m after all + n) one
-    ∙ (sum_by-plus (λ (stays : List Stay). count_by (is_open m after) stays) (λ (stays : List Stay). count_by (is_ended m) (map to stays)) (λ (stays : List Stay). count_by (up_to m after) (map begin_of stays)) each all
+    ∙ (sum_by-plus (λ (stays : List Stay). count_by (is_open m after) stays) (λ (stays : List Stay). count_by (is_ended m) (map to stays))
+    (λ (stays : List Stay). count_by (up_to m after) (map begin_of stays)) each all
     ∙ sym two)
 
 -- whether the place has a mark below m
@@ -123,7 +124,8 @@ ended_below m all =
     let one = count_by-flat_map (is_ended m) (λ (stays : List Stay). map to stays) all in
     let two = count_by-flat_map (is_below m) (λ (stays : List Stay). map begin_of stays) all in
     let each : (stays : List Stay) → count_by (is_ended m) (map to stays) ≤ count_by (is_below m) (map begin_of stays) =
-    λ stays. rw (count_by-map (is_ended m) to stays, count_by-map (is_below m) begin_of stays) (sum_by-le-sum_by (λ (s : Stay). cond (is_ended m s.to) 1 0) (λ (s : Stay). cond (is_below m (begin_of s)) 1 0) stays (ended_below_one m)) in
+    λ stays. rw (count_by-map (is_ended m) to stays, count_by-map (is_below m) begin_of stays)
+    (sum_by-le-sum_by (λ (s : Stay). cond (is_ended m s.to) 1 0) (λ (s : Stay). cond (is_below m (begin_of s)) 1 0) stays (ended_below_one m)) in
     rw (one, two) (sum_by-le-sum_by (λ (stays : List Stay). count_by (is_ended m) (map to stays)) (λ (stays : List Stay). count_by (is_below m) (map begin_of stays)) all each)
 
 -- of stays that do not join, at most one is open at a place

@@ -111,7 +111,8 @@ module _ (all : List (List Stay)) (begins : List Place) (ends : List Ratio) (apa
       let one = sum_by-IsPermutation (λ (p : Place). cond (is_below m p) 1 0) (begins_of all) begins same_begins in
       let two = sum_by-IsPermutation (λ (e : Ratio). cond (is_ended m e) 1 0) (ends_of all) ends same_ends in
       let below : IsPartitionedBy (is_below m) begins =
-      λ i j e le in' h. below_test m (get_or begins i e) (at_most_less (value_of (get_or begins i e).mark) (value_of (get_or begins j e).mark) m (marks_rise (get_or begins i e) (get_or begins j e) (rising i j e le in')) (below_holds m (get_or begins j e) h)) in
+      λ i j e le in' h. below_test m (get_or begins i e) (at_most_less (value_of (get_or begins i e).mark) (value_of (get_or begins j e).mark) m
+      (marks_rise (get_or begins i e) (get_or begins j e) (rising i j e le in')) (below_holds m (get_or begins j e) h)) in
       elim (cases_lt k (count_by (is_below m) begins)) [
         | inl more ↦ absurd (let h : IsLess m m = below_holds m (get_or begins k d) (counted (is_below m) begins below k d more) in omega arith)
         | inr few ↦ omega (arith, one, two, ended_below m all)
@@ -217,7 +218,9 @@ module _ (all : List (List Stay)) (begins : List Place) (ends : List Ratio) (apa
             here r (from_of_begin r.k d r.low)
       ]
     where
-      here : (r : IsFirstReached begins ends (length begins) peak) → Any (λ stays. Any (λ stay. begin_of stay ≡ get_or begins r.k (record { mark = peak.mark; after = peak.after })) stays) all → IsPlace all (value_of peak.mark) peak.after
+      here : (r : IsFirstReached begins ends (length begins) peak) →
+          Any (λ stays. Any (λ stay. begin_of stay ≡ get_or begins r.k (record { mark = peak.mark; after = peak.after })) stays) all →
+          IsPlace all (value_of peak.mark) peak.after
       here r (i, stays, lt, e, (j, stay, lt', e', same)) =
           let d : Place = record { mark = peak.mark; after = peak.after } in
           let mark : stay.from ≡ peak.mark = ap (λ (p : Place). p.mark) same ∙ sym (r.mark d) in

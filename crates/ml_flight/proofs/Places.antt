@@ -39,7 +39,8 @@ pub up_to_holds : (m : Fraction) (after : Bool) (p : Place) → up_to m after p 
 up_to_holds m true p h = grind (arith, nat_tests)
 up_to_holds m false p h = go p.after h
   where
-    go : (b : Bool) → (if b then nat_lt (p.mark.num * m.den) (m.num * p.mark.den) else nat_le (p.mark.num * m.den) (m.num * p.mark.den)) ≡ true → MatchBool b (IsLess (value_of p.mark) m) (IsAtMost (value_of p.mark) m)
+    go : (b : Bool) → (if b then nat_lt (p.mark.num * m.den) (m.num * p.mark.den) else nat_le (p.mark.num * m.den) (m.num * p.mark.den)) ≡ true →
+        MatchBool b (IsLess (value_of p.mark) m) (IsAtMost (value_of p.mark) m)
     go true k = grind (arith, nat_tests)
     go false k = grind (arith, nat_tests)
 
@@ -48,7 +49,8 @@ pub up_to_test : (m : Fraction) (after : Bool) (p : Place) → UpTo m after p �
 up_to_test m true p h = grind (arith, nat_tests)
 up_to_test m false p h = go p.after h
   where
-    go : (b : Bool) → MatchBool b (IsLess (value_of p.mark) m) (IsAtMost (value_of p.mark) m) → (if b then nat_lt (p.mark.num * m.den) (m.num * p.mark.den) else nat_le (p.mark.num * m.den) (m.num * p.mark.den)) ≡ true
+    go : (b : Bool) → MatchBool b (IsLess (value_of p.mark) m) (IsAtMost (value_of p.mark) m) →
+        (if b then nat_lt (p.mark.num * m.den) (m.num * p.mark.den) else nat_le (p.mark.num * m.den) (m.num * p.mark.den)) ≡ true
     go true k = grind (arith, nat_tests)
     go false k = grind (arith, nat_tests)
 

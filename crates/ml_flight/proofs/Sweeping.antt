@@ -32,7 +32,8 @@ pub highest_none : (begins : List Place) (ends : List Ratio) (best : Peak) → I
 highest_none begins ends best start = record { greatest = λ j d lt. absurd (omega arith); reached = inl start }
 
 -- the next place has no more open stays than the peak, which stays
-pub highest_keep : (begins : List Place) (ends : List Ratio) (k : ℕ) (best : Peak) → IsHighest begins ends k best → ((d : Place) → open_at begins ends k d ≤ best.count) → IsHighest begins ends (k + 1) best
+pub highest_keep : (begins : List Place) (ends : List Ratio) (k : ℕ) (best : Peak) → IsHighest begins ends k best →
+    ((d : Place) → open_at begins ends k d ≤ best.count) → IsHighest begins ends (k + 1) best
 highest_keep begins ends k best so_far no_more = record {
   greatest = λ j d lt. elim (cases_lt j k) [
     | inl before ↦ so_far.greatest j d before
@@ -45,8 +46,9 @@ highest_keep begins ends k best so_far no_more = record {
 }
 
 -- the next place has more open stays than the peak, and becomes the peak
-pub highest_take : (begins : List Place) (ends : List Ratio) (k : ℕ) (best next : Peak) → IsHighest begins ends k best → best.count < next.count → ((d : Place) → next.count ≡ open_at begins ends k d) →
-    ((d : Place) → next.mark ≡ (get_or begins k d).mark) → ((d : Place) → next.after ≡ (get_or begins k d).after) → IsHighest begins ends (k + 1) next
+pub highest_take : (begins : List Place) (ends : List Ratio) (k : ℕ) (best next : Peak) → IsHighest begins ends k best →
+    best.count < next.count → ((d : Place) → next.count ≡ open_at begins ends k d) → ((d : Place) → next.mark ≡ (get_or begins k d).mark) →
+    ((d : Place) → next.after ≡ (get_or begins k d).after) → IsHighest begins ends (k + 1) next
 highest_take begins ends k best next so_far more count mark after = record {
   greatest = λ j d lt. elim (cases_lt j k) [
     | inl before ↦ (let h = so_far.greatest j d before in omega arith)

@@ -73,7 +73,8 @@ held_here P x xs base q low (zero, y, lt, e, p, at) = (subst P (sym e) p, omega 
 held_here P x xs base q low (suc j, y, lt, e, p, at) = absurd (omega arith)
 
 -- ascending places of elements with the property are no more than there are such elements
-places_low : {X : Type 0} (P : X → Type 0) (xs : List X) (n : ℕ) → HasCount P xs n → (base : ℕ) (places : List ℕ) → Ascending places → ((k : ℕ) → k < length places → Held P xs base (get_or places k 0)) → length places ≤ n
+places_low : {X : Type 0} (P : X → Type 0) (xs : List X) (n : ℕ) → HasCount P xs n → (base : ℕ) (places : List ℕ) →
+    Ascending places → ((k : ℕ) → k < length places → Held P xs base (get_or places k 0)) → length places ≤ n
 unfolding Held Ascending
 places_low P xs n count base [] up held = omega arith
 places_low P [] n none base (q ∷ qs) up held = absurd (let h = held 0 (omega arith) in let lt = h.2 in omega arith)

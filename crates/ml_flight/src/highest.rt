@@ -55,8 +55,10 @@ fn marks_of(alloc: Global, all: &Seq<Seq<Stay>>) -> Result<Marks, AllocError>
 
 // Adds where the stays begin and end.
 fn add(marks: &mut Marks, stays: &[Stay]) -> Result<(), AllocError>
-    ensures begins { OnOk result (marks.new.begins.items ≡ marks.old.begins.items ++ map begin_of stays.now) }
-    ensures ends { OnOk result (marks.new.ends.items ≡ marks.old.ends.items ++ map (λ stay. stay.to) stays.now) }
+    ensures begins { OnOk result
+        (marks.new.begins.items ≡ marks.old.begins.items ++ map begin_of stays.now) }
+    ensures ends { OnOk result
+        (marks.new.ends.items ≡ marks.old.ends.items ++ map (λ stay. stay.to) stays.now) }
 {
     for stay in stays {
         marks.begins.push(stay.begin())?;
@@ -68,8 +70,10 @@ fn add(marks: &mut Marks, stays: &[Stay]) -> Result<(), AllocError>
 // The first place where the most stays are open, or just after 0 where none ever is.
 fn highest(begins: &[Place], ends: &[Ratio]) -> Peak
     requires order { AllPairs (λ a b. IsAtMost (value_of a) (value_of b)) ends.now }
-    requires ended { (k : ℕ) (d : Place) → k < length begins.now → ended ends.now (value_of (slice_index_or begins.now k d).mark) ≤ k + 1 }
-    requires few { (k : ℕ) (d : Place) → k < length begins.now → open_at begins.now ends.now k d ≤ most_labels }
+    requires ended { (k : ℕ) (d : Place) → k < length begins.now →
+        ended ends.now (value_of (slice_index_or begins.now k d).mark) ≤ k + 1 }
+    requires few { (k : ℕ) (d : Place) → k < length begins.now →
+        open_at begins.now ends.now k d ≤ most_labels }
     ensures { IsHighest begins.now ends.now (length begins.now) result }
 {
     let mut best = Peak {

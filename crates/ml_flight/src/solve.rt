@@ -31,7 +31,8 @@ pub(crate) fn quotient(num: u64, den: u64) -> Ratio
 fn narrowed(stay: Stay, u: i64, v: i64) -> Option<Stay>
     requires u_small { unsigned_abs u ≤ 4000000000 }
     requires v_small { unsigned_abs v ≤ 2560 }
-    ensures { (s : Fraction) → HoldsIfSome result s ↔ (HoldsScale stay s × ((u *ℤ pos s.den) <ℤ (v *ℤ pos s.num))) }
+    ensures { (s : Fraction) →
+        HoldsIfSome result s ↔ (HoldsScale stay s × ((u *ℤ pos s.den) <ℤ (v *ℤ pos s.num))) }
 {
     let far = u.unsigned_abs();
     let wide = v.unsigned_abs();
@@ -58,7 +59,8 @@ fn side_stay(stay: Stay, x: i64, l: i32, r: i32, c: i64, w: u32) -> Option<Stay>
     requires r_in_range { IsOffset r }
     requires low_w { w ≤ 4096 }
     requires even_w { w % 2 ≡ 0 }
-    ensures { (s : Fraction) → HoldsIfSome result s ↔ (HoldsScale stay s × SideInWindow x l r c w s) }
+    ensures { (s : Fraction) →
+        HoldsIfSome result s ↔ (HoldsScale stay s × SideInWindow x l r c w s) }
 {
     let half = (w / 2) as i64;
     let ahead = half - l as i64;
@@ -73,7 +75,8 @@ fn side_stay(stay: Stay, x: i64, l: i32, r: i32, c: i64, w: u32) -> Option<Stay>
 #[tactic(auto, unfolding(crate::specs::Shown::BoxInWindow))]
 pub(crate) fn box_stay(stay: Stay, label: &Label, p: &BoxPx, at: &Window) -> Option<Stay>
     requires { IsBox p.now.l p.now.b p.now.r p.now.t }
-    ensures { (s : Fraction) → HoldsIfSome result s ↔ (HoldsScale stay s × BoxInWindow label.now at.now p.now s) }
+    ensures { (s : Fraction) →
+        HoldsIfSome result s ↔ (HoldsScale stay s × BoxInWindow label.now at.now p.now s) }
 {
     match side_stay(stay, label.x(), p.l, p.r, at.cx, at.w) {
         Some(rest) => side_stay(rest, label.y(), p.b, p.t, at.cy, at.h),

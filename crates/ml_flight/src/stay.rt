@@ -40,7 +40,8 @@ impl Stay {
 
     // The scales of the stay that lie above the bound, if there are any.
     pub(crate) fn above(self, bound: Ratio) -> Option<Stay>
-        ensures { (s : Fraction) → HoldsIfSome result s ↔ (HoldsScale self s × IsLess (value_of bound) s) }
+        ensures { (s : Fraction) →
+            HoldsIfSome result s ↔ (HoldsScale self s × IsLess (value_of bound) s) }
     {
         if bound.is_less(&self.from) {
             Some(self)
@@ -57,7 +58,8 @@ impl Stay {
 
     // The scales of the stay that lie below the bound, if there are any.
     pub(crate) fn below(self, bound: Ratio) -> Option<Stay>
-        ensures { (s : Fraction) → HoldsIfSome result s ↔ (HoldsScale self s × IsLess s (value_of bound)) }
+        ensures { (s : Fraction) →
+            HoldsIfSome result s ↔ (HoldsScale self s × IsLess s (value_of bound)) }
     {
         if self.to.is_less(&bound) {
             Some(self)
@@ -75,7 +77,8 @@ impl Stay {
     // Whether the stay and one that begins no earlier make one interval: the other has begun where
     // this one ends.
     pub(crate) fn joins(&self, next: &Stay) -> bool
-        ensures { MatchBool result (HasBegun next.now (value_of self.now.to)) (IsApart self.now next.now) }
+        ensures { MatchBool result (HasBegun next.now (value_of self.now.to))
+            (IsApart self.now next.now) }
     {
         if next.from_in {
             !self.to.is_less(&next.from)
@@ -88,7 +91,8 @@ impl Stay {
     pub(crate) fn joined_with(&self, next: &Stay) -> Stay
         requires order { BeginsBy self.now next.now }
         requires joins { HasBegun next.now (value_of self.now.to) }
-        ensures scales { (s : Fraction) → HoldsScale result s ↔ (HoldsScale self.now s ⊎ HoldsScale next.now s) }
+        ensures scales { (s : Fraction) →
+            HoldsScale result s ↔ (HoldsScale self.now s ⊎ HoldsScale next.now s) }
         ensures from { result.from ≡ self.now.from }
         ensures from_in { result.from_in ≡ self.now.from_in }
     {
@@ -112,7 +116,8 @@ impl Stay {
 
 // The later of two ends.
 fn later(a: Ratio, b: Ratio) -> Ratio
-    ensures below { (s : Fraction) → IsLess s (value_of result) ↔ (IsLess s (value_of a) ⊎ IsLess s (value_of b)) }
+    ensures below { (s : Fraction) →
+        IsLess s (value_of result) ↔ (IsLess s (value_of a) ⊎ IsLess s (value_of b)) }
     ensures from { IsAtMost (value_of a) (value_of result) }
 {
     if a.is_less(&b) { b } else { a }

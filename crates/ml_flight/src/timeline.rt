@@ -28,7 +28,8 @@ pub fn stays(
 ) -> Result<Seq<Stay>, AllocError>
     ensures stays { IfOk result (AreMaximal (IsShownAt label.now span.now at.now)) }
     ensures apart { IfOk result AreApart }
-    ensures scales { IfOk result (λ stays. (s : Fraction) → IsShownAt label.now span.now at.now s ↔ HaveScale stays s) }
+    ensures scales { IfOk result
+        (λ stays. (s : Fraction) → IsShownAt label.now span.now at.now s ↔ HaveScale stays s) }
     ensures views { IfOk result (λ stays. (view : View) → IsViewThrough at.now view →
         IsShownBy label.now span.now view ↔ HaveScale stays (value_of view.scale)) }
     ensures single { length label.now.boxes ≡ 1 → IfOk result (λ stays. length stays ≤ 1) }
@@ -45,7 +46,8 @@ fn box_stays(
     span: &Span,
     at: &Window,
 ) -> Result<Vec<Stay>, AllocError>
-    ensures { IfOk result (λ pieces. (s : Fraction) → IsShownAt label.now span.now at.now s ↔ HaveScale pieces.items s) }
+    ensures { IfOk result (λ pieces.
+        (s : Fraction) → IsShownAt label.now span.now at.now s ↔ HaveScale pieces.items s) }
 {
     let mut pieces = Vec::new(alloc);
     let Some(whole) = Stay::of_span(span) else {
@@ -62,7 +64,8 @@ fn box_stays(
 // The same scales in stays that do not join, from stays in the order in which they begin.
 fn joined(alloc: Global, pieces: &[Stay]) -> Result<Seq<Stay>, AllocError>
     requires { AllPairs BeginsBy pieces.now }
-    ensures same { IfOk result (λ stays. (s : Fraction) → HaveScale stays s ↔ HaveScale pieces.now s) }
+    ensures same { IfOk result
+        (λ stays. (s : Fraction) → HaveScale stays s ↔ HaveScale pieces.now s) }
     ensures apart { IfOk result AreApart }
 {
     let mut stays = Seq::new(alloc);

@@ -1,5 +1,6 @@
 -- Which bytes the words of a state's text have, and how they part it.
-use Rattle.std.proofs.Common.{◌≡◌, ℕ, zero, suc, ◌+◌, ◌%◌, ◌^◌, ◌<◌, ◌≤◌, eqb, true, false, ℤ, pos, negsuc, List, [], ◌∷◌, ◌++◌, length, get_or, flat_map, Option, Some, None, IsUtf8, refl, ap, ◌∙◌, arith, append_assoc, append-nil}
+use Rattle.std.proofs.Common.{◌≡◌, ℕ, zero, suc, ◌+◌, ◌%◌, ◌^◌, ◌<◌, ◌≤◌, eqb, true, false, ℤ, pos, negsuc, List, [], ◌∷◌, ◌++◌}
+use Rattle.std.proofs.Common.{length, get_or, flat_map, Option, Some, None, IsUtf8, refl, ap, ◌∙◌, arith, append_assoc, append-nil}
 use Rattle.std.specs.Prelude.{All, ◌==◌}
 use Rattle.std.specs.Fmt.{decimal, signed_decimal}
 use Rattle.std.proofs.lemmas.Bool.Decides.{nat_tests}
@@ -52,7 +53,8 @@ within_utf8 low high xs h a = IsUtf8-from_ascii xs (IsAscii-from_all xs (λ k d 
 
 -- the decimal text of a number has digits alone
 pub decimal_within : (n : ℕ) → n < 2 ^ 64 → Within 48 57 (decimal n)
-decimal_within n h = decimal_by_steps (λ n ds. Within 48 57 ds) (λ n low. (omega arith, omega arith, tt)) (λ n ds low at. within_append 48 57 ds ((48 + n % 10) ∷ []) at (omega arith, omega arith, tt)) n h
+decimal_within n h = decimal_by_steps (λ n ds. Within 48 57 ds) (λ n low. (omega arith, omega arith, tt))
+    (λ n ds low at. within_append 48 57 ds ((48 + n % 10) ∷ []) at (omega arith, omega arith, tt)) n h
 
 -- the number, without its sign, has a decimal text of at most ten digits
 abbrev pub IsSmall : ℤ → Type 0

@@ -1,5 +1,6 @@
 -- What changes between two lists of labels.
-use Rattle.std.proofs.Common.{◌≡◌, ◌≢◌, ℕ, ◌+◌, ◌<◌, ◌≤◌, List, [], ◌∷◌, ◌++◌, length, get_or, take, map, Contains, Option, Some, None, ◌⊎◌, inl, inr, refl, sym, ap, subst, ◌∙◌, arith, length-append, length-take}
+use Rattle.std.proofs.Common.{◌≡◌, ◌≢◌, ℕ, ◌+◌, ◌<◌, ◌≤◌, List, [], ◌∷◌, ◌++◌, length, get_or, take, map, Contains, Option}
+use Rattle.std.proofs.Common.{Some, None, ◌⊎◌, inl, inr, refl, sym, ap, subst, ◌∙◌, arith, length-append, length-take}
 use Rattle.std.specs.Prelude.{◌↔◌}
 use Rattle.std.specs.Option.{option_map}
 use Rattle.std.specs.Ordering.{nat_cmp}
@@ -64,7 +65,8 @@ module _ (labels : List Label) (slots : List Slot) (ordered : IsLabelList labels
 
 -- ---- the change of an id
 
-module _ (old new : Listed) (listed : IsListed old) (listed_too : IsListed new) (id : List ℕ) (was is : Option Ranged) (before : IsStateOf old.labels.now old.slots.now id was) (after : IsStateOf new.labels.now new.slots.now id is) where
+module _ (old new : Listed) (listed : IsListed old) (listed_too : IsListed new) (id : List ℕ) (was is : Option Ranged)
+    (before : IsStateOf old.labels.now old.slots.now id was) (after : IsStateOf new.labels.now new.slots.now id is) where
   was_only : (c : Change) → (h : IsChangeIn old new c) → c.id ≡ id → h.was ≡ was
   was_only c h same =
       let P : List ℕ → Type 0 = λ i. IsStateOf old.labels.now old.slots.now i h.was in
@@ -79,7 +81,8 @@ module _ (old new : Listed) (listed : IsListed old) (listed_too : IsListed new) 
   pub no_change : was ≡ is → IsChangeOf old new id None
   no_change same c = ((λ e. absurd cc), (λ h. absurd (h.0.differ (was_only c h.0 h.1 ∙ same ∙ sym (is_only c h.0 h.1)))))
 
-  module _ (differ : was ≢ is) (c : Change) (own : c.id ≡ id) (span_before : c.before ≡ option_map (λ (one : Ranged). one.span) was) (span_after : c.after ≡ option_map (λ (one : Ranged). one.span) is) where
+  module _ (differ : was ≢ is) (c : Change) (own : c.id ≡ id) (span_before : c.before ≡ option_map (λ (one : Ranged). one.span) was)
+      (span_after : c.after ≡ option_map (λ (one : Ranged). one.span) is) where
     changes : IsChangeIn old new c
     changes =
         let P : List ℕ → Type 0 = λ i. IsStateOf old.labels.now old.slots.now i was in
@@ -122,7 +125,8 @@ module _ (old new : Listed) where
     Or : List ℕ → Type 0
     Or x = P x ⊎ (x ≡ id)
 
-    more_are : (change : Option Change) (before after : List Change) → AreChangesAmong old new P before → IsChangeOf old new id change → IsJoinedBy change before after → (c : Change) → Contains after c ↔ (IsChangeIn old new c × (P c.id ⊎ (c.id ≡ id)))
+    more_are : (change : Option Change) (before after : List Change) → AreChangesAmong old new P before → IsChangeOf old new id change →
+        IsJoinedBy change before after → (c : Change) → Contains after c ↔ (IsChangeIn old new c × (P c.id ⊎ (c.id ≡ id)))
     more_are None before after at of joined c = rw joined (
       (λ h. let x = (at.are c).0 h in (x.0, inl x.1)),
       (λ h. elim h.1 [
@@ -197,7 +201,9 @@ module _ (old new : Listed) (listed : IsListed new) where
   new_start = none_among old new (HasId []) no_ids
 
   -- no label before the next one of the new list has its id, so its change comes in behind theirs
-  pub new_step : (k : ℕ) (a : Label) (before after : List Change) → k < length new.labels.now → get_or new.labels.now k a ≡ a → AreChangesAmong old new (HasId (take k new.labels.now)) before → IsTakenIn old new a.order.id before after → AreChangesAmong old new (HasId (take (k + 1) new.labels.now)) after
+  pub new_step : (k : ℕ) (a : Label) (before after : List Change) → k < length new.labels.now →
+      get_or new.labels.now k a ≡ a → AreChangesAmong old new (HasId (take k new.labels.now)) before →
+      IsTakenIn old new a.order.id before after → AreChangesAmong old new (HasId (take (k + 1) new.labels.now)) after
   new_step k a before after lt is at taken =
       let labels = new.labels.now in
       let front = take k labels in
@@ -213,7 +219,8 @@ module _ (old new : Listed) (listed : IsListed new) where
 module _ (old new : Listed) (listed : IsListed old) where
   -- before the first label of the old list, the changes are those of the new list's ids
   pub all_start : (some : List Change) → AreChangesAmong old new (HasId new.labels.now) some → AreChangesAmong old new (λ id. HasId new.labels.now id ⊎ HasId (take 0 old.labels.now) id) some
-  all_start some at = same_among old new (HasId new.labels.now) (λ id. HasId new.labels.now id ⊎ HasId [] id) some (λ id h. inl h) (λ id h. elim h [ inl known ↦ known | inr none ↦ absurd (no_ids id none) ]) at
+  all_start some at = same_among old new (HasId new.labels.now) (λ id. HasId new.labels.now id ⊎ HasId [] id) some
+      (λ id h. inl h) (λ id h. elim h [ inl known ↦ known | inr none ↦ absurd (no_ids id none) ]) at
 
   module _ (k : ℕ) (a : Label) (lt : k < length old.labels.now) (is : get_or old.labels.now k a ≡ a) where
     forth : (id : List ℕ) → (HasId new.labels.now id ⊎ HasId (take k old.labels.now) id) ⊎ (id ≡ a.order.id) → HasId new.labels.now id ⊎ HasId (take k old.labels.now ++ a ∷ []) id
@@ -228,13 +235,15 @@ module _ (old new : Listed) (listed : IsListed old) where
       | inr there ↦ elim (has_cases (take k old.labels.now) a id there) [ inl earlier ↦ inl (inr earlier) | inr last ↦ inr last ]
     ]
 
-    longer : (after : List Change) → AreChangesAmong old new (λ id. HasId new.labels.now id ⊎ HasId (take k old.labels.now ++ a ∷ []) id) after → AreChangesAmong old new (λ id. HasId new.labels.now id ⊎ HasId (take (k + 1) old.labels.now) id) after
+    longer : (after : List Change) → AreChangesAmong old new (λ id. HasId new.labels.now id ⊎ HasId (take k old.labels.now ++ a ∷ []) id) after →
+        AreChangesAmong old new (λ id. HasId new.labels.now id ⊎ HasId (take (k + 1) old.labels.now) id) after
     longer after h =
         let P : List Label → Type 0 = λ ls. AreChangesAmong old new (λ id. HasId new.labels.now id ⊎ HasId ls id) after in
         subst P (sym (take_more old.labels.now k a lt ∙ ap (λ (l : Label). take k old.labels.now ++ l ∷ []) is)) h
 
     -- the change of the next old label comes in only where the new list lacks its id, so that none comes in twice
-    pub all_step : (before after : List Change) → AreChangesAmong old new (λ id. HasId new.labels.now id ⊎ HasId (take k old.labels.now) id) before → IsTakenIfGone old new a.order.id before after → AreChangesAmong old new (λ id. HasId new.labels.now id ⊎ HasId (take (k + 1) old.labels.now) id) after
+    pub all_step : (before after : List Change) → AreChangesAmong old new (λ id. HasId new.labels.now id ⊎ HasId (take k old.labels.now) id) before →
+        IsTakenIfGone old new a.order.id before after → AreChangesAmong old new (λ id. HasId new.labels.now id ⊎ HasId (take (k + 1) old.labels.now) id) after
     all_step before after at taken = elim taken [
       | inl known ↦
           longer after (subst (λ (cs : List Change). AreChangesAmong old new (λ id. HasId new.labels.now id ⊎ HasId (take k old.labels.now ++ a ∷ []) id) cs) (sym known.1)
@@ -242,19 +251,23 @@ module _ (old new : Listed) (listed : IsListed old) where
           (λ id h. forth id (inl h))
           (λ id h. elim (back id h) [ inl there ↦ there | inr last ↦ inl (subst (HasId new.labels.now) (sym last) known.0) ]) at))
       | inr gone ↦
-          longer after (same_among old new (λ id. (HasId new.labels.now id ⊎ HasId (take k old.labels.now) id) ⊎ (id ≡ a.order.id)) (λ id. HasId new.labels.now id ⊎ HasId (take k old.labels.now ++ a ∷ []) id) after forth back
+          longer after (same_among old new (λ id. (HasId new.labels.now id ⊎ HasId (take k old.labels.now) id) ⊎ (id ≡ a.order.id))
+          (λ id. HasId new.labels.now id ⊎ HasId (take k old.labels.now ++ a ∷ []) id) after forth back
           (more_among old new (λ id. HasId new.labels.now id ⊎ HasId (take k old.labels.now) id) a.order.id before after
           (λ h. elim h [ inl there ↦ gone.0 there.0 there.1 | inr there ↦ new_id old.labels.now k a listed.ordered lt is there ]) at gone.1))
     ]
 
 -- an id that changes is that of a label
-changed_id : (old new : Listed) (id : List ℕ) (was is : Option Ranged) → IsStateOf old.labels.now old.slots.now id was → IsStateOf new.labels.now new.slots.now id is → was ≢ is → HasId new.labels.now id ⊎ HasId old.labels.now id
+changed_id : (old new : Listed) (id : List ℕ) (was is : Option Ranged) → IsStateOf old.labels.now old.slots.now id was →
+    IsStateOf new.labels.now new.slots.now id is → was ≢ is → HasId new.labels.now id ⊎ HasId old.labels.now id
 changed_id old new id None None before after differ = absurd (differ refl)
 changed_id old new id (Some a) is before after differ = inr (before.place, (before.is_place, λ d. ap (λ (u : Unplaced). u.id) (before.its_label d) ∙ before.its_id))
 changed_id old new id None (Some b) before after differ = inl (after.place, (after.is_place, λ d. ap (λ (u : Unplaced). u.id) (after.its_label d) ∙ after.its_id))
 
 -- the changes of the ids of both lists, sorted by id, are all changes from the old state to the new one
-pub all_changes : (old new : Listed) (some sorted : List Change) → AreChangesAmong old new (λ id. HasId new.labels.now id ⊎ HasId old.labels.now id) some → ((c : Change) → Contains sorted c ↔ Contains some c) → IsStrictlySortedBy (slice_cmp nat_cmp) (map (λ (c : Change). c.id) sorted) → AreChanges old.labels.now old.slots.now new.labels.now new.slots.now sorted
+pub all_changes : (old new : Listed) (some sorted : List Change) → AreChangesAmong old new (λ id. HasId new.labels.now id ⊎ HasId old.labels.now id) some →
+    ((c : Change) → Contains sorted c ↔ Contains some c) → IsStrictlySortedBy (slice_cmp nat_cmp) (map (λ (c : Change). c.id) sorted) →
+    AreChanges old.labels.now old.slots.now new.labels.now new.slots.now sorted
 all_changes old new some sorted at same ascending = record {
   ascending = ascending;
   sound = (λ k d lt. ((at.are (get_or sorted k d)).0 ((same (get_or sorted k d)).0 (Contains-get_or sorted k d lt))).0);

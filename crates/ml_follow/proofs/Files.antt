@@ -1,5 +1,6 @@
 -- A file of states, line by line.
-use Rattle.std.proofs.Common.{◌≡◌, ◌≢◌, ℕ, ◌+◌, ◌-◌, ◌<◌, ◌≤◌, List, [], ◌∷◌, ◌++◌, length, get_or, take, Option, Some, None, inl, inr, ◌⊎◌, refl, sym, ap, subst, ◌∙◌, arith, append_assoc, append-nil, length-append}
+use Rattle.std.proofs.Common.{◌≡◌, ◌≢◌, ℕ, ◌+◌, ◌-◌, ◌<◌, ◌≤◌, List, [], ◌∷◌, ◌++◌, length, get_or, take, Option, Some, None}
+use Rattle.std.proofs.Common.{inl, inr, ◌⊎◌, refl, sym, ap, subst, ◌∙◌, arith, append_assoc, append-nil, length-append}
 use Rattle.std.specs.Prelude.{◌==◌, Result, Ok, Err, IfErr}
 use Rattle.std.specs.Result.{IsErrAnd}
 use Rattle.std.proofs.Math.Seq.{get_or-append_seam, take-append_seam, take-append-add}
@@ -35,7 +36,8 @@ front_of done more some =
 pub file_start : (bytes : List ℕ) → FileSoFar bytes bytes 0 [] None
 file_start bytes = record { done = []; split = refl; many = refl; low = omega arith; read = read_none }
 
-module _ (bytes rest line after : List ℕ) (number : ℕ) (states : List State) (last : Option Opened) (next : parts 10 rest ≡ line ∷ parts 10 after) (shorter : length after < length rest) (so_far : FileSoFar bytes rest number states last) where
+module _ (bytes rest line after : List ℕ) (number : ℕ) (states : List State) (last : Option Opened) (next : parts 10 rest ≡ line ∷ parts 10 after)
+    (shorter : length after < length rest) (so_far : FileSoFar bytes rest number states last) where
   split_here : parts 10 bytes ≡ so_far.done ++ line ∷ parts 10 after
   split_here = so_far.split ∙ ap (λ (ps : List (List ℕ)). so_far.done ++ ps) next
 
@@ -68,8 +70,10 @@ module _ (bytes rest line after : List ℕ) (number : ℕ) (states : List State)
   file_fault (BadState k) h =
       let m = so_far.many in
       let rest_lines = take (length (parts 10 after) - 1) (parts 10 after) in
-      let front : take number (ended_lines bytes) ≡ so_far.done = ap (take number) lines_here ∙ ap (λ (n : ℕ). take n (so_far.done ++ line ∷ rest_lines)) (sym m) ∙ take-append_seam so_far.done (line ∷ rest_lines) in
-      let here : get_or (ended_lines bytes) number [] ≡ line = ap (λ (ls : List (List ℕ)). get_or ls number []) lines_here ∙ ap (λ (n : ℕ). get_or (so_far.done ++ line ∷ rest_lines) n []) (sym m) ∙ get_or-append_seam so_far.done line rest_lines [] in
+      let front : take number (ended_lines bytes) ≡ so_far.done =
+      ap (take number) lines_here ∙ ap (λ (n : ℕ). take n (so_far.done ++ line ∷ rest_lines)) (sym m) ∙ take-append_seam so_far.done (line ∷ rest_lines) in
+      let here : get_or (ended_lines bytes) number [] ≡ line = ap (λ (ls : List (List ℕ)). get_or ls number []) lines_here
+      ∙ ap (λ (n : ℕ). get_or (so_far.done ++ line ∷ rest_lines) n []) (sym m) ∙ get_or-append_seam so_far.done line rest_lines [] in
       let n = ap length lines_here ∙ length-append so_far.done (line ∷ rest_lines) in
       inl (record {
         place = number;

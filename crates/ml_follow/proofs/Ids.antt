@@ -14,7 +14,8 @@ use Rattle.ml_follow.specs.Reading.{HasIds}
 use Rattle.ml_follow.proofs.Changing.{has_front, has_last, has_cases}
 
 -- an id that the set has is that of a label that has come
-pub known_id : (labels : List Label) (taken : BTreeSet (List ℕ)) (id : List ℕ) (b : Bool) → HasIds labels taken → b ≡ contains_by (slice_cmp nat_cmp id) taken → b ≡ true → (j : ℕ) × IsPlaceOf labels id j
+pub known_id : (labels : List Label) (taken : BTreeSet (List ℕ)) (id : List ℕ) (b : Bool) → HasIds labels taken →
+    b ≡ contains_by (slice_cmp nat_cmp id) taken → b ≡ true → (j : ℕ) × IsPlaceOf labels id j
 known_id labels taken id b has e t = let h = has id in rw (sym e ∙ t) at h
 
 -- an id that the set lacks is that of no label so far
@@ -28,7 +29,8 @@ module _ (labels : List Label) (label : Label) where
     | inr same ↦ other same
   ]
 
-  by_old : (t : Bool) (id : List ℕ) → id ≢ label.order.id → MatchBool t ((j : ℕ) × IsPlaceOf labels id j) (IsNoId labels id) → MatchBool t ((j : ℕ) × IsPlaceOf (labels ++ label ∷ []) id j) (IsNoId (labels ++ label ∷ []) id)
+  by_old : (t : Bool) (id : List ℕ) → id ≢ label.order.id → MatchBool t ((j : ℕ) × IsPlaceOf labels id j) (IsNoId labels id) →
+      MatchBool t ((j : ℕ) × IsPlaceOf (labels ++ label ∷ []) id j) (IsNoId (labels ++ label ∷ []) id)
   by_old true id other h = has_front labels label id h
   by_old false id other h = still_new id h other
 
@@ -39,7 +41,8 @@ module _ (labels : List Label) (label : Label) where
       updates.0 id ∙ ap (λ (t : Bool). cond t true (contains_by (slice_cmp nat_cmp id) old)) (is_eq-slice_cmp label.order.id id ∙ nat_list_eq_equiv.symm label.order.id id) in
       rw e (by_test (bytes_eq id label.order.id) refl)
     where
-      by_test : (b : Bool) → bytes_eq id label.order.id ≡ b → MatchBool (cond (bytes_eq id label.order.id) true (contains_by (slice_cmp nat_cmp id) old)) ((j : ℕ) × IsPlaceOf (labels ++ label ∷ []) id j) (IsNoId (labels ++ label ∷ []) id)
+      by_test : (b : Bool) → bytes_eq id label.order.id ≡ b → MatchBool (cond (bytes_eq id label.order.id) true (contains_by (slice_cmp nat_cmp id) old))
+          ((j : ℕ) × IsPlaceOf (labels ++ label ∷ []) id j) (IsNoId (labels ++ label ∷ []) id)
       by_test true e = rw e (has_last labels label id ((bytes_eq-Decides id label.order.id).0 e))
       by_test false e =
           let other : id ≢ label.order.id = λ same. (let yes : bytes_eq id label.order.id ≡ true = (bytes_eq-Decides id label.order.id).1 same in let no : true ≡ false = sym yes ∙ e in absurd (cc)) in

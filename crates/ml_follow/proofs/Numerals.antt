@@ -27,14 +27,16 @@ three a b t most p q r = grind (arith, nat_tests)
 -- a number that has no more digits than are allowed is read back from its decimal text
 pub up_to_back : (most n : ℕ) → 0 < most → n < 10 ^ most → n < 2 ^ 64 → number_up_to most (decimal n) ≡ Some n
 up_to_back most n some low fits =
-    let test : are_up_to most (decimal n) ≡ true = three (length (decimal n)) 0 (all_ascii_digits (decimal n)) most (decimal_nonempty n fits) (length-decimal-le most n some low fits) (digits_decimal digits_model n fits) in
+    let test : are_up_to most (decimal n) ≡ true = three (length (decimal n)) 0 (all_ascii_digits (decimal n)) most
+    (decimal_nonempty n fits) (length-decimal-le most n some low fits) (digits_decimal digits_model n fits) in
     up_to_some most (decimal n) test ∙ ap Some (digits_value-decimal digits_model n fits)
 
 -- a number of at most ten digits is read back by the reader of numerals, which takes no sign
 pub numeral_back : (n : ℕ) → n < 10 ^ 10 → numeral (decimal n) ≡ Some n
 numeral_back n low =
     let fits : n < 2 ^ 64 = omega arith in
-    let test : is_numeral (decimal n) ≡ true = three (length (decimal n)) 0 (all_ascii_digits (decimal n)) 10 (decimal_nonempty n fits) (length-decimal-le 10 n (omega arith) low fits) (digits_decimal digits_model n fits) in
+    let test : is_numeral (decimal n) ≡ true = three (length (decimal n)) 0 (all_ascii_digits (decimal n)) 10
+    (decimal_nonempty n fits) (length-decimal-le 10 n (omega arith) low fits) (digits_decimal digits_model n fits) in
     numeral_some (decimal n) test ∙ ap Some (digits_value-decimal digits_model n fits)
 
 -- a number of at most ten digits is read back with its sign

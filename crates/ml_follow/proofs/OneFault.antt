@@ -1,5 +1,6 @@
 -- A file has one line at fault at most.
-use Rattle.std.proofs.Common.{◌≡◌, ℕ, suc, ◌+◌, ◌<◌, List, [], ◌∷◌, ◌++◌, length, get_or, take, drop, Option, Some, None, inl, inr, refl, sym, ap, subst, ◌∙◌, arith, append_assoc, append-nil, length-append}
+use Rattle.std.proofs.Common.{◌≡◌, ℕ, suc, ◌+◌, ◌<◌, List, [], ◌∷◌, ◌++◌, length, get_or, take, drop, Option, Some, None}
+use Rattle.std.proofs.Common.{inl, inr, refl, sym, ap, subst, ◌∙◌, arith, append_assoc, append-nil, length-append}
 use Rattle.std.specs.Prelude.{MatchOption, Result, Ok, Err, IfOk, IfErr}
 use Rattle.std.proofs.Math.ListN.{get_or-append}
 use Rattle.std.proofs.Math.Seq.{get_or-append_seam, drop-cons}
@@ -22,7 +23,8 @@ use Rattle.ml_follow.proofs.OneReading.{head_same, state_same, no_fault}
 
 module _ (spelling : OneSpelling) (lists : OneList) where
   -- the line behind the beginning of a state is that of its next label, where more lines write labels of one that begins alike
-  module _ (rows more rest tail : List (List ℕ)) (line : List ℕ) (n : ℕ) (a : State) (o : Unfinished) (same : rows ++ line ∷ tail ≡ more ++ rest) (counts : o.count ≡ n) (begun : WriteRows rows o.count o.state.labels o.state.slots) (long : length rows < length more) (written : WriteRows more n a.labels a.slots) where
+  module _ (rows more rest tail : List (List ℕ)) (line : List ℕ) (n : ℕ) (a : State) (o : Unfinished) (same : rows ++ line ∷ tail ≡ more ++ rest) (counts : o.count ≡ n)
+      (begun : WriteRows rows o.count o.state.labels o.state.slots) (long : length rows < length more) (written : WriteRows more n a.labels a.slots) where
     same_row : (k : ℕ) → k < length rows → get_or rows k [] ≡ get_or more k []
     same_row k lt =
         sym (get_or-append rows (line ∷ tail) [] k lt) ∙ ap (λ (ls : List (List ℕ)). get_or ls k []) same ∙ get_or-append more rest [] k (omega arith)
@@ -52,7 +54,8 @@ module _ (spelling : OneSpelling) (lists : OneList) where
         let other = written.written j the_label (omega arith) in
         let counted = subst (λ (k : ℕ). ReadsRow (get_or more j []) j k (get_or a.labels j the_label) (get_or a.slots j no_slot)) (sym counts) other in
         let there = subst (λ (l : List ℕ). ReadsRow l j o.count (get_or a.labels j the_label) (get_or a.slots j no_slot)) (sym (same_row j below)) counted in
-        let ids = same_id spelling (get_or rows j []) j o.count (get_or o.state.labels j the_label) (get_or a.labels j the_label) (get_or o.state.slots j no_slot) (get_or a.slots j no_slot) one there in
+        let ids = same_id spelling (get_or rows j []) j o.count (get_or o.state.labels j the_label)
+        (get_or a.labels j the_label) (get_or o.state.slots j no_slot) (get_or a.slots j no_slot) one there in
         written.differ j (length rows) the_label below at_next (sym ids ∙ place.1 the_label)
 
     next_is : ((label : Label) (slot : Slot) → ¬ (IsNextRow line o label slot)) → ⊥
@@ -73,8 +76,10 @@ module _ (spelling : OneSpelling) (lists : OneList) where
         next_is begin.rows longer.rows [] tail line n a o (tails ∙ sym (append-nil longer.rows)) counts begin.its_rows (omega arith) longer.its_rows never
 
   -- a line that is at fault is none of those that write states and the beginning of one more
-  due_line : (others lead : List State) (lines front back those begun : List (List ℕ)) (line : List ℕ) (tail : List (List ℕ)) (last next : Option Unfinished) → lines ≡ front ++ (back ++ line ∷ tail) → lines ≡ those ++ begun → WriteStates those others → WriteStates front lead
-      → MatchOption last (back ≡ []) (λ o. Begin back o.count o.state × (length o.state.labels < o.count)) → MatchOption next (begun ≡ []) (λ o. Begin begun o.count o.state × (length o.state.labels < o.count)) → IsFaulty line last → ⊥
+  due_line : (others lead : List State) (lines front back those begun : List (List ℕ)) (line : List ℕ) (tail : List (List ℕ)) (last next : Option Unfinished) →
+      lines ≡ front ++ (back ++ line ∷ tail) → lines ≡ those ++ begun → WriteStates those others → WriteStates front lead →
+      MatchOption last (back ≡ []) (λ o. Begin back o.count o.state × (length o.state.labels < o.count)) →
+      MatchOption next (begun ≡ []) (λ o. Begin begun o.count o.state × (length o.state.labels < o.count)) → IsFaulty line last → ⊥
   due_line [] lead lines front back those begun line tail last None is are w v b n faulty =
       let e = ap length (sym are ∙ is) ∙ length-append front (back ++ line ∷ tail) in
       let f = length-append back (line ∷ tail) in
@@ -93,7 +98,8 @@ module _ (spelling : OneSpelling) (lists : OneList) where
   due_line [] (s ∷ lead) lines front back those begun line tail last (Some u) is are w v b n faulty =
       let rest = back ++ line ∷ tail in
       let e : v.3.head ∷ (v.3.rows ++ (v.1 ++ rest)) ≡ n.0.head ∷ n.0.rows =
-      ap (λ (ls : List (List ℕ)). ls ++ (v.1 ++ rest)) (sym v.3.lines_are) ∙ sym (append_assoc v.0 v.1 rest) ∙ ap (λ (ls : List (List ℕ)). ls ++ rest) (sym v.2) ∙ sym is ∙ are ∙ ap (λ (ls : List (List ℕ)). ls ++ begun) w ∙ n.0.lines_are in
+      ap (λ (ls : List (List ℕ)). ls ++ (v.1 ++ rest)) (sym v.3.lines_are) ∙ sym (append_assoc v.0 v.1 rest)
+      ∙ ap (λ (ls : List (List ℕ)). ls ++ rest) (sym v.2) ∙ sym is ∙ are ∙ ap (λ (ls : List (List ℕ)). ls ++ begun) w ∙ n.0.lines_are in
       let first : v.3.head ≡ n.0.head = cc e in
       let tails : v.3.rows ++ (v.1 ++ rest) ≡ n.0.rows = cc e in
       let counts = (head_same n.0.head s.rev (length s.labels) u.state.rev u.count (subst (λ (l : List ℕ). ReadsHead l s.rev (length s.labels)) first v.3.its_head) n.0.its_head).1 in
@@ -104,13 +110,15 @@ module _ (spelling : OneSpelling) (lists : OneList) where
       omega arith
   due_line (a ∷ others) [] lines front back those begun line tail None next is are w v b n faulty =
       let e : line ∷ tail ≡ w.3.head ∷ ((w.3.rows ++ w.1) ++ begun) =
-      sym (is ∙ ap (λ (ls : List (List ℕ)). ls ++ (back ++ line ∷ tail)) v ∙ ap (λ (ls : List (List ℕ)). ls ++ line ∷ tail) b) ∙ are ∙ ap (λ (ls : List (List ℕ)). ls ++ begun) w.2 ∙ ap (λ (ls : List (List ℕ)). (ls ++ w.1) ++ begun) w.3.lines_are in
+      sym (is ∙ ap (λ (ls : List (List ℕ)). ls ++ (back ++ line ∷ tail)) v ∙ ap (λ (ls : List (List ℕ)). ls ++ line ∷ tail) b)
+      ∙ are ∙ ap (λ (ls : List (List ℕ)). ls ++ begun) w.2 ∙ ap (λ (ls : List (List ℕ)). (ls ++ w.1) ++ begun) w.3.lines_are in
       let first : line ≡ w.3.head = cc e in
       faulty a.rev (length a.labels) (subst (λ (l : List ℕ). ReadsHead l a.rev (length a.labels)) (sym first) w.3.its_head)
   due_line (a ∷ others) [] lines front back those begun line tail (Some o) next is are w v b n faulty =
       let begin = b.0 in
       let e : begin.head ∷ (begin.rows ++ line ∷ tail) ≡ w.3.head ∷ (w.3.rows ++ (w.1 ++ begun)) =
-      sym (is ∙ ap (λ (ls : List (List ℕ)). ls ++ (back ++ line ∷ tail)) v ∙ ap (λ (ls : List (List ℕ)). ls ++ line ∷ tail) begin.lines_are) ∙ are ∙ ap (λ (ls : List (List ℕ)). ls ++ begun) w.2 ∙ append_assoc w.0 w.1 begun
+      sym (is ∙ ap (λ (ls : List (List ℕ)). ls ++ (back ++ line ∷ tail)) v ∙ ap (λ (ls : List (List ℕ)). ls ++ line ∷ tail) begin.lines_are)
+      ∙ are ∙ ap (λ (ls : List (List ℕ)). ls ++ begun) w.2 ∙ append_assoc w.0 w.1 begun
       ∙ ap (λ (ls : List (List ℕ)). ls ++ (w.1 ++ begun)) w.3.lines_are in
       let first : begin.head ≡ w.3.head = cc e in
       let tails : begin.rows ++ line ∷ tail ≡ w.3.rows ++ (w.1 ++ begun) = cc e in
@@ -127,7 +135,8 @@ module _ (spelling : OneSpelling) (lists : OneList) where
       due_line others lead (w.1 ++ begun) v.1 back w.1 begun line tail last next (sym same.1) refl w.4 v.4 b n faulty
 
   -- of the lines that write states and the beginning of one more none is at fault
-  not_before : (lines : List (List ℕ)) (p q : ℕ) (lead others : List State) (last next : Option Unfinished) → p < q → p < length lines → WriteUpTo (take p lines) lead last → WriteUpTo (take q lines) others next → IsFaulty (get_or lines p []) last → ⊥
+  not_before : (lines : List (List ℕ)) (p q : ℕ) (lead others : List State) (last next : Option Unfinished) → p < q → p < length lines →
+      WriteUpTo (take p lines) lead last → WriteUpTo (take q lines) others next → IsFaulty (get_or lines p []) last → ⊥
   not_before lines p q lead others last next less lt u w faulty =
       let all = take q lines in
       let line = get_or lines p [] in
@@ -141,7 +150,8 @@ module _ (spelling : OneSpelling) (lists : OneList) where
   line_and_end : (bytes : List ℕ) (k j : ℕ) → IsFaultyLine bytes k → IsCutShort bytes j → ⊥
   line_and_end bytes k j one two =
       let lines = ended_lines bytes in
-      let whole : WriteUpTo (take (length lines) lines) two.states two.last = subst (λ (ls : List (List ℕ)). WriteUpTo ls two.states two.last) (sym (take_all (length lines) lines (omega arith))) two.before in
+      let whole : WriteUpTo (take (length lines) lines) two.states two.last =
+      subst (λ (ls : List (List ℕ)). WriteUpTo ls two.states two.last) (sym (take_all (length lines) lines (omega arith))) two.before in
       not_before lines one.place (length lines) one.states two.states one.last two.last one.is_there one.is_there one.before whole one.faulty
 
   -- a file is at fault at one number only, be it that of a bad line or that behind a file cut short
@@ -157,7 +167,8 @@ module _ (spelling : OneSpelling) (lists : OneList) where
   one_fault bytes k j (inr one) (inr two) = one.number ∙ sym two.number
 
   -- a file is refused at a line exactly where it is at fault there
-  pub refused_at : (bytes : List ℕ) (r : Result (List State) StateFault) → IfOk r (λ states. AreStates bytes states) → IfErr r (λ fault. IsStatesFault bytes fault) → (k : ℕ) → RefusesExactly r (BadState k) Memory (IsStatesFault bytes (BadState k))
+  pub refused_at : (bytes : List ℕ) (r : Result (List State) StateFault) → IfOk r (λ states. AreStates bytes states) →
+      IfErr r (λ fault. IsStatesFault bytes fault) → (k : ℕ) → RefusesExactly r (BadState k) Memory (IsStatesFault bytes (BadState k))
   refused_at bytes (Ok states) ok err k = (λ e. absurd (cc e), λ fault. absurd (no_fault spelling lists bytes states k ok fault))
   refused_at bytes (Err (BadState j)) ok err k = (
     λ e.

@@ -1,5 +1,6 @@
 -- A file has one reading at most, and none where it is refused.
-use Rattle.std.proofs.Common.{◌^◌, ◌≡◌, ◌≢◌, ℕ, suc, ◌-◌, ◌*◌, ◌<◌, ◌≤◌, pos, List, [], ◌∷◌, ◌++◌, length, get_or, take, drop, Option, Some, None, inl, inr, refl, sym, ap, subst, ◌∙◌, arith, append_assoc, length-append}
+use Rattle.std.proofs.Common.{◌^◌, ◌≡◌, ◌≢◌, ℕ, suc, ◌-◌, ◌*◌, ◌<◌, ◌≤◌, pos, List, [], ◌∷◌, ◌++◌, length, get_or, take, drop}
+use Rattle.std.proofs.Common.{Option, Some, None, inl, inr, refl, sym, ap, subst, ◌∙◌, arith, append_assoc, length-append}
 use Rattle.std.specs.Prelude.{All, MatchOption, Result, Ok, Err, IfOk, IfErr, codes, replicate}
 use Rattle.std.proofs.Props.{props}
 use mathlib.Core.HLevel.{is_prop→PathP}
@@ -81,7 +82,8 @@ label_same a b o x y p t l h m i = record {
 }
 
 module _ (spelling : OneSpelling) (lists : OneList) where
-  words_same : (id x y min max margin until blocker : List ℕ) (boxes : List (List ℕ)) (place count : ℕ) (a b : Label) (s t : Slot) → WriteRow id x y min max margin until blocker boxes place count a s → WriteRow id x y min max margin until blocker boxes place count b t → (a ≡ b) × (s ≡ t)
+  words_same : (id x y min max margin until blocker : List ℕ) (boxes : List (List ℕ)) (place count : ℕ) (a b : Label) (s t : Slot) →
+      WriteRow id x y min max margin until blocker boxes place count a s → WriteRow id x y min max margin until blocker boxes place count b t → (a ≡ b) × (s ≡ t)
   words_same id x y min max margin until blocker boxes place count a b s t one two =
       let v = one.its_label in
       let w = two.its_label in
@@ -120,18 +122,21 @@ module _ (spelling : OneSpelling) (lists : OneList) where
       let rest = split_same xs ys us vs (omega arith) more in
       (ap (λ (z : List ℕ). z ∷ xs) first ∙ ap (λ (zs : List (List ℕ)). u ∷ zs) rest.0, rest.1)
 
-  rows_same : (rows : List (List ℕ)) (count : ℕ) (labels others : List Label) (slots rest : List Slot) → WriteRows rows count labels slots → WriteRows rows count others rest → (labels ≡ others) × (slots ≡ rest)
+  rows_same : (rows : List (List ℕ)) (count : ℕ) (labels others : List Label) (slots rest : List Slot) →
+      WriteRows rows count labels slots → WriteRows rows count others rest → (labels ≡ others) × (slots ≡ rest)
   rows_same rows count labels others slots rest v w =
       let a = v.one_label in
       let b = w.one_label in
       let c = v.one_slot in
       let d = w.one_slot in
-      let one : (k : ℕ) (x : Label) → k < length rows → _ = λ (k : ℕ) (x : Label) (lt : k < length rows). row_same (get_or rows k []) k count (get_or labels k x) (get_or others k x) (get_or slots k no_slot) (get_or rest k no_slot) (v.written k x lt) (w.written k x lt) in (
+      let one : (k : ℕ) (x : Label) → k < length rows → _ = λ (k : ℕ) (x : Label) (lt : k < length rows). row_same (get_or rows k []) k count
+      (get_or labels k x) (get_or others k x) (get_or slots k no_slot) (get_or rest k no_slot) (v.written k x lt) (w.written k x lt) in (
         same_lists labels others (omega arith) (λ k x lt. (one k x (omega arith)).0),
         same_slots labels slots rest (omega arith) (omega arith) (λ k x lt. (one k x (omega arith)).1),
       )
     where
-      same_slots : (labels : List Label) (slots rest : List Slot) → length slots ≡ length labels → length slots ≡ length rest → ((k : ℕ) (x : Label) → k < length labels → get_or slots k no_slot ≡ get_or rest k no_slot) → slots ≡ rest
+      same_slots : (labels : List Label) (slots rest : List Slot) → length slots ≡ length labels → length slots ≡ length rest →
+          ((k : ℕ) (x : Label) → k < length labels → get_or slots k no_slot ≡ get_or rest k no_slot) → slots ≡ rest
       same_slots [] [] [] e f all = refl
       same_slots [] [] (s ∷ rest) e f all = absurd (omega arith)
       same_slots [] (s ∷ slots) rest e f all = absurd (omega arith)
@@ -175,7 +180,9 @@ module _ (spelling : OneSpelling) (lists : OneList) where
   -- ---- a file that is refused has no reading
 
   -- the line behind the beginning of a state is that of its next label
-  module _ (rows more rest tail : List (List ℕ)) (line : List ℕ) (count : ℕ) (a : State) (o : Unfinished) (same : rows ++ line ∷ tail ≡ more ++ rest) (counts : o.count ≡ length a.labels) (begun : WriteRows rows o.count o.state.labels o.state.slots) (fewer : length o.state.labels < o.count) (whole : WriteRows more (length a.labels) a.labels a.slots) where
+  module _ (rows more rest tail : List (List ℕ)) (line : List ℕ) (count : ℕ) (a : State) (o : Unfinished)
+      (same : rows ++ line ∷ tail ≡ more ++ rest) (counts : o.count ≡ length a.labels) (begun : WriteRows rows o.count o.state.labels o.state.slots)
+      (fewer : length o.state.labels < o.count) (whole : WriteRows more (length a.labels) a.labels a.slots) where
     long : length rows < length more
     long =
         let m = begun.one_label in
@@ -214,15 +221,17 @@ module _ (spelling : OneSpelling) (lists : OneList) where
         let other = whole.written j the_label (omega arith) in
         let counted = subst (λ (n : ℕ). ReadsRow (get_or more j []) j n (get_or a.labels j the_label) (get_or a.slots j no_slot)) (sym counts) other in
         let there = subst (λ (l : List ℕ). ReadsRow l j o.count (get_or a.labels j the_label) (get_or a.slots j no_slot)) (sym (same_row j below)) counted in
-        let ids = same_id spelling (get_or rows j []) j o.count (get_or o.state.labels j the_label) (get_or a.labels j the_label) (get_or o.state.slots j no_slot) (get_or a.slots j no_slot) one there in
+        let ids = same_id spelling (get_or rows j []) j o.count (get_or o.state.labels j the_label)
+        (get_or a.labels j the_label) (get_or o.state.slots j no_slot) (get_or a.slots j no_slot) one there in
         whole.differ j (length rows) the_label below at_next (sym ids ∙ place.1 the_label)
 
     next_is : ((label : Label) (slot : Slot) → ¬ (IsNextRow line o label slot)) → ⊥
     next_is none = none (get_or a.labels (length rows) the_label) (get_or a.slots (length rows) no_slot) (record { row = next_row; new = next_new })
 
   -- a line that is due is none at fault
-  due_line : (states lead : List State) (lines front back : List (List ℕ)) (line : List ℕ) (tail : List (List ℕ)) (last : Option Unfinished) → lines ≡ front ++ (back ++ line ∷ tail) → WriteStates lines states → WriteStates front lead
-      → MatchOption last (back ≡ []) (λ o. Begin back o.count o.state × (length o.state.labels < o.count)) → IsFaulty line last → ⊥
+  due_line : (states lead : List State) (lines front back : List (List ℕ)) (line : List ℕ) (tail : List (List ℕ)) (last : Option Unfinished) →
+      lines ≡ front ++ (back ++ line ∷ tail) → WriteStates lines states → WriteStates front lead →
+      MatchOption last (back ≡ []) (λ o. Begin back o.count o.state × (length o.state.labels < o.count)) → IsFaulty line last → ⊥
   due_line [] lead lines front back line tail last is w v b faulty =
       let e = ap length (sym w ∙ is) ∙ length-append front (back ++ line ∷ tail) in
       let f = length-append back (line ∷ tail) in
@@ -235,7 +244,8 @@ module _ (spelling : OneSpelling) (lists : OneList) where
   due_line (a ∷ states) [] lines front back line tail (Some o) is w v b faulty =
       let begin = b.0 in
       let e : begin.head ∷ (begin.rows ++ line ∷ tail) ≡ w.3.head ∷ (w.3.rows ++ w.1) =
-      sym (is ∙ ap (λ (ls : List (List ℕ)). ls ++ (back ++ line ∷ tail)) v ∙ ap (λ (ls : List (List ℕ)). ls ++ line ∷ tail) begin.lines_are) ∙ w.2 ∙ ap (λ (ls : List (List ℕ)). ls ++ w.1) w.3.lines_are in
+      sym (is ∙ ap (λ (ls : List (List ℕ)). ls ++ (back ++ line ∷ tail)) v ∙ ap (λ (ls : List (List ℕ)). ls ++ line ∷ tail) begin.lines_are)
+      ∙ w.2 ∙ ap (λ (ls : List (List ℕ)). ls ++ w.1) w.3.lines_are in
       let first : begin.head ≡ w.3.head = cc e in
       let tails : begin.rows ++ line ∷ tail ≡ w.3.rows ++ w.1 = cc e in
       let head = head_same w.3.head o.state.rev o.count a.rev (length a.labels) (subst (λ (l : List ℕ). ReadsHead l o.state.rev o.count) first begin.its_head) w.3.its_head in
@@ -247,7 +257,8 @@ module _ (spelling : OneSpelling) (lists : OneList) where
       due_line states lead w.1 v.1 back line tail last (sym same.1) w.4 v.4 b faulty
 
   -- a file that ends within a state has no reading
-  cut_state : (states lead : List State) (lines front back : List (List ℕ)) (o : Unfinished) → lines ≡ front ++ back → WriteStates lines states → WriteStates front lead → Begin back o.count o.state → length o.state.labels < o.count → ⊥
+  cut_state : (states lead : List State) (lines front back : List (List ℕ)) (o : Unfinished) → lines ≡ front ++ back →
+      WriteStates lines states → WriteStates front lead → Begin back o.count o.state → length o.state.labels < o.count → ⊥
   cut_state [] lead lines front back o is w v begin fewer =
       let e = ap length (sym w ∙ is) ∙ length-append front back in
       let f = ap length begin.lines_are in
@@ -297,7 +308,8 @@ module _ (spelling : OneSpelling) (lists : OneList) where
   ]
 
   -- a file that writes states is read as those, unless memory is wanting
-  pub reads_from : (bytes : List ℕ) (r : Result (List State) StateFault) → IfOk r (λ states. AreStates bytes states) → IfErr r (λ fault. IsStatesFault bytes fault) → (states : List State) → AreStates bytes states → GivesStates r states
+  pub reads_from : (bytes : List ℕ) (r : Result (List State) StateFault) → IfOk r (λ states. AreStates bytes states) →
+      IfErr r (λ fault. IsStatesFault bytes fault) → (states : List State) → AreStates bytes states → GivesStates r states
   reads_from bytes (Ok others) ok err states are = inl (ap Ok (one_reading bytes others states ok are))
   reads_from bytes (Err (BadState k)) ok err states are = absurd (no_fault bytes states k are err)
   reads_from bytes (Err Memory) ok err states are = inr refl

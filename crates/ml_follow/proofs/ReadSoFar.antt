@@ -25,7 +25,8 @@ use Rattle.ml_follow.specs.declared.state.State.{State}
 pub no_rows : (count : ℕ) (labels : List Label) (slots : List Slot) → labels ≡ [] → slots ≡ [] → WriteRows [] count labels slots
 no_rows count labels slots e f = rw (e, f) (record { one_label = refl; one_slot = refl; written = λ i d lt. absurd (omega arith); differ = λ i j d less lt. absurd (omega arith) })
 
-module _ (rows : List (List ℕ)) (count : ℕ) (labels : List Label) (slots : List Slot) (line : List ℕ) (label : Label) (slot : Slot) (w : WriteRows rows count labels slots) (row : ReadsRow line (length labels) count label slot) (new : IsNoId labels label.order.id) where
+module _ (rows : List (List ℕ)) (count : ℕ) (labels : List Label) (slots : List Slot) (line : List ℕ) (label : Label) (slot : Slot)
+    (w : WriteRows rows count labels slots) (row : ReadsRow line (length labels) count label slot) (new : IsNoId labels label.order.id) where
   -- the line of the next label, whose id is new, adds that label and its slot
   pub rows_more : WriteRows (rows ++ line ∷ []) count (labels ++ label ∷ []) (slots ++ slot ∷ [])
   rows_more =
@@ -51,14 +52,17 @@ module _ (rows : List (List ℕ)) (count : ℕ) (labels : List Label) (slots : L
           | inr last ↦
               let at_label : length labels ≡ j = omega arith in
               let below : i < length labels = omega arith in
-              rw (get_or-append labels (label ∷ []) d i below, get_or_push labels label d j at_label) (λ e. new i (below, λ d2. ap (λ (l : Label). l.order.id) (get_or_default labels i d2 d below) ∙ e))
+              rw (get_or-append labels (label ∷ []) d i below, get_or_push labels label d j at_label)
+              (λ e. new i (below, λ d2. ap (λ (l : Label). l.order.id) (get_or_default labels i d2 d below) ∙ e))
         ];
       }
 
 -- ---- a state
 
 -- what has begun, with one more line
-pub begin_more : (lines : List (List ℕ)) (count : ℕ) (old new : State) (line : List ℕ) (label : Label) (slot : Slot) → Begin lines count old → ReadsRow line (length old.labels) count label slot → IsNoId old.labels label.order.id → new.rev ≡ old.rev → new.labels ≡ old.labels ++ label ∷ [] → new.slots ≡ old.slots ++ slot ∷ [] → Begin (lines ++ line ∷ []) count new
+pub begin_more : (lines : List (List ℕ)) (count : ℕ) (old new : State) (line : List ℕ) (label : Label) (slot : Slot) →
+    Begin lines count old → ReadsRow line (length old.labels) count label slot → IsNoId old.labels label.order.id → new.rev ≡ old.rev →
+    new.labels ≡ old.labels ++ label ∷ [] → new.slots ≡ old.slots ++ slot ∷ [] → Begin (lines ++ line ∷ []) count new
 begin_more lines count old new line label slot b row fresh revs labels slots = record {
   head = b.head;
   rows = b.rows ++ line ∷ [];
@@ -93,7 +97,8 @@ blocker_placed : (count : ℕ) (word : List ℕ) (labels : List Label) (blocker 
 blocker_placed count word labels None e h = tt
 blocker_placed count word labels (Some place) e h = subst (λ (n : ℕ). place < n) e h.1
 
-rows_placed : (rows : List (List ℕ)) (count : ℕ) (labels : List Label) (slots : List Slot) → length labels ≡ count → WriteRows rows count labels slots → All (λ slot. IsBlockerPlace labels slot.blocker) slots
+rows_placed : (rows : List (List ℕ)) (count : ℕ) (labels : List Label) (slots : List Slot) → length labels ≡ count →
+    WriteRows rows count labels slots → All (λ slot. IsBlockerPlace labels slot.blocker) slots
 rows_placed rows count [] slots e w k d lt = absurd (let n = w.one_label in let m = w.one_slot in omega arith)
 rows_placed rows count (a ∷ labels) slots e w k d lt =
     let m = w.one_slot in
@@ -160,7 +165,8 @@ record Grown (lines : List (List ℕ)) (states : List State) (opened : Opened) :
   whole : WriteStates front states
   begun : Begin back opened.count opened.state
 
-grown_lines : (lines : List (List ℕ)) (states : List State) (last : Option Opened) (line : List ℕ) (opened : Opened) → WriteUpTo lines states (unfinished last) → IsGrown line last opened → Grown (lines ++ line ∷ []) states opened
+grown_lines : (lines : List (List ℕ)) (states : List State) (last : Option Opened) (line : List ℕ) (opened : Opened) →
+    WriteUpTo lines states (unfinished last) → IsGrown line last opened → Grown (lines ++ line ∷ []) states opened
 grown_lines lines states None line opened u g = record {
   front = u.front;
   back = line ∷ [];
@@ -185,7 +191,8 @@ good_more states state all one k d lt = elim (cases_lt k (length states)) [
       rw (get_or_push states state d k at) one
 ]
 
-closed_read : (lines : List (List ℕ)) (states : List State) (opened : Opened) (after : List State) (next : Option Opened) → Grown lines states opened → IsOpened opened → All IsGood states → IsClosed opened states after next → IsReadTo lines after next
+closed_read : (lines : List (List ℕ)) (states : List State) (opened : Opened) (after : List State) (next : Option Opened) →
+    Grown lines states opened → IsOpened opened → All IsGood states → IsClosed opened states after next → IsReadTo lines after next
 closed_read lines states opened after None g o all closed =
     let good = state_good g.back opened.count opened.state g.begun closed.0 in
     let whole : WriteState g.back opened.state = subst (λ (n : ℕ). Begin g.back n opened.state) (sym closed.0) g.begun in
@@ -215,9 +222,11 @@ closed_read lines states opened after (Some next) g o all closed =
     }
 
 -- with one more line taken, the lines write the states after it and what stands of the next one
-pub read_more : (lines : List (List ℕ)) (states : List State) (last : Option Opened) (line : List ℕ) (after : List State) (next : Option Opened) → IsReadTo lines states last → IsTaken line states last after next → IsReadTo (lines ++ line ∷ []) after next
+pub read_more : (lines : List (List ℕ)) (states : List State) (last : Option Opened) (line : List ℕ) (after : List State) (next : Option Opened) →
+    IsReadTo lines states last → IsTaken line states last after next → IsReadTo (lines ++ line ∷ []) after next
 read_more lines states last line after next read taken =
-    closed_read (lines ++ line ∷ []) states taken.opened after next (grown_lines lines states last line taken.opened read.written taken.grown) (grown_opened line last taken.opened read.wanting taken.grown) read.good taken.closed
+    closed_read (lines ++ line ∷ []) states taken.opened after next (grown_lines lines states last line taken.opened read.written taken.grown)
+    (grown_opened line last taken.opened read.wanting taken.grown) read.good taken.closed
 
 -- before the first line there is no state and no beginning of one
 pub read_none : IsReadTo [] [] None

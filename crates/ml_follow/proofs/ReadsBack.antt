@@ -1,5 +1,6 @@
 -- The text of a state reads back.
-use Rattle.std.proofs.Common.{◌≡◌, ℕ, zero, suc, ◌+◌, ◌-◌, ◌^◌, ◌<◌, ◌≤◌, ℤ, pos, negsuc, List, [], ◌∷◌, ◌++◌, length, get_or, map, flat_map, Option, Some, None, IsUtf8, refl, sym, ap, subst, ◌∙◌, arith, append_assoc, append-nil, length-append, take}
+use Rattle.std.proofs.Common.{◌≡◌, ℕ, zero, suc, ◌+◌, ◌-◌, ◌^◌, ◌<◌, ◌≤◌, ℤ, pos, negsuc, List, [], ◌∷◌, ◌++◌, length, get_or, map, flat_map}
+use Rattle.std.proofs.Common.{Option, Some, None, IsUtf8, refl, sym, ap, subst, ◌∙◌, arith, append_assoc, append-nil, length-append, take}
 use Rattle.std.specs.Prelude.{All, MatchOption, codes, replicate, ◌==◌, false}
 use Rattle.std.specs.Fmt.{decimal, signed_decimal}
 use Rattle.std.specs.List.{AllZip}
@@ -21,7 +22,8 @@ use Rattle.ml_follow.specs.StateLine.{ReadsHead, WritesBlocker, ReadsRow}
 use Rattle.ml_follow.specs.StateText.{joined, box_text, blocker_text, row_lines, head_line, state_text}
 use Rattle.ml_follow.specs.States.{ended_lines, unended, WriteRows, Begin, AreStates}
 use Rattle.ml_follow.specs.declared.state.State.{State}
-use Rattle.ml_follow.proofs.Bytes.{Within, within_append, within_wider, within_utf8, none_below, decimal_within, signed_within, ratio_within, blocker_within, box_within, IsSmall, NoneIn, parts_joined, parts_line}
+use Rattle.ml_follow.proofs.Bytes.{Within, within_append, within_wider, within_utf8, none_below, decimal_within, signed_within}
+use Rattle.ml_follow.proofs.Bytes.{ratio_within, blocker_within, box_within, IsSmall, NoneIn, parts_joined, parts_line}
 use Rattle.ml_follow.proofs.Files.{front_of}
 use Rattle.ml_follow.proofs.Lower.{VisibleIds}
 use Rattle.ml_follow.proofs.Numerals.{up_to_back, whole_back, ratio_back}
@@ -268,7 +270,8 @@ module _ (visible : VisibleIds) where
   below_of count None h place e = absurd cc
   below_of count (Some j) h place e = let same : j ≡ place = cc in subst (λ (p : ℕ). p < count) same h
 
-  fine_of : (count : ℕ) (labels : List Label) (slots : List Slot) → All (λ (a : Label). IsUtf8 a.order.id) labels → All (λ (s : Slot). MatchOption s.blocker (Unit {0}) (λ j. j < count)) slots → AreFine count labels slots
+  fine_of : (count : ℕ) (labels : List Label) (slots : List Slot) → All (λ (a : Label). IsUtf8 a.order.id) labels →
+      All (λ (s : Slot). MatchOption s.blocker (Unit {0}) (λ j. j < count)) slots → AreFine count labels slots
   fine_of count [] slots texts placed = tt
   fine_of count (a ∷ labels) [] texts placed = tt
   fine_of count (a ∷ labels) (s ∷ slots) texts placed =
@@ -288,7 +291,8 @@ module _ (visible : VisibleIds) where
   relabel_alike n (a ∷ labels) zero d lt = record { same_id = refl; same_x = refl; same_y = refl; same_boxes = refl; same_min = refl; same_max = refl; same_margin = refl }
   relabel_alike n (a ∷ labels) (suc i) d lt = relabel_alike (suc n) labels i d (omega (arith, lt))
 
-  rows_back : (n count : ℕ) (labels : List Label) (slots : List Slot) → count ≤ 32768 → length slots ≡ length labels → AreFine count labels slots → (i : ℕ) (d : Label) → i < length labels → ReadsRow (get_or (row_texts labels slots) i []) (n + i) count (get_or (relabel n labels) i d) (get_or slots i no_slot)
+  rows_back : (n count : ℕ) (labels : List Label) (slots : List Slot) → count ≤ 32768 → length slots ≡ length labels → AreFine count labels slots →
+      (i : ℕ) (d : Label) → i < length labels → ReadsRow (get_or (row_texts labels slots) i []) (n + i) count (get_or (relabel n labels) i d) (get_or slots i no_slot)
   rows_back n count [] slots low e fine i d lt = absurd (omega (arith, lt))
   rows_back n count (a ∷ labels) [] low e fine i d lt = absurd (omega arith)
   rows_back n count (a ∷ labels) (s ∷ slots) low e fine zero d lt =
@@ -296,9 +300,11 @@ module _ (visible : VisibleIds) where
       subst (λ (k : ℕ). ReadsRow (row_text a s) k count (relabelled n a) s) same (row_back n count a s fine.0 low fine.1)
   rows_back n count (a ∷ labels) (s ∷ slots) low e fine (suc i) d lt =
       let same : suc n + i ≡ n + suc i = omega arith in
-      subst (λ (k : ℕ). ReadsRow (get_or (row_texts labels slots) i []) k count (get_or (relabel (suc n) labels) i d) (get_or slots i no_slot)) same (rows_back (suc n) count labels slots low (omega arith) fine.2 i d (omega (arith, lt)))
+      subst (λ (k : ℕ). ReadsRow (get_or (row_texts labels slots) i []) k count (get_or (relabel (suc n) labels) i d) (get_or slots i no_slot)) same
+      (rows_back (suc n) count labels slots low (omega arith) fine.2 i d (omega (arith, lt)))
 
-  parts_rows : (count : ℕ) (labels : List Label) (slots : List Slot) → count ≤ 32768 → length slots ≡ length labels → AreFine count labels slots → parts 10 (row_lines labels slots) ≡ row_texts labels slots ++ [] ∷ []
+  parts_rows : (count : ℕ) (labels : List Label) (slots : List Slot) → count ≤ 32768 → length slots ≡ length labels →
+      AreFine count labels slots → parts 10 (row_lines labels slots) ≡ row_texts labels slots ++ [] ∷ []
   parts_rows count [] slots low e fine = refl
   parts_rows count (a ∷ labels) [] low e fine = absurd (omega arith)
   parts_rows count (a ∷ labels) (s ∷ slots) low e fine =
@@ -325,10 +331,12 @@ module _ (visible : VisibleIds) where
     all_parts : parts 10 (state_text rev labels slots) ≡ (head_text rev (length labels) ∷ row_texts labels slots) ++ [] ∷ []
     all_parts =
         ap (λ (t : List ℕ). parts 10 (t ++ row_lines labels slots)) (head_is rev (length labels))
-        ∙ parts_line (head_text rev (length labels)) (row_lines labels slots) (none_below 32 126 10 (head_text rev (length labels)) (omega arith) (head_plain rev (length labels) told.low_rev told.few))
+        ∙ parts_line (head_text rev (length labels)) (row_lines labels slots)
+        (none_below 32 126 10 (head_text rev (length labels)) (omega arith) (head_plain rev (length labels) told.low_rev told.few))
         ∙ ap (λ (ls : List (List ℕ)). head_text rev (length labels) ∷ ls) (parts_rows (length labels) labels slots told.few told.one_slot all_fine)
 
-    from_first : (i : ℕ) (d : Label) → ReadsRow (get_or (row_texts labels slots) i []) (0 + i) (length labels) (get_or (relabel 0 labels) i d) (get_or slots i no_slot) → ReadsRow (get_or (row_texts labels slots) i []) i (length labels) (get_or (relabel 0 labels) i d) (get_or slots i no_slot)
+    from_first : (i : ℕ) (d : Label) → ReadsRow (get_or (row_texts labels slots) i []) (0 + i) (length labels) (get_or (relabel 0 labels) i d) (get_or slots i no_slot) →
+        ReadsRow (get_or (row_texts labels slots) i []) i (length labels) (get_or (relabel 0 labels) i d) (get_or slots i no_slot)
     from_first i d row =
         let same : 0 + i ≡ i = omega arith in
         subst (λ (k : ℕ). ReadsRow (get_or (row_texts labels slots) i []) k (length labels) (get_or (relabel 0 labels) i d) (get_or slots i no_slot)) same row

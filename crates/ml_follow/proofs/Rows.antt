@@ -46,7 +46,11 @@ begun_from line word rev count (Some opened) text words h =
 abbrev top : Fraction
 top = record { num = 2 ^ 28; den = 1; positive = lit< tt }
 
-module _ (spelling : OneSpelling) (lists : OneList) (id x y min max margin : List ℕ) (boxes : List (List ℕ)) (place : ℕ) (order : Order) (xv yv : ℤ) (bs : List BoxPx) (pieces : List (List ℕ)) (minv maxv : Ratio) (mv : ℕ) (class_is : order.class ≡ place) (rank_is : order.rank ≡ 0) (id_is : Spells id order.id) (x_is : whole_number x ≡ Some xv) (y_is : whole_number y ≡ Some yv) (min_is : ReadsRatio min (Some minv)) (max_is : ReadsRatio max (Some maxv)) (margin_is : whole_number margin ≡ Some (pos mv)) (low_is : IsMargin mv) (boxes_are : AllZip ReadsBox boxes bs) (pieces_are : pieces ≡ order.id ∷ replicate (length bs - 1) []) where
+module _ (spelling : OneSpelling) (lists : OneList) (id x y min max margin : List ℕ) (boxes : List (List ℕ)) (place : ℕ) (order : Order)
+    (xv yv : ℤ) (bs : List BoxPx) (pieces : List (List ℕ)) (minv maxv : Ratio) (mv : ℕ) (class_is : order.class ≡ place)
+    (rank_is : order.rank ≡ 0) (id_is : Spells id order.id) (x_is : whole_number x ≡ Some xv) (y_is : whole_number y ≡ Some yv)
+    (min_is : ReadsRatio min (Some minv)) (max_is : ReadsRatio max (Some maxv)) (margin_is : whole_number margin ≡ Some (pos mv))
+    (low_is : IsMargin mv) (boxes_are : AllZip ReadsBox boxes bs) (pieces_are : pieces ≡ order.id ∷ replicate (length bs - 1) []) where
   parts_of_label : (label : Label) → WriteLabel id x y min max margin boxes place label → AreLabelParts xv yv bs pieces minv maxv mv
   parts_of_label label w =
       let fx : Some xv ≡ Some label.x = sym x_is ∙ w.x_is in
@@ -97,7 +101,9 @@ module _ (spelling : OneSpelling) (lists : OneList) (id x y min max margin : Lis
 -- ---- a line
 
 -- a line has one list of words
-pub the_words : (line id x y min max margin until blocker : List ℕ) (boxes : List (List ℕ)) (place count : ℕ) (label : Label) (slot : Slot) → parts 32 line ≡ id ∷ x ∷ y ∷ min ∷ max ∷ margin ∷ until ∷ blocker ∷ boxes → ReadsRow line place count label slot → WriteRow id x y min max margin until blocker boxes place count label slot
+pub the_words : (line id x y min max margin until blocker : List ℕ) (boxes : List (List ℕ)) (place count : ℕ) (label : Label) (slot : Slot) →
+    parts 32 line ≡ id ∷ x ∷ y ∷ min ∷ max ∷ margin ∷ until ∷ blocker ∷ boxes →
+    ReadsRow line place count label slot → WriteRow id x y min max margin until blocker boxes place count label slot
 the_words line id x y min max margin until blocker boxes place count label slot words l =
     let e : l.id ∷ l.x ∷ l.y ∷ l.min ∷ l.max ∷ l.margin ∷ l.until ∷ l.blocker ∷ l.boxes ≡ id ∷ x ∷ y ∷ min ∷ max ∷ margin ∷ until ∷ blocker ∷ boxes = sym l.words ∙ words in
     let a : l.id ≡ id = cc e in
@@ -112,19 +118,25 @@ the_words line id x y min max margin until blocker boxes place count label slot 
     rw (a, b, c, d, f, g, h, i, j) at l.write
 
 -- the answer for words is the answer for the line that they make
-pub row_from : (line id x y min max margin until blocker : List ℕ) (boxes : List (List ℕ)) (place count : ℕ) (answer : Option (Label × Slot)) → IsUtf8 line → parts 32 line ≡ id ∷ x ∷ y ∷ min ∷ max ∷ margin ∷ until ∷ blocker ∷ boxes → IsRowWritten id x y min max margin until blocker boxes place count answer → IsRowAnswer line place count answer
+pub row_from : (line id x y min max margin until blocker : List ℕ) (boxes : List (List ℕ)) (place count : ℕ) (answer : Option (Label × Slot)) →
+    IsUtf8 line → parts 32 line ≡ id ∷ x ∷ y ∷ min ∷ max ∷ margin ∷ until ∷ blocker ∷ boxes →
+    IsRowWritten id x y min max margin until blocker boxes place count answer → IsRowAnswer line place count answer
 row_from line id x y min max margin until blocker boxes place count None text words h =
     λ label slot l. h label slot (the_words line id x y min max margin until blocker boxes place count label slot words l)
 row_from line id x y min max margin until blocker boxes place count (Some row) text words h =
     record { is_text = text; id = id; x = x; y = y; min = min; max = max; margin = margin; until = until; blocker = blocker; boxes = boxes; words = words; write = h }
 
 -- the same where memory may run out: if an answer for words came, it is the answer for the line that they make
-pub row_result : {E : Type 0} (line id x y min max margin until blocker : List ℕ) (boxes : List (List ℕ)) (place count : ℕ) (r : Result (Option (Label × Slot)) E) → IsUtf8 line → parts 32 line ≡ id ∷ x ∷ y ∷ min ∷ max ∷ margin ∷ until ∷ blocker ∷ boxes → IfOk r (IsRowWritten id x y min max margin until blocker boxes place count) → IfOk r (IsRowAnswer line place count)
+pub row_result : {E : Type 0} (line id x y min max margin until blocker : List ℕ) (boxes : List (List ℕ)) (place count : ℕ) (r : Result (Option (Label × Slot)) E) →
+    IsUtf8 line → parts 32 line ≡ id ∷ x ∷ y ∷ min ∷ max ∷ margin ∷ until ∷ blocker ∷ boxes →
+    IfOk r (IsRowWritten id x y min max margin until blocker boxes place count) → IfOk r (IsRowAnswer line place count)
 row_result line id x y min max margin until blocker boxes place count (Ok answer) text words h = row_from line id x y min max margin until blocker boxes place count answer text words h
 row_result line id x y min max margin until blocker boxes place count (Err e) text words h = tt
 
 -- a list of eight and more
-eight_parts : (items : List (Bor (List ℕ))) (d : Bor (List ℕ)) → 8 ≤ length items → map (λ part. part.now) items ≡ (get_or items 0 d).now ∷ (get_or items 1 d).now ∷ (get_or items 2 d).now ∷ (get_or items 3 d).now ∷ (get_or items 4 d).now ∷ (get_or items 5 d).now ∷ (get_or items 6 d).now ∷ (get_or items 7 d).now ∷ map (λ part. part.now) (drop 8 items)
+eight_parts : (items : List (Bor (List ℕ))) (d : Bor (List ℕ)) → 8 ≤ length items →
+    map (λ part. part.now) items ≡ (get_or items 0 d).now ∷ (get_or items 1 d).now ∷ (get_or items 2 d).now ∷ (get_or items 3 d).now
+    ∷ (get_or items 4 d).now ∷ (get_or items 5 d).now ∷ (get_or items 6 d).now ∷ (get_or items 7 d).now ∷ map (λ part. part.now) (drop 8 items)
 eight_parts (a ∷ b ∷ c ∷ e ∷ f ∷ g ∷ h ∷ i ∷ items) d k = refl
 eight_parts [] d k = absurd (omega arith)
 eight_parts (a ∷ []) d k = absurd (omega arith)
@@ -136,14 +148,18 @@ eight_parts (a ∷ b ∷ c ∷ e ∷ f ∷ g ∷ []) d k = absurd (omega arith)
 eight_parts (a ∷ b ∷ c ∷ e ∷ f ∷ g ∷ h ∷ []) d k = absurd (omega arith)
 
 -- the first eight of many words, each by its place, and those that are cut out behind them are all words
-pub eight_taken : (items : List (Bor (List ℕ))) (d : Bor (List ℕ)) → 8 ≤ length items → map (λ part. part.now) items ≡ (get_or items 0 d).now ∷ (get_or items 1 d).now ∷ (get_or items 2 d).now ∷ (get_or items 3 d).now ∷ (get_or items 4 d).now ∷ (get_or items 5 d).now ∷ (get_or items 6 d).now ∷ (get_or items 7 d).now ∷ map (λ part. part.now) (take (length items - 8) (drop 8 items))
+pub eight_taken : (items : List (Bor (List ℕ))) (d : Bor (List ℕ)) → 8 ≤ length items →
+    map (λ part. part.now) items ≡ (get_or items 0 d).now ∷ (get_or items 1 d).now ∷ (get_or items 2 d).now ∷ (get_or items 3 d).now ∷ (get_or items 4 d).now
+    ∷ (get_or items 5 d).now ∷ (get_or items 6 d).now ∷ (get_or items 7 d).now ∷ map (λ part. part.now) (take (length items - 8) (drop 8 items))
 eight_taken items d k =
     let all : take (length items - 8) (drop 8 items) ≡ drop 8 items = take_all (length items - 8) (drop 8 items) (omega (arith, length-drop 8 items)) in
     eight_parts items d k
-    ∙ ap (λ (t : List (Bor (List ℕ))). (get_or items 0 d).now ∷ (get_or items 1 d).now ∷ (get_or items 2 d).now ∷ (get_or items 3 d).now ∷ (get_or items 4 d).now ∷ (get_or items 5 d).now ∷ (get_or items 6 d).now ∷ (get_or items 7 d).now ∷ map (λ part. part.now) t) (sym all)
+    ∙ ap (λ (t : List (Bor (List ℕ))). (get_or items 0 d).now ∷ (get_or items 1 d).now ∷ (get_or items 2 d).now ∷ (get_or items 3 d).now
+    ∷ (get_or items 4 d).now ∷ (get_or items 5 d).now ∷ (get_or items 6 d).now ∷ (get_or items 7 d).now ∷ map (λ part. part.now) t) (sym all)
 
 -- a line of fewer than eight words is that of no label
-pub too_few : (line : List ℕ) (items : List (Bor (List ℕ))) (place count : ℕ) → parts 32 line ≡ map (λ part. part.now) items → length items < 8 → (label : Label) (slot : Slot) → ¬ (ReadsRow line place count label slot)
+pub too_few : (line : List ℕ) (items : List (Bor (List ℕ))) (place count : ℕ) → parts 32 line ≡ map (λ part. part.now) items →
+    length items < 8 → (label : Label) (slot : Slot) → ¬ (ReadsRow line place count label slot)
 too_few line items place count split few label slot row =
     let many : length (parts 32 line) ≡ length items = ap length split ∙ length-map items (λ (part : Bor (List ℕ)). part.now) in
     let eight = ap length row.words in
@@ -158,7 +174,8 @@ same_id spelling line place count a b s t one two =
 -- ---- the next line of a state
 
 -- a label that came in with its slot
-pub longer_from : {E : Type 0} (spelling : OneSpelling) (line : List ℕ) (old : Opened) (label : Label) (slot : Slot) (r : Result (Option Opened) E) → ReadsRow line (length old.state.labels) old.count label slot → IfOk r (IsJoinedAnswer label slot old) → IfOk r (IsLongerAnswer line old)
+pub longer_from : {E : Type 0} (spelling : OneSpelling) (line : List ℕ) (old : Opened) (label : Label) (slot : Slot) (r : Result (Option Opened) E) →
+    ReadsRow line (length old.state.labels) old.count label slot → IfOk r (IsJoinedAnswer label slot old) → IfOk r (IsLongerAnswer line old)
 longer_from spelling line old label slot (Err e) row h = tt
 longer_from spelling line old label slot (Ok (Some new)) row h = record { label = label; slot = slot; next = record { row = row; new = h.0 }; joined = h.1 }
 longer_from spelling line old label slot (Ok None) row h =
@@ -167,5 +184,6 @@ longer_from spelling line old label slot (Ok None) row h =
     next.new h.0 (subst (λ (id : List ℕ). IsPlaceOf old.state.labels id h.0) ids h.1)
 
 -- a line that is no label's at the next place is not that of the next label of the state
-pub no_next : (line : List ℕ) (old : Opened) → ((label : Label) (slot : Slot) → ¬ (ReadsRow line (length old.state.labels) old.count label slot)) → (label : Label) (slot : Slot) → ¬ (IsNextRow line (unfinished_of old) label slot)
+pub no_next : (line : List ℕ) (old : Opened) → ((label : Label) (slot : Slot) → ¬ (ReadsRow line (length old.state.labels) old.count label slot)) →
+    (label : Label) (slot : Slot) → ¬ (IsNextRow line (unfinished_of old) label slot)
 no_next line old none label slot next = none label slot next.row

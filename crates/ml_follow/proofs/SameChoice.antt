@@ -37,7 +37,15 @@ overlap_alike a b c d s h k o =
     subst (λ (g : Ground). GroundsMeet g (ground d) s) (same_ground a c h) (subst (λ (g : Ground). GroundsMeet (ground a) g s) (same_ground b d k) o)
 
 turned : (a b : Label) → IsAlike a b → IsAlike b a
-turned a b h = record { same_id = sym h.same_id; same_x = sym h.same_x; same_y = sym h.same_y; same_boxes = sym h.same_boxes; same_min = sym h.same_min; same_max = sym h.same_max; same_margin = sym h.same_margin }
+turned a b h = record {
+  same_id = sym h.same_id;
+  same_x = sym h.same_x;
+  same_y = sym h.same_y;
+  same_boxes = sym h.same_boxes;
+  same_min = sym h.same_min;
+  same_max = sym h.same_max;
+  same_margin = sym h.same_margin;
+}
 
 allows_alike : (a b c d : Label) (u e : Fraction) → IsAlike a c → IsAlike b d → Allows a b u e → Allows c d u e
 unfolding Allows

@@ -38,9 +38,12 @@ end_behind margin until blocker = rw (append-nil blocker) refl
 few_behind : (label : Label) (slot : Slot) → row_words label slot ≡ flat_map (λ (word : List ℕ). 32 ∷ word) (few_words label slot)
 unfolding place_words end_words
 few_behind label slot =
-    ap (λ (t : List ℕ). t ++ end_words label.margin (ratio_text slot.until) (blocker_text slot.blocker)) (place_behind (signed_decimal label.x) (signed_decimal label.y) (ratio_text label.min) (ratio_text label.max))
-    ∙ ap (λ (t : List ℕ). flat_map (λ (word : List ℕ). 32 ∷ word) (signed_decimal label.x ∷ signed_decimal label.y ∷ ratio_text label.min ∷ ratio_text label.max ∷ []) ++ t) (end_behind (decimal label.margin) (ratio_text slot.until) (blocker_text slot.blocker))
-    ∙ sym (words_behind (signed_decimal label.x ∷ signed_decimal label.y ∷ ratio_text label.min ∷ ratio_text label.max ∷ []) (decimal label.margin ∷ ratio_text slot.until ∷ blocker_text slot.blocker ∷ []))
+    ap (λ (t : List ℕ). t ++ end_words label.margin (ratio_text slot.until) (blocker_text slot.blocker))
+    (place_behind (signed_decimal label.x) (signed_decimal label.y) (ratio_text label.min) (ratio_text label.max))
+    ∙ ap (λ (t : List ℕ). flat_map (λ (word : List ℕ). 32 ∷ word) (signed_decimal label.x ∷ signed_decimal label.y ∷ ratio_text label.min ∷ ratio_text label.max ∷ []) ++ t)
+    (end_behind (decimal label.margin) (ratio_text slot.until) (blocker_text slot.blocker))
+    ∙ sym (words_behind (signed_decimal label.x ∷ signed_decimal label.y ∷ ratio_text label.min ∷ ratio_text label.max ∷ [])
+    (decimal label.margin ∷ ratio_text slot.until ∷ blocker_text slot.blocker ∷ []))
 
 -- the id, the other words, the boxes behind blanks and LF, as they are written, are the line of the label and its slot
 pub row_made : (label : Label) (slot : Slot) → ((id_text label.order.id ++ row_words label slot) ++ flat_map (λ (p : BoxPx). 32 ∷ box_text p) label.boxes) ++ codes "\n" ≡ row_line label slot
@@ -53,7 +56,8 @@ row_made label slot =
     ap (λ (t : List ℕ). t ++ codes "\n") (append_assoc (id_text label.order.id) (row_words label slot) boxes ∙ ap (λ (t : List ℕ). id_text label.order.id ++ t) whole)
 
 -- a further label
-pub rows_push : (labels : List Label) (slots : List Slot) (label : Label) (slot : Slot) → length slots ≡ length labels → row_lines (labels ++ label ∷ []) (slots ++ slot ∷ []) ≡ row_lines labels slots ++ row_line label slot
+pub rows_push : (labels : List Label) (slots : List Slot) (label : Label) (slot : Slot) → length slots ≡ length labels →
+    row_lines (labels ++ label ∷ []) (slots ++ slot ∷ []) ≡ row_lines labels slots ++ row_line label slot
 rows_push [] [] label slot e = append-nil (row_line label slot)
 rows_push [] (s ∷ slots) label slot e = absurd (omega arith)
 rows_push (a ∷ labels) [] label slot e = absurd (omega arith)
@@ -62,6 +66,8 @@ rows_push (a ∷ labels) (s ∷ slots) label slot e =
     ∙ sym (append_assoc (row_line a s) (row_lines labels slots) (row_line label slot))
 
 -- with a label's line written behind it, the text of the first labels is that of one label more
-pub begun_push : (rev count : ℕ) (labels : List Label) (slots : List Slot) (label : Label) (slot : Slot) (old new : List ℕ) → new ≡ old ++ row_line label slot → length slots ≡ length labels → old ≡ begun_text rev count labels slots → new ≡ begun_text rev count (labels ++ label ∷ []) (slots ++ slot ∷ [])
+pub begun_push : (rev count : ℕ) (labels : List Label) (slots : List Slot) (label : Label) (slot : Slot) (old new : List ℕ) → new ≡ old ++ row_line label slot →
+    length slots ≡ length labels → old ≡ begun_text rev count labels slots → new ≡ begun_text rev count (labels ++ label ∷ []) (slots ++ slot ∷ [])
 begun_push rev count labels slots label slot old new e long begun =
-    e ∙ ap (λ (t : List ℕ). t ++ row_line label slot) begun ∙ append_assoc (head_line rev count) (row_lines labels slots) (row_line label slot) ∙ ap (λ (t : List ℕ). head_line rev count ++ t) (sym (rows_push labels slots label slot long))
+    e ∙ ap (λ (t : List ℕ). t ++ row_line label slot) begun ∙ append_assoc (head_line rev count) (row_lines labels slots) (row_line label slot)
+    ∙ ap (λ (t : List ℕ). head_line rev count ++ t) (sym (rows_push labels slots label slot long))

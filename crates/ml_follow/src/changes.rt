@@ -65,14 +65,16 @@ fn ranged_label_of<'a>(list: &Listed<'a>, id: &'a str) -> Option<RangedLabel<'a>
 
 // Whether both are alike and have the same active range.
 fn stand_alike(one: &RangedLabel<'_>, other: &RangedLabel<'_>) -> bool
-    ensures { MatchBool result (ranged_of one.now ≡ ranged_of other.now) (¬ (ranged_of one.now ≡ ranged_of other.now)) }
+    ensures { MatchBool result (ranged_of one.now ≡ ranged_of other.now)
+        (¬ (ranged_of one.now ≡ ranged_of other.now)) }
 {
     same_spans(one.span, other.span) && same_unplaced(one.label, other.label)
 }
 
 // Whether both are none, or alike with the same active range.
 fn both_alike(one: &Option<RangedLabel<'_>>, other: &Option<RangedLabel<'_>>) -> bool
-    ensures { MatchBool result (ranged one.now ≡ ranged other.now) (¬ (ranged one.now ≡ ranged other.now)) }
+    ensures { MatchBool result (ranged one.now ≡ ranged other.now)
+        (¬ (ranged one.now ≡ ranged other.now)) }
 {
     match (one, other) {
         (Some(one), Some(other)) => stand_alike(one, other),
@@ -142,7 +144,8 @@ fn changes_of_new<'a>(
 ) -> Result<Vec<Change>, AllocError>
     requires old { IsListed old.now }
     requires new { IsListed new.now }
-    ensures { IfOk result (λ changes. AreChangesAmong old.now new.now (HasId new.now.labels.now) changes.items) }
+    ensures { IfOk result
+        (λ changes. AreChangesAmong old.now new.now (HasId new.now.labels.now) changes.items) }
 {
     let mut out = Vec::new(alloc);
     for label in new.labels {
@@ -176,7 +179,8 @@ fn changes_of_all<'a>(
 ) -> Result<Vec<Change>, AllocError>
     requires old { IsListed old.now }
     requires new { IsListed new.now }
-    ensures { IfOk result (λ changes. AreChangesAmong old.now new.now (λ id. HasId new.now.labels.now id ⊎ HasId old.now.labels.now id) changes.items) }
+    ensures { IfOk result (λ changes. AreChangesAmong old.now new.now
+        (λ id. HasId new.now.labels.now id ⊎ HasId old.now.labels.now id) changes.items) }
 {
     let mut out = changes_of_new(alloc, old, new)?;
     for label in old.labels {

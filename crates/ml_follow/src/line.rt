@@ -45,7 +45,8 @@ fn words_of(alloc: Global, label: &Label, slot: Slot) -> Result<String, AllocErr
 
 // The words of a label's anchor and selectable range, each behind a blank.
 fn label_words(alloc: Global, label: &Label) -> Result<String, AllocError>
-    ensures { IfOk result (λ words. string_bytes words ≡ place_words label.now.x label.now.y (ratio_text label.now.min) (ratio_text label.now.max)) }
+    ensures { IfOk result (λ words. string_bytes words ≡ place_words label.now.x label.now.y
+        (ratio_text label.now.min) (ratio_text label.now.max)) }
 {
     let min = label.min().text(alloc)?;
     let max = label.max().text(alloc)?;
@@ -61,7 +62,8 @@ fn four_words(alloc: Global, x: i64, y: i64, min: &str, max: &str) -> Result<Str
 
 // The words of a margin and a slot, each behind a blank.
 fn slot_words(alloc: Global, margin: u32, slot: Slot) -> Result<String, AllocError>
-    ensures { IfOk result (λ words. string_bytes words ≡ end_words margin (ratio_text slot.until) (blocker_text slot.blocker)) }
+    ensures { IfOk result (λ words.
+        string_bytes words ≡ end_words margin (ratio_text slot.until) (blocker_text slot.blocker)) }
 {
     let until = slot.until.text(alloc)?;
     let blocker = blocker_word(alloc, slot.blocker)?;
@@ -87,7 +89,8 @@ fn blocker_word(alloc: Global, blocker: Option<u32>) -> Result<String, AllocErro
 
 // Appends boxes, each behind a blank.
 fn push_boxes(alloc: Global, line: &mut Vec<u8>, boxes: &[BoxPx]) -> Result<(), AllocError>
-    ensures { OnOk result (line.new.items ≡ line.old.items ++ flat_map (λ p. 32 ∷ box_text p) boxes.now) }
+    ensures { OnOk result
+        (line.new.items ≡ line.old.items ++ flat_map (λ p. 32 ∷ box_text p) boxes.now) }
 {
     for p in boxes {
         let word = box_word(alloc, p)?;

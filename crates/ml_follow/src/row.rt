@@ -57,7 +57,8 @@ struct Words<'a> {
 
 // The words by what they are; none where they are fewer than eight.
 fn words_in<'a>(words: &'a [&'a str]) -> Option<Words<'a>>
-    ensures { MatchOption result (length words.now < 8) (AreWords (map (λ part. part.now) words.now)) }
+    ensures { MatchOption result (length words.now < 8)
+        (AreWords (map (λ part. part.now) words.now)) }
 {
     match words {
         [id, x, y, min, max, margin, until, blocker, boxes @ ..] => Some(Words {
@@ -83,8 +84,10 @@ fn row_of(
     words: &Words<'_>,
 ) -> Result<Option<(Label, Slot)>, AllocError>
     requires { count ≤ most_labels }
-    ensures { IfOk result (λ answer. IsRowWritten words.now.id.now words.now.x.now words.now.y.now words.now.min.now words.now.max.now
-        words.now.margin.now words.now.until.now words.now.blocker.now (map (λ part. part.now) words.now.boxes.now) place count answer) }
+    ensures { IfOk result (λ answer. IsRowWritten words.now.id.now
+        words.now.x.now words.now.y.now words.now.min.now words.now.max.now
+        words.now.margin.now words.now.until.now words.now.blocker.now
+        (map (λ part. part.now) words.now.boxes.now) place count answer) }
 {
     let Some(slot) = slot_of(words.until, words.blocker, count) else {
         return Ok(None);
@@ -123,7 +126,8 @@ fn blocker_of(word: &str, count: usize) -> Option<Option<u32>>
 
 // The label at `place` that the words write; none where they write none.
 fn label_of(alloc: Global, place: u32, words: &Words<'_>) -> Result<Option<Label>, AllocError>
-    ensures { IfOk result (λ answer. IsLabelAnswer words.now.id.now words.now.x.now words.now.y.now words.now.min.now words.now.max.now
+    ensures { IfOk result (λ answer. IsLabelAnswer words.now.id.now
+        words.now.x.now words.now.y.now words.now.min.now words.now.max.now
         words.now.margin.now (map (λ part. part.now) words.now.boxes.now) place answer) }
 {
     one_spelling();

@@ -52,10 +52,13 @@ impl StateText {
         until: Ratio,
         blocker: Option<u32>,
     ) -> Result<(), AllocError>
-        ensures row { OnOk result (self.new ≡ self.old ++ spec_row_line label.now (record { until = until; blocker = blocker })) }
-        ensures begun { OnOk result ((rev count : ℕ) (labels : List Label) (slots : List Slot) → length slots ≡ length labels →
+        ensures row { OnOk result (self.new
+            ≡ self.old ++ spec_row_line label.now (record { until = until; blocker = blocker })) }
+        ensures begun { OnOk result ((rev count : ℕ) (labels : List Label) (slots : List Slot) →
+            length slots ≡ length labels →
             self.old ≡ begun_text rev count labels slots →
-            self.new ≡ begun_text rev count (labels ++ label.now ∷ []) (slots ++ record { until = until; blocker = blocker } ∷ [])) }
+            self.new ≡ begun_text rev count (labels ++ label.now ∷ [])
+            (slots ++ record { until = until; blocker = blocker } ∷ [])) }
         ensures id { IsUtf8 label.now.order.id }
         ensures err { OnErr result (self.new ≡ self.old) }
     {
@@ -76,7 +79,8 @@ impl StateText {
     pub fn finish(self) -> Result<Seq<u8>, AllocError>
         ensures ok { IfOk result (λ text. text ≡ self) }
         ensures whole { IfOk result (λ text. (rev : ℕ) (labels : List Label) (slots : List Slot) →
-            self ≡ begun_text rev (length labels) labels slots → text ≡ state_text rev labels slots) }
+            self ≡ begun_text rev (length labels) labels slots →
+            text ≡ state_text rev labels slots) }
     {
         Ok(Seq::of_vec(self.text))
     }

@@ -33,7 +33,8 @@ pub sorted_pieces : (pieces : List Piece) → IsSortedBy (λ p q. is_lt (ratio_c
 sorted_pieces pieces sorted i j d less lt =
     let p : Piece = get_or pieces i d in
     let q : Piece = get_or pieces j d in
-    not_less (q.from.num * p.from.den) (p.from.num * q.from.den) (sorted_far (λ (x : Piece) (y : Piece). is_lt (ratio_cmp x.from y.from)) (ranks_by ratio_total (λ (x : Piece). x.from)) pieces sorted i j d (omega arith) lt)
+    not_less (q.from.num * p.from.den) (p.from.num * q.from.den)
+    (sorted_far (λ (x : Piece) (y : Piece). is_lt (ratio_cmp x.from y.from)) (ranks_by ratio_total (λ (x : Piece). x.from)) pieces sorted i j d (omega arith) lt)
 
 -- pieces that hold scales of the label's range alone begin before its maximum
 pub begin_within : (a : Label) (pieces : List Piece) → ((s : Fraction) → HaveScale pieces s → ActiveUntil a (value_of a.max) s) → All (λ p. IsAtMost (value_of p.from) (value_of a.max)) pieces
@@ -67,8 +68,9 @@ blocked_none a labels gaps pieces empty s = (
 )
 
 -- with the pieces at which the next label blocks, they hold all scales at which one of the labels up to it does
-pub blocked_more : (a : Label) (labels : List Label) (gaps : List Gap) (j most : ℕ) (old new : List Piece) (b : Label) (g : Gap) → b ≡ get_or labels j b → g ≡ get_or gaps j g → j < length labels → j < length gaps →
-    AddsPieces (IsBlocked a b g) (IsPairPiece a b g) most old new → ((s : Fraction) → HaveScale old s ↔ IsBlockedBy a labels gaps j s) → (s : Fraction) → HaveScale new s ↔ IsBlockedBy a labels gaps (j + 1) s
+pub blocked_more : (a : Label) (labels : List Label) (gaps : List Gap) (j most : ℕ) (old new : List Piece) (b : Label) (g : Gap) →
+    b ≡ get_or labels j b → g ≡ get_or gaps j g → j < length labels → j < length gaps → AddsPieces (IsBlocked a b g) (IsPairPiece a b g) most old new →
+    ((s : Fraction) → HaveScale old s ↔ IsBlockedBy a labels gaps j s) → (s : Fraction) → HaveScale new s ↔ IsBlockedBy a labels gaps (j + 1) s
 blocked_more a labels gaps j most old new b g at at' lt lt' adds so_far s = (forth, back)
   where
     forth : HaveScale new s → IsBlockedBy a labels gaps (j + 1) s
@@ -91,7 +93,9 @@ blocked_more a labels gaps j most old new b g at at' lt lt' adds so_far s = (for
         ])
 
 -- a label that blocks nowhere adds no piece
-pub blocked_past : (a : Label) (labels : List Label) (gaps : List Gap) (j : ℕ) (pieces : List Piece) → ((b : Label) (g : Gap) (s : Fraction) → IsBlocked a (get_or labels j b) (get_or gaps j g) s → ⊥) → ((s : Fraction) → HaveScale pieces s ↔ IsBlockedBy a labels gaps j s) → (s : Fraction) → HaveScale pieces s ↔ IsBlockedBy a labels gaps (j + 1) s
+pub blocked_past : (a : Label) (labels : List Label) (gaps : List Gap) (j : ℕ) (pieces : List Piece) →
+    ((b : Label) (g : Gap) (s : Fraction) → IsBlocked a (get_or labels j b) (get_or gaps j g) s → ⊥) →
+    ((s : Fraction) → HaveScale pieces s ↔ IsBlockedBy a labels gaps j s) → (s : Fraction) → HaveScale pieces s ↔ IsBlockedBy a labels gaps (j + 1) s
 blocked_past a labels gaps j pieces none so_far s = (forth, back)
   where
     forth : HaveScale pieces s → IsBlockedBy a labels gaps (j + 1) s
@@ -134,7 +138,8 @@ module _ (labels : List Label) (gaps : List Gap) (i : ℕ) (a : Label) (own : (d
   free_clear f u gap = record {
     is_gap = subst (λ (x : Label). IsGapOf x f u) (own a) (gap.is_gap a);
     clear = λ s active (j, b, g, less, e, e', blocked).
-        let free : IsFreeOf a f u b g = subst (λ (x : Label). IsFreeOf x f u b g) (own b) (subst (λ (y : Label). IsFreeOf (get_or labels i b) f u y g) e (subst (λ (z : Gap). IsFreeOf (get_or labels i b) f u (get_or labels j b) z) e' (gap.free j b g less))) in
+        let free : IsFreeOf a f u b g = subst (λ (x : Label). IsFreeOf x f u b g) (own b) (subst (λ (y : Label). IsFreeOf (get_or labels i b) f u y g) e
+        (subst (λ (z : Gap). IsFreeOf (get_or labels i b) f u (get_or labels j b) z) e' (gap.free j b g less))) in
         free s blocked.0 active blocked.2 blocked.3;
   }
 
@@ -157,13 +162,15 @@ pub record Chosen (labels : List Label) (i : ℕ) (gaps : List Gap) : Type 0 whe
 pub chosen_none : (labels : List Label) (gaps : List Gap) → gaps ≡ [] → Chosen labels 0 gaps
 chosen_none labels gaps empty = record { one_each = rw empty refl; longest = λ k e lt. absurd (omega arith) }
 
-free_other : (labels : List Label) (gaps others : List Gap) (k : ℕ) → ((j : ℕ) (e : Gap) → j < k → get_or gaps j e ≡ get_or others j e) → (f u : Fraction) → IsFreeGap labels gaps k f u → IsFreeGap labels others k f u
+free_other : (labels : List Label) (gaps others : List Gap) (k : ℕ) → ((j : ℕ) (e : Gap) → j < k → get_or gaps j e ≡ get_or others j e) →
+    (f u : Fraction) → IsFreeGap labels gaps k f u → IsFreeGap labels others k f u
 free_other labels gaps others k same f u gap = record {
   is_gap = gap.is_gap;
   free = λ j d e less. subst (λ (g : Gap). IsFreeOf (get_or labels k d) f u (get_or labels j d) g) (same j e less) (gap.free j d e less);
 }
 
-longest_other : (labels : List Label) (gaps others : List Gap) (k : ℕ) → ((j : ℕ) (e : Gap) → j < k → get_or gaps j e ≡ get_or others j e) → (f u : Fraction) → IsLongestFree labels gaps k f u → IsLongestFree labels others k f u
+longest_other : (labels : List Label) (gaps others : List Gap) (k : ℕ) → ((j : ℕ) (e : Gap) → j < k → get_or gaps j e ≡ get_or others j e) →
+    (f u : Fraction) → IsLongestFree labels gaps k f u → IsLongestFree labels others k f u
 longest_other labels gaps others k same f u best = record {
   is_free = free_other labels gaps others k same f u best.is_free;
   longest = λ g v gap. best.longest g v (free_other labels others gaps k (λ j e less. sym (same j e less)) g v gap);
@@ -171,7 +178,8 @@ longest_other labels gaps others k same f u best = record {
 }
 
 -- with the longest free gap of the next label behind the others, the labels up to it have theirs
-pub chosen_more : (labels : List Label) (i : ℕ) (gaps : List Gap) (gap : Gap) → Chosen labels i gaps → IsLongestFree labels gaps i (value_of gap.from) (value_of gap.until) → Chosen labels (i + 1) (gaps ++ gap ∷ [])
+pub chosen_more : (labels : List Label) (i : ℕ) (gaps : List Gap) (gap : Gap) → Chosen labels i gaps →
+    IsLongestFree labels gaps i (value_of gap.from) (value_of gap.until) → Chosen labels (i + 1) (gaps ++ gap ∷ [])
 chosen_more labels i gaps gap so_far best = record {
   one_each = (let one = so_far.one_each in omega (arith, length-append gaps (gap ∷ [])));
   longest = λ k e lt. elim (cases_lt k i) [

@@ -33,14 +33,15 @@ some_gap : Gap
 some_gap = record { from = zero_ratio; until = zero_ratio }
 
 -- of two labels that are shown, the later does not overlap the earlier
-later_clear : (labels : List Label) (gaps : List Gap) (v : View) → AreGaps labels gaps → (j i : ℕ) (d : Label) → j < i → IsShownGap labels gaps v j → IsShownGap labels gaps v i → ¬ (Overlap (get_or labels i d) (get_or labels j d) (value_of v.scale))
+later_clear : (labels : List Label) (gaps : List Gap) (v : View) → AreGaps labels gaps → (j i : ℕ) (d : Label) → j < i →
+    IsShownGap labels gaps v j → IsShownGap labels gaps v i → ¬ (Overlap (get_or labels i d) (get_or labels j d) (value_of v.scale))
 later_clear labels gaps v are j i d less early late =
     let best = are.longest i some_gap late.0 in
     best.is_free.free j d some_gap less (value_of v.scale) v.above (late.1 d some_gap).0 (early.1 d some_gap).0
 
 -- two labels that a view shows under the gaps of the list do not overlap at its scale
-pub shown_clear : (labels : List Label) (gaps : List Gap) (v : View) (places : List ℕ) → AreGaps labels gaps → AreShownGaps labels gaps v places → (i j : ℕ) (d : Label) → Contains places i → Contains places j → i ≢ j →
-    ¬ (Overlap (get_or labels i d) (get_or labels j d) (value_of v.scale))
+pub shown_clear : (labels : List Label) (gaps : List Gap) (v : View) (places : List ℕ) → AreGaps labels gaps → AreShownGaps labels gaps v places →
+    (i j : ℕ) (d : Label) → Contains places i → Contains places j → i ≢ j → ¬ (Overlap (get_or labels i d) (get_or labels j d) (value_of v.scale))
 shown_clear labels gaps v places are shown i j d i_listed j_listed differ both =
     let i_shown = listed_shown labels gaps v places shown i i_listed in
     let j_shown = listed_shown labels gaps v places shown j j_listed in

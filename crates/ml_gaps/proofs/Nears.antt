@@ -42,7 +42,8 @@ below_last until s last upto less =
     omega arith
 
 -- labels that are apart up to the lesser of two such numbers do not overlap within both ranges
-pub apart_within : (a b : Label) (u v : Fraction) (p q m : ℕ) → u.num ≤ p * u.den → v.num ≤ q * v.den → (m ≡ p) ⊎ (m ≡ q) → AreApart a b m 1 → (s : Fraction) → IsLess s u → IsLess s v → ¬ (Overlap a b s)
+pub apart_within : (a b : Label) (u v : Fraction) (p q m : ℕ) → u.num ≤ p * u.den → v.num ≤ q * v.den →
+    (m ≡ p) ⊎ (m ≡ q) → AreApart a b m 1 → (s : Fraction) → IsLess s u → IsLess s v → ¬ (Overlap a b s)
 apart_within a b u v p q m one other (inl is) apart s first second over = apart s (subst (λ (k : ℕ). s.num * 1 ≤ k * s.den) (sym is) (below_last u s p one first)) over
 apart_within a b u v p q m one other (inr is) apart s first second over = apart s (subst (λ (k : ℕ). s.num * 1 ≤ k * s.den) (sym is) (below_last v s q other second)) over
 
@@ -66,12 +67,14 @@ nears_none labels gaps nears e f =
       own = λ k a g near lt. absurd (omega arith);
     }
 
-module _ (labels : List Label) (gaps : List Gap) (nears : List Near) (i : ℕ) (a : Label) (gap : Gap) (near : Near) (one : length gaps ≡ i) (in' : i < length labels) (own : a ≡ get_or labels i a) (so_far : AreNears labels gaps nears) where
+module _ (labels : List Label) (gaps : List Gap) (nears : List Near) (i : ℕ) (a : Label) (gap : Gap) (near : Near)
+    (one : length gaps ≡ i) (in' : i < length labels) (own : a ≡ get_or labels i a) (so_far : AreNears labels gaps nears) where
   -- what stands at i is the label
   its : (k : ℕ) (b : Label) → i ≡ k → a ≡ get_or labels k b
   its k b same = own ∙ (get_or_default labels i a b in' ∙ ap (λ (m : ℕ). get_or labels m b) same)
 
-  own_more : IsNearOf a (value_of gap.until) near → (k : ℕ) (b : Label) (g : Gap) (f : Near) → k < length (gaps ++ gap ∷ []) → IsNearOf (get_or labels k b) (value_of (get_or (gaps ++ gap ∷ []) k g).until) (get_or (nears ++ near ∷ []) k f)
+  own_more : IsNearOf a (value_of gap.until) near → (k : ℕ) (b : Label) (g : Gap) (f : Near) → k < length (gaps ++ gap ∷ []) →
+      IsNearOf (get_or labels k b) (value_of (get_or (gaps ++ gap ∷ []) k g).until) (get_or (nears ++ near ∷ []) k f)
   own_more is k b g f lt =
       let n = so_far.one_each in
       let m = length-append gaps (gap ∷ []) in

@@ -65,7 +65,8 @@ module _ (labels : List Label) (gaps others : List Gap) (i : ℕ) (same : (j : �
       let late = two.first (value_of g.from) (value_of g.until) there (omega arith) in
       let from = equal_ratio g.from h.from (omega arith) in
       let long : IsSame (length_of (value_of g.from) (value_of g.until)) (length_of (value_of h.from) (value_of h.until)) = omega arith in
-      let here : IsSame (length_of (value_of g.from) (value_of g.until)) (length_of (value_of g.from) (value_of h.until)) = subst (λ (r : Ratio). IsSame (length_of (value_of g.from) (value_of g.until)) (length_of (value_of r) (value_of h.until))) (sym from) long in
+      let here : IsSame (length_of (value_of g.from) (value_of g.until)) (length_of (value_of g.from) (value_of h.until)) =
+      subst (λ (r : Ratio). IsSame (length_of (value_of g.from) (value_of g.until)) (length_of (value_of r) (value_of h.until))) (sym from) long in
       let order : IsAtMost (value_of g.from) (value_of h.until) = subst (λ (r : Ratio). IsAtMost (value_of r) (value_of h.until)) (sym from) (two.is_free.is_gap d).order in
       let until = equal_ratio g.until h.until (same_end (value_of g.from) (value_of g.until) (value_of h.until) (one.is_free.is_gap d).order order here) in
       (λ t. record { from = from t; until = until t })

@@ -38,7 +38,10 @@ inside a = middle (value_of a.from) (value_of a.to)
 
 held_inside : (a : Piece) → HoldsScale a (inside a)
 unfolding inside
-held_inside a = (from_above a.from_in (value_of a.from) (middle (value_of a.from) (value_of a.to)) (middle_above (value_of a.from) (value_of a.to) a.some), middle_below (value_of a.from) (value_of a.to) a.some)
+held_inside a = (
+  from_above a.from_in (value_of a.from) (middle (value_of a.from) (value_of a.to)) (middle_above (value_of a.from) (value_of a.to) a.some),
+  middle_below (value_of a.from) (value_of a.to) a.some,
+)
 
 -- a piece that holds all that another holds begins no later, and ends no earlier
 begins_by : (a b : Piece) → ((s : Fraction) → HoldsScale a s → HoldsScale b s) → IsAtMost (value_of b.from) (value_of a.from)
@@ -47,13 +50,17 @@ begins_by a b all =
       | inl less ↦ elim (cases_lt (a.to.num * b.from.den) (b.from.num * a.to.den)) [
         | inl early ↦
             let below = middle_below (value_of a.from) (value_of a.to) a.some in
-            let held = all (middle (value_of a.from) (value_of a.to)) (from_above a.from_in (value_of a.from) (middle (value_of a.from) (value_of a.to)) (middle_above (value_of a.from) (value_of a.to) a.some), below) in
+            let held = all (middle (value_of a.from) (value_of a.to))
+            (from_above a.from_in (value_of a.from) (middle (value_of a.from) (value_of a.to)) (middle_above (value_of a.from) (value_of a.to) a.some), below) in
             let late = from_least b.from_in (value_of b.from) (middle (value_of a.from) (value_of a.to)) held.0 in
             let under = less_trans (middle (value_of a.from) (value_of a.to)) (value_of a.to) (value_of b.from) below early in
             absurd (omega arith)
         | inr late ↦
             let below = middle_below (value_of a.from) (value_of b.from) less in
-            let held = all (middle (value_of a.from) (value_of b.from)) (from_above a.from_in (value_of a.from) (middle (value_of a.from) (value_of b.from)) (middle_above (value_of a.from) (value_of b.from) less), less_at_most (middle (value_of a.from) (value_of b.from)) (value_of b.from) (value_of a.to) below late) in
+            let held = all (middle (value_of a.from) (value_of b.from)) (
+              from_above a.from_in (value_of a.from) (middle (value_of a.from) (value_of b.from)) (middle_above (value_of a.from) (value_of b.from) less),
+              less_at_most (middle (value_of a.from) (value_of b.from)) (value_of b.from) (value_of a.to) below late,
+            ) in
             let after = from_least b.from_in (value_of b.from) (middle (value_of a.from) (value_of b.from)) held.0 in
             absurd (omega arith)
       ]
@@ -66,12 +73,16 @@ ends_by a b all =
       | inl less ↦ elim (cases_lt (b.to.num * a.from.den) (a.from.num * b.to.den)) [
         | inl early ↦
             let above = middle_above (value_of a.from) (value_of a.to) a.some in
-            let held = all (middle (value_of a.from) (value_of a.to)) (from_above a.from_in (value_of a.from) (middle (value_of a.from) (value_of a.to)) above, middle_below (value_of a.from) (value_of a.to) a.some) in
+            let held = all (middle (value_of a.from) (value_of a.to))
+            (from_above a.from_in (value_of a.from) (middle (value_of a.from) (value_of a.to)) above, middle_below (value_of a.from) (value_of a.to) a.some) in
             let over = less_trans (value_of b.to) (value_of a.from) (middle (value_of a.from) (value_of a.to)) early above in
             absurd (let h = held.1 in omega arith)
         | inr late ↦
             let above = middle_above (value_of b.to) (value_of a.to) less in
-            let held = all (middle (value_of b.to) (value_of a.to)) (from_above a.from_in (value_of a.from) (middle (value_of b.to) (value_of a.to)) (at_most_less (value_of a.from) (value_of b.to) (middle (value_of b.to) (value_of a.to)) late above), middle_below (value_of b.to) (value_of a.to) less) in
+            let held = all (middle (value_of b.to) (value_of a.to)) (
+              from_above a.from_in (value_of a.from) (middle (value_of b.to) (value_of a.to)) (at_most_less (value_of a.from) (value_of b.to) (middle (value_of b.to) (value_of a.to)) late above),
+              middle_below (value_of b.to) (value_of a.to) less,
+            ) in
             absurd (let h = held.1 in omega arith)
       ]
       | inr more ↦ more

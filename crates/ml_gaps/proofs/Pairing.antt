@@ -1,5 +1,6 @@
 -- Pieces of sets, one set after another.
-use Rattle.std.proofs.Common.{◌≡◌, ℕ, suc, ◌+◌, ◌*◌, ◌<◌, ◌≤◌, ◌↔◌, List, [], ◌∷◌, ◌++◌, length, get_or, take, drop, arith, refl, sym, subst, ◌∙◌, ap, inl, inr, append_assoc, append-nil, length-append, map}
+use Rattle.std.proofs.Common.{◌≡◌, ℕ, suc, ◌+◌, ◌*◌, ◌<◌, ◌≤◌, ◌↔◌, List, [], ◌∷◌, ◌++◌, length, get_or, take, drop}
+use Rattle.std.proofs.Common.{arith, refl, sym, subst, ◌∙◌, ap, inl, inr, append_assoc, append-nil, length-append, map}
 use Rattle.std.specs.Prelude.{All, Any}
 use Rattle.std.proofs.lemmas.Grind.{flat_map-append}
 use Rattle.std.proofs.Math.Seq.{drop-cons}
@@ -76,9 +77,11 @@ pieces_each S [] [] none = All-nil (λ a. Any (λ x. (s : Fraction) → HoldsSca
 pieces_each S [] (a ∷ ps) wrong = elim wrong [ ]
 pieces_each S (x ∷ xs) (a ∷ ps) (piece holds rest) =
     All-cons (λ b. Any (λ y. (s : Fraction) → HoldsScale b s ↔ S y s) (x ∷ xs)) a ps (any_here (λ y. (s : Fraction) → HoldsScale a s ↔ S y s) x xs holds)
-    (All-weaker (λ b. Any (λ y. (s : Fraction) → HoldsScale b s ↔ S y s) xs) (λ b. Any (λ y. (s : Fraction) → HoldsScale b s ↔ S y s) (x ∷ xs)) (λ b any. any_there (λ y. (s : Fraction) → HoldsScale b s ↔ S y s) x xs any) ps (pieces_each S xs ps rest))
+    (All-weaker (λ b. Any (λ y. (s : Fraction) → HoldsScale b s ↔ S y s) xs) (λ b. Any (λ y. (s : Fraction) → HoldsScale b s ↔ S y s) (x ∷ xs))
+    (λ b any. any_there (λ y. (s : Fraction) → HoldsScale b s ↔ S y s) x xs any) ps (pieces_each S xs ps rest))
 pieces_each S (x ∷ xs) ps (passed empty rest) =
-    All-weaker (λ b. Any (λ y. (s : Fraction) → HoldsScale b s ↔ S y s) xs) (λ b. Any (λ y. (s : Fraction) → HoldsScale b s ↔ S y s) (x ∷ xs)) (λ b any. any_there (λ y. (s : Fraction) → HoldsScale b s ↔ S y s) x xs any) ps (pieces_each S xs ps rest)
+    All-weaker (λ b. Any (λ y. (s : Fraction) → HoldsScale b s ↔ S y s) xs) (λ b. Any (λ y. (s : Fraction) → HoldsScale b s ↔ S y s) (x ∷ xs))
+    (λ b any. any_there (λ y. (s : Fraction) → HoldsScale b s ↔ S y s) x xs any) ps (pieces_each S xs ps rest)
 
 -- ---- pieces that are appended
 
@@ -99,11 +102,13 @@ both_added S xs ys old mid new one two = record {
 }
 
 -- a further set that has a fraction adds one piece, which is the set
-pub one_added : {X : Type 0} (S : X → Fraction → Type 0) (xs : List X) (x : X) (old mid new : List Piece) (a : Piece) → AddsPiecesOf S xs old mid → new ≡ mid ++ a ∷ [] → ((s : Fraction) → HoldsScale a s ↔ S x s) → AddsPiecesOf S (xs ++ x ∷ []) old new
+pub one_added : {X : Type 0} (S : X → Fraction → Type 0) (xs : List X) (x : X) (old mid new : List Piece) (a : Piece) →
+    AddsPiecesOf S xs old mid → new ≡ mid ++ a ∷ [] → ((s : Fraction) → HoldsScale a s ↔ S x s) → AddsPiecesOf S (xs ++ x ∷ []) old new
 one_added S xs x old mid new a adds is holds = both_added S xs (x ∷ []) old mid new adds (record { added = a ∷ []; appended = is; in_order = piece holds none })
 
 -- a further set that has no fraction adds no piece
-pub one_passed : {X : Type 0} (S : X → Fraction → Type 0) (xs : List X) (x : X) (old mid new : List Piece) → AddsPiecesOf S xs old mid → new ≡ mid → ((s : Fraction) → ¬ (S x s)) → AddsPiecesOf S (xs ++ x ∷ []) old new
+pub one_passed : {X : Type 0} (S : X → Fraction → Type 0) (xs : List X) (x : X) (old mid new : List Piece) →
+    AddsPiecesOf S xs old mid → new ≡ mid → ((s : Fraction) → ¬ (S x s)) → AddsPiecesOf S (xs ++ x ∷ []) old new
 one_passed S xs x old mid new adds is empty = both_added S xs (x ∷ []) old mid new adds (record { added = []; appended = is ∙ sym (append-nil mid); in_order = passed empty none })
 
 -- what was appended for things by way of a map was appended for the mapped things
@@ -178,5 +183,6 @@ row_cut boxes others front back i d lt parts =
     let row : pairs_with others p ≡ pairs_with front p ++ pairs_with back p = ap (λ (l : List BoxPx). pairs_with l p) parts ∙ map-append (λ q. (p, q)) front back in
     ap (λ (l : List BoxPx). pairs_from l others) whole
     ∙ (flat_map-append (pairs_with others) (take i boxes) (p ∷ drop (suc i) boxes)
-    ∙ (ap (λ (l : List (BoxPx × BoxPx)). pairs_from (take i boxes) others ++ l) (flat_map-cons (pairs_with others) p (drop (suc i) boxes) ∙ (ap (λ (l : List (BoxPx × BoxPx)). l ++ rest) row ∙ append_assoc (pairs_with front p) (pairs_with back p) rest))
+    ∙ (ap (λ (l : List (BoxPx × BoxPx)). pairs_from (take i boxes) others ++ l) (flat_map-cons (pairs_with others) p (drop (suc i) boxes)
+    ∙ (ap (λ (l : List (BoxPx × BoxPx)). l ++ rest) row ∙ append_assoc (pairs_with front p) (pairs_with back p) rest))
     ∙ sym (append_assoc (pairs_from (take i boxes) others) (pairs_with front p) (pairs_with back p ++ rest))))

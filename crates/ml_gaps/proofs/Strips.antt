@@ -38,8 +38,9 @@ module _ (a : Label) (labels : List Label) (gaps : List Gap) (strips : List Stri
     same_strip k u z e = sym e ∙ (ap (λ (n : ℕ). get_or strips n u) z ∙ (get_or_default strips j u t lt ∙ sym at))
 
     -- the pieces at which the strip's label blocks come in
-    pub among_more : (most : ℕ) (old new : List Piece) (b : Label) (g : Gap) → b ≡ get_or labels t.place b → g ≡ get_or gaps t.place g → t.place < length labels → t.place < length gaps →
-        AddsPieces (IsBlocked a b g) (IsPairPiece a b g) most old new → ((s : Fraction) → HaveScale old s ↔ IsBlockedAmong a labels gaps strips j s) → (s : Fraction) → HaveScale new s ↔ IsBlockedAmong a labels gaps strips (j + 1) s
+    pub among_more : (most : ℕ) (old new : List Piece) (b : Label) (g : Gap) → b ≡ get_or labels t.place b → g ≡ get_or gaps t.place g →
+        t.place < length labels → t.place < length gaps → AddsPieces (IsBlocked a b g) (IsPairPiece a b g) most old new →
+        ((s : Fraction) → HaveScale old s ↔ IsBlockedAmong a labels gaps strips j s) → (s : Fraction) → HaveScale new s ↔ IsBlockedAmong a labels gaps strips (j + 1) s
     among_more most old new b g at_b at_g lt_b lt_g adds so_far s = (forth, back)
       where
         forth : HaveScale new s → IsBlockedAmong a labels gaps strips (j + 1) s
@@ -81,7 +82,8 @@ module _ (a : Label) (labels : List Label) (gaps : List Gap) (strips : List Stri
             ]
 
   -- the labels with strips block where all do
-  pub among_all : (axis : Axis) → AreStrips axis a labels gaps strips → (n : ℕ) → n ≡ length strips → (s : Fraction) → IsBlockedAmong a labels gaps strips n s ↔ IsBlockedBy a labels gaps (length gaps) s
+  pub among_all : (axis : Axis) → AreStrips axis a labels gaps strips → (n : ℕ) → n ≡ length strips →
+      (s : Fraction) → IsBlockedAmong a labels gaps strips n s ↔ IsBlockedBy a labels gaps (length gaps) s
   among_all axis all n e s = (forth, back)
     where
       forth : IsBlockedAmong a labels gaps strips n s → IsBlockedBy a labels gaps (length gaps) s
@@ -133,8 +135,9 @@ module _ (axis : Axis) (a : Label) (labels : List Label) (gaps : List Gap) (stri
   still_each k d lt = still_in (get_or strips k d) (so_far.each k d lt)
 
   -- a gap at which the label is active has its strip, where the last one has
-  whole_with : (others : List Strip) → ((j : ℕ) → Any (λ (t : Strip). t.place ≡ j) strips → Any (λ (t : Strip). t.place ≡ j) others) → ((s : Fraction) → IsActive gap s → Any (λ (t : Strip). t.place ≡ length gaps) others) →
-      (j : ℕ) (g : Gap) (s : Fraction) → j < length more → IsActive (get_or more j g) s → Any (λ (t : Strip). t.place ≡ j) others
+  whole_with : (others : List Strip) → ((j : ℕ) → Any (λ (t : Strip). t.place ≡ j) strips → Any (λ (t : Strip). t.place ≡ j) others) →
+      ((s : Fraction) → IsActive gap s → Any (λ (t : Strip). t.place ≡ length gaps) others) → (j : ℕ) (g : Gap) (s : Fraction) →
+      j < length more → IsActive (get_or more j g) s → Any (λ (t : Strip). t.place ≡ j) others
   whole_with others kept last j g s lt active =
       let many = length-append gaps (gap ∷ []) in
       elim (cases_lt j (length gaps)) [
@@ -145,7 +148,8 @@ module _ (axis : Axis) (a : Label) (labels : List Label) (gaps : List Gap) (stri
       ]
 
   -- the label with the gap has a strip, or is active nowhere
-  pub strips_more : (b : Label) (strip : Strip) (others : List Strip) → ((d : Label) → get_or labels (length gaps) d ≡ b) → strip.place ≡ length gaps → IsStripFor axis a b (value_of gap.until) strip → AddsStrip gap strip strips others → AreStrips axis a labels more others
+  pub strips_more : (b : Label) (strip : Strip) (others : List Strip) → ((d : Label) → get_or labels (length gaps) d ≡ b) → strip.place ≡ length gaps →
+      IsStripFor axis a b (value_of gap.until) strip → AddsStrip gap strip strips others → AreStrips axis a labels more others
   strips_more b strip others own place for (inl pushed) =
       let here : (d : Label) → get_or labels strip.place d ≡ b = λ d. subst (λ (p : ℕ). get_or labels p d ≡ b) (sym place) (own d) in
       let new : IsStripIn axis a labels more strip =
@@ -156,7 +160,8 @@ module _ (axis : Axis) (a : Label) (labels : List Label) (gaps : List Gap) (stri
       subst (λ (l : List Strip). AreStrips axis a labels more l) (sym pushed) (
       record {
         each = All-push (IsStripIn axis a labels more) strips strip still_each new;
-        whole = whole_with (strips ++ strip ∷ []) (λ j h. any_left (λ (t : Strip). t.place ≡ j) strips (strip ∷ []) h) (λ s h. any_right (λ (t : Strip). t.place ≡ length gaps) strips (strip ∷ []) (any_here (λ (t : Strip). t.place ≡ length gaps) strip [] place));
+        whole = whole_with (strips ++ strip ∷ []) (λ j h. any_left (λ (t : Strip). t.place ≡ j) strips (strip ∷ []) h)
+            (λ s h. any_right (λ (t : Strip). t.place ≡ length gaps) strips (strip ∷ []) (any_here (λ (t : Strip). t.place ≡ length gaps) strip [] place));
       })
   strips_more b strip others own place for (inr (kept, nowhere)) =
       subst (λ (l : List Strip). AreStrips axis a labels more l) (sym kept) (

@@ -46,8 +46,11 @@ shared piece f u room early late =
     let s = middle l h in
     let up : IsLess l s = middle_above l h inside in
     let down : IsLess s h = middle_below l h inside in
-    let from : IsLess f s = at_most_less f l s low.1 up in
-    (s, ((let k : IsAtMost f s = omega arith in k), less_at_most s h u down high.1), (from_above piece.from_in (value_of piece.from) s (at_most_less (value_of piece.from) l s low.2 up), less_at_most s h (value_of piece.to) down high.2))
+    let from : IsLess f s = at_most_less f l s low.1 up in (
+      s,
+      ((let k : IsAtMost f s = omega arith in k), less_at_most s h u down high.1),
+      (from_above piece.from_in (value_of piece.from) s (at_most_less (value_of piece.from) l s low.2 up), less_at_most s h (value_of piece.to) down high.2),
+    )
   where
     below : (x : Fraction) → IsLess f x → IsLess (value_of piece.from) x → IsLess (greater_of f (value_of piece.from)).0 x
     below x p q = (greater_of f (value_of piece.from)).4 x p q
@@ -206,7 +209,8 @@ swept_more a pieces i reach best so_far piece at lt order within' next out far l
       | inl less ↦ subst (λ (p : Piece). IsAtMost (value_of p.from) (value_of (get_or pieces k d).from)) (sym (there d)) (order i k d less in')
       | inr same ↦
           let z : i ≡ k = omega arith in
-          subst (λ (n : ℕ). IsAtMost (value_of piece.from) (value_of (get_or pieces n d).from)) z (subst (λ (p : Piece). IsAtMost (value_of piece.from) (value_of p.from)) (there d) (let h : IsAtMost (value_of piece.from) (value_of piece.from) = omega arith in h))
+          subst (λ (n : ℕ). IsAtMost (value_of piece.from) (value_of (get_or pieces n d).from)) z
+          (subst (λ (p : Piece). IsAtMost (value_of piece.from) (value_of p.from)) (there d) (let h : IsAtMost (value_of piece.from) (value_of piece.from) = omega arith in h))
     ]
 
     -- a range that the piece leaves clear, and that begins before its end, ends before it

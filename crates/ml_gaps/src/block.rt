@@ -24,10 +24,13 @@ use std::alloc::AllocError;
 /// # Errors
 /// Out of memory; the pieces of a first part of the pairs of boxes were appended.
 pub fn blocked(low: &Label, high: &Label, gap: &Gap, out: &mut Seq<Piece>) -> Result<(), AllocError>
-    ensures ok { OnOk result (AddsPieces (IsBlocked low.now high.now gap.now) (IsPairPiece low.now high.now gap.now)
+    ensures ok { OnOk result
+        (AddsPieces (IsBlocked low.now high.now gap.now) (IsPairPiece low.now high.now gap.now)
         (length low.now.boxes * length high.now.boxes) out.old out.new) }
-    ensures pairs { OnOk result (AddsPiecesOf (IsPairBlocked low.now high.now gap.now) (box_pairs_of low.now high.now) out.old out.new) }
-    ensures err { OnErr result (AddsFirstOf (IsPairBlocked low.now high.now gap.now) (box_pairs_of low.now high.now) out.old out.new) }
+    ensures pairs { OnOk result (AddsPiecesOf (IsPairBlocked low.now high.now gap.now)
+        (box_pairs_of low.now high.now) out.old out.new) }
+    ensures err { OnErr result (AddsFirstOf (IsPairBlocked low.now high.now gap.now)
+        (box_pairs_of low.now high.now) out.old out.new) }
 {
     let from = larger(low.min(), gap.from);
     let until = smaller(low.max(), gap.until);
@@ -42,8 +45,10 @@ fn block_range(
     until: Ratio,
     out: &mut Seq<Piece>,
 ) -> Result<(), AllocError>
-    ensures ok { OnOk result (AddsPiecesOf (IsPairInRange low.now high.now (value_of from) (value_of until)) (box_pairs_of low.now high.now) out.old out.new) }
-    ensures err { OnErr result (AddsFirstOf (IsPairInRange low.now high.now (value_of from) (value_of until)) (box_pairs_of low.now high.now) out.old out.new) }
+    ensures ok { OnOk result (AddsPiecesOf (IsPairInRange low.now high.now (value_of from)
+        (value_of until)) (box_pairs_of low.now high.now) out.old out.new) }
+    ensures err { OnErr result (AddsFirstOf (IsPairInRange low.now high.now (value_of from)
+        (value_of until)) (box_pairs_of low.now high.now) out.old out.new) }
 {
     if !from.is_less(&until) {
         return Ok(());
@@ -68,9 +73,11 @@ fn block_row(
 ) -> Result<(), AllocError>
     requires { i < length low.now.boxes }
     ensures ok { OnOk result ((d : BoxPx) →
-        AddsPiecesOf (λ q. IsPairInRange low.now high.now (value_of from) (value_of until) (slice_index_or low.now.boxes i d, q)) high.now.boxes out.old out.new) }
+        AddsPiecesOf (λ q. IsPairInRange low.now high.now (value_of from) (value_of until)
+        (slice_index_or low.now.boxes i d, q)) high.now.boxes out.old out.new) }
     ensures err { OnErr result ((d : BoxPx) →
-        AddsFirstOf (λ q. IsPairInRange low.now high.now (value_of from) (value_of until) (slice_index_or low.now.boxes i d, q)) high.now.boxes out.old out.new) }
+        AddsFirstOf (λ q. IsPairInRange low.now high.now (value_of from) (value_of until)
+        (slice_index_or low.now.boxes i d, q)) high.now.boxes out.old out.new) }
 {
     for j in 0..high.boxes().len() {
         if let Some(piece) = block_pair(low, i, high, j, from, until) {
@@ -93,7 +100,8 @@ fn block_pair(
     requires j_is_box { j < length high.now.boxes }
     ensures { (d : BoxPx) (s : Fraction) → HoldsIfSome result s ↔
         (IsScale s × ActiveBetween (value_of from) (value_of until) s ×
-        BoxesOverlap low.now (slice_index_or low.now.boxes i d) high.now (slice_index_or high.now.boxes j d) s) }
+        BoxesOverlap low.now (slice_index_or low.now.boxes i d) high.now
+        (slice_index_or high.now.boxes j d) s) }
 {
     match interval(low, i, high, j) {
         Some(between) => Piece::cut(from, until, between),

@@ -76,9 +76,11 @@ fn pieces_of(
 ) -> Result<Vec<Piece>, AllocError>
     requires few { length before.now.gaps.now ≤ length before.now.labels.now }
     requires nears { AreNears before.now.labels.now before.now.gaps.now before.now.nears.now }
-    requires strips { AreStrips axis label.now before.now.labels.now before.now.gaps.now before.now.strips.now }
+    requires strips { AreStrips axis label.now before.now.labels.now
+        before.now.gaps.now before.now.strips.now }
     requires empty { room.items ≡ [] }
-    ensures { IfOk result (λ pieces. (s : Fraction) → HaveScale pieces.items s ↔ IsBlockedBy label.now before.now.labels.now before.now.gaps.now (length before.now.gaps.now) s) }
+    ensures { IfOk result (λ pieces. (s : Fraction) → HaveScale pieces.items s ↔ IsBlockedBy
+        label.now before.now.labels.now before.now.gaps.now (length before.now.gaps.now) s) }
 {
     let own = Near::of(label, &label.max());
     let coordinate = anchor_on(axis, label);
@@ -112,7 +114,8 @@ fn add_blocked(
 ) -> Result<(), AllocError>
     requires own { IsNearOf label.now (value_of label.now.max) own.now }
     requires near { IsNearOf other.now (value_of gap.now.until) near.now }
-    ensures { OnOk result (AddsPieces (IsBlocked label.now other.now gap.now) (IsPairPiece label.now other.now gap.now)
+    ensures { OnOk result (AddsPieces (IsBlocked label.now other.now gap.now)
+        (IsPairPiece label.now other.now gap.now)
         (length label.now.boxes * length other.now.boxes) pieces.old pieces.new) }
 {
     if own.is_apart(near) {
@@ -133,8 +136,10 @@ fn add_strip(strips: &mut Vec<Strip>, gap: &Gap, strip: Strip) -> Result<(), All
 
 // The longest gap of the label that the pieces leave.
 fn longest_of(label: &Label, pieces: &mut Vec<Piece>) -> Gap
-    requires { (s : Fraction) → HaveScale pieces.old.items s → ActiveUntil label.now (value_of label.now.max) s }
-    ensures { IsLongestOf label.now (HaveScale pieces.old.items) (value_of result.from) (value_of result.until) }
+    requires { (s : Fraction) → HaveScale pieces.old.items s →
+        ActiveUntil label.now (value_of label.now.max) s }
+    ensures { IsLongestOf label.now (HaveScale pieces.old.items)
+        (value_of result.from) (value_of result.until) }
 {
     pieces.sort_unstable_by_key(|piece| piece.from);
     longest(label, pieces.as_slice())

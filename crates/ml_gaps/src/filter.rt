@@ -36,7 +36,8 @@ pub fn shown_gaps(
 
 // Whether the label with this gap is shown.
 fn is_shown(label: &Label, gap: &Gap, view: &View) -> bool
-    ensures { IsTrue result ↔ (IsActive gap.now (value_of view.now.scale) × IsInView label.now view.now) }
+    ensures { IsTrue result
+        ↔ (IsActive gap.now (value_of view.now.scale) × IsInView label.now view.now) }
 {
     let span = Span {
         min: gap.from,

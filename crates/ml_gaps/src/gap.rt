@@ -26,8 +26,10 @@ impl Gap {
     // The range, where it is longer than the gap; the gap where it is not.
     pub(crate) fn or_longer(self, from: Ratio, until: Ratio) -> Gap
         requires { IsAtMost (value_of self.from) (value_of self.until) }
-        ensures longer { IsLess (gap_length self) (length_of (value_of from) (value_of until)) → (result.from ≡ from) × (result.until ≡ until) }
-        ensures kept { IsAtMost (length_of (value_of from) (value_of until)) (gap_length self) → result ≡ self }
+        ensures longer { IsLess (gap_length self) (length_of (value_of from) (value_of until)) →
+            (result.from ≡ from) × (result.until ≡ until) }
+        ensures kept { IsAtMost (length_of (value_of from) (value_of until)) (gap_length self) →
+            result ≡ self }
     {
         if until.is_less(&from) {
             return self;

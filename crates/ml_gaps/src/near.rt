@@ -31,7 +31,8 @@ impl Near {
 
     /// Whether the two labels are too far apart to overlap within both ranges.
     pub fn is_apart(&self, other: &Near) -> bool
-        ensures { IsTrue result → (a b : Label) (u v : Fraction) → IsNearOf a u self.now → IsNearOf b v other.now →
+        ensures { IsTrue result → (a b : Label) (u v : Fraction) →
+            IsNearOf a u self.now → IsNearOf b v other.now →
             (s : Fraction) → IsLess s u → IsLess s v → ¬ (Overlap a b s) }
     {
         self.site

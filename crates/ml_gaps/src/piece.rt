@@ -23,7 +23,8 @@ impl Piece {
 
     // The scales from `from` on and below `until` that lie in the open interval, if there are any.
     pub(crate) fn cut(from: Ratio, until: Ratio, between: (Ratio, Option<Ratio>)) -> Option<Piece>
-        ensures { (s : Fraction) → HoldsIfSome result s ↔ (ActiveBetween (value_of from) (value_of until) s × LiesBetween value_of between s) }
+        ensures { (s : Fraction) → HoldsIfSome result s
+            ↔ (ActiveBetween (value_of from) (value_of until) s × LiesBetween value_of between s) }
     {
         let low = between.0;
         let to = nearer(until, between.1);
@@ -51,7 +52,8 @@ impl Piece {
 
 // The nearer of two upper ends, of which the second may be missing.
 fn nearer(until: Ratio, end: Option<Ratio>) -> Ratio
-    ensures { (s : Fraction) → IsLess s (value_of result) ↔ (IsLess s (value_of until) × IsUnder value_of end s) }
+    ensures { (s : Fraction) →
+        IsLess s (value_of result) ↔ (IsLess s (value_of until) × IsUnder value_of end s) }
 {
     match end {
         Some(end) => smaller(until, end),
@@ -61,14 +63,16 @@ fn nearer(until: Ratio, end: Option<Ratio>) -> Ratio
 
 // The greater of the two.
 pub(crate) fn larger(a: Ratio, b: Ratio) -> Ratio
-    ensures { (s : Fraction) → IsAtMost (value_of result) s ↔ (IsAtMost (value_of a) s × IsAtMost (value_of b) s) }
+    ensures { (s : Fraction) →
+        IsAtMost (value_of result) s ↔ (IsAtMost (value_of a) s × IsAtMost (value_of b) s) }
 {
     if a.is_less(&b) { b } else { a }
 }
 
 // The smaller of the two.
 pub(crate) fn smaller(a: Ratio, b: Ratio) -> Ratio
-    ensures { (s : Fraction) → IsLess s (value_of result) ↔ (IsLess s (value_of a) × IsLess s (value_of b)) }
+    ensures { (s : Fraction) →
+        IsLess s (value_of result) ↔ (IsLess s (value_of a) × IsLess s (value_of b)) }
 {
     if a.is_less(&b) { a } else { b }
 }

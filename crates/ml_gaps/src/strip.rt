@@ -32,7 +32,8 @@ impl Strip {
     pub fn about(label: &Label, place: usize, near: &Near, axis: Axis, reach: u32) -> Strip
         requires { reach ≤ 576 }
         ensures place { result.place ≡ place }
-        ensures far { (until : Fraction) → IsNearOf label.now until near.now → IsStripAbout axis reach label.now until result }
+        ensures far { (until : Fraction) → IsNearOf label.now until near.now →
+            IsStripAbout axis reach label.now until result }
     {
         distant_labels();
         Strip {
@@ -45,7 +46,8 @@ impl Strip {
     /// Whether an anchor at the coordinate lies too far away.
     pub fn is_past(&self, coordinate: i64) -> bool
         requires { IsInWorld coordinate }
-        ensures { MatchBool result (self.now.far ≤ unsigned_abs (coordinate -ℤ self.now.at)) (unsigned_abs (coordinate -ℤ self.now.at) < self.now.far) }
+        ensures { MatchBool result (self.now.far ≤ unsigned_abs (coordinate -ℤ self.now.at))
+            (unsigned_abs (coordinate -ℤ self.now.at) < self.now.far) }
     {
         self.far as u64 <= (coordinate - self.at as i64).unsigned_abs()
     }

@@ -13,7 +13,8 @@ use ml_cone::Label;
 pub fn longest(label: &Label, pieces: &[Piece]) -> Gap
     requires order { AllPairs (λ a b. IsAtMost (value_of a.from) (value_of b.from)) pieces.now }
     requires within { All (λ a. IsAtMost (value_of a.from) (value_of label.now.max)) pieces.now }
-    ensures { IsLongestOf label.now (HaveScale pieces.now) (value_of result.from) (value_of result.until) }
+    ensures { IsLongestOf label.now (HaveScale pieces.now)
+        (value_of result.from) (value_of result.until) }
 {
     let mut best = Gap {
         from: label.min(),

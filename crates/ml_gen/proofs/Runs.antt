@@ -61,7 +61,8 @@ module _ (groups : List Group) (own : HaveOwnNumbers groups) (placed : All IsGro
       -- those behind are still there
       pub still_there : (j : ℕ) (d : Group) → j < length groups → k + 1 ≤ j → HasFeature s.features (town_id (get_or groups j d)) → HasFeature t.features (town_id (get_or groups j d))
       still_there j d low behind there =
-          subst (λ (u : State). HasFeature u.features (town_id (get_or groups j d))) (sym goes) (others_stay (town_id g) s.features (town_id (get_or groups j d)) (ids_apart j d low (λ same. omega (arith, behind, same))) there)
+          subst (λ (u : State). HasFeature u.features (town_id (get_or groups j d))) (sym goes)
+          (others_stay (town_id g) s.features (town_id (get_or groups j d)) (ids_apart j d low (λ same. omega (arith, behind, same))) there)
 
       -- those before, and this one, are gone
       pub now_gone : ((j : ℕ) (d : Group) → j < k → ¬ (HasFeature s.features (town_id (get_or groups j d)))) → (j : ℕ) (d : Group) → j < k + 1 → ¬ (HasFeature t.features (town_id (get_or groups j d)))
@@ -110,4 +111,5 @@ run_same a b c ts us xs ys from turns all run =
 -- as many things come of all edits as there are groups, and again
 pub twice_long : (a b : State) (groups : List Group) (xs : List Counts) → Run a (map goes groups ++ map comes groups) xs b → length xs ≡ length groups + length groups
 twice_long a b groups xs run =
-    run_long a b (map goes groups ++ map comes groups) xs run ∙ length-append (map goes groups) (map comes groups) ∙ ap (λ (n : ℕ). n + length (map comes groups)) (length-map groups goes) ∙ ap (λ (n : ℕ). length groups + n) (length-map groups comes)
+    run_long a b (map goes groups ++ map comes groups) xs run ∙ length-append (map goes groups) (map comes groups)
+    ∙ ap (λ (n : ℕ). n + length (map comes groups)) (length-map groups goes) ∙ ap (λ (n : ℕ). length groups + n) (length-map groups comes)

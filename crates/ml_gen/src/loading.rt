@@ -36,7 +36,8 @@ fn read_map(alloc: Global, groups: &[Group]) -> Result<Seq<Feature>, AllocError>
     requires own { HaveOwnNumbers groups.now }
     ensures read { IfOk result (AreRead (flat_map things_in groups.now)) }
     ensures differ { IfOk result HaveDifferentIds }
-    ensures there { IfOk result (λ read. All (λ group. HasFeature read (id_of group (codes "a"))) groups.now) }
+    ensures there { IfOk result
+        (λ read. All (λ group. HasFeature read (id_of group (codes "a"))) groups.now) }
     ensures number { IfOk result (λ read. length read ≡ length groups.now * 5) }
 {
     let made = things_of(alloc, groups)?;
@@ -55,8 +56,10 @@ pub(crate) fn load_generated(
     requires placed { All IsGroupPlace groups.now }
     requires own { HaveOwnNumbers groups.now }
     requires few { length groups.now ≤ 6000 }
-    ensures state { IfOk result (λ editor. (read : List FeatureOfMap) × AreRead (flat_map things_in groups.now) read × (editor.state ≡ first_state style read)) }
-    ensures there { IfOk result (λ editor. All (λ group. HasFeature editor.state.features (id_of group (codes "a"))) groups.now) }
+    ensures state { IfOk result (λ editor. (read : List FeatureOfMap)
+        × AreRead (flat_map things_in groups.now) read × (editor.state ≡ first_state style read)) }
+    ensures there { IfOk result (λ editor.
+        All (λ group. HasFeature editor.state.features (id_of group (codes "a"))) groups.now) }
     ensures number { IfOk result (λ editor. length editor.state.features ≡ length groups.now * 5) }
 {
     let read = read_map(alloc, groups)?;

@@ -182,7 +182,8 @@ fn area(alloc: Global, group: &Group) -> Result<Feature, AllocError>
 #[tactic(auto, using(crate::proofs::Props::digit))]
 fn push_things(alloc: Global, group: &Group, features: &mut Seq<Feature>) -> Result<(), AllocError>
     requires { IsGroupPlace group.now }
-    ensures { OnOk result (mapped thing_of features.new ≡ mapped thing_of features.old ++ things_in group.now) }
+    ensures { OnOk result
+        (mapped thing_of features.new ≡ mapped thing_of features.old ++ things_in group.now) }
 {
     features.push(first_town(alloc, group)?)?;
     features.push(town(alloc, group, "b", 400, "2")?)?;

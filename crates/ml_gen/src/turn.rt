@@ -54,7 +54,8 @@ fn count_shown<L: Ledger>(
     steps: &mut Steps<L>,
 ) -> Result<usize, AllocError>
     requires { IsGroupPlace group.now }
-    ensures { IfOk result (λ n. (view : ViewOfMap) × IsViewOf group.now view × Shows editor.now.state view n) }
+    ensures { IfOk result
+        (λ n. (view : ViewOfMap) × IsViewOf group.now view × Shows editor.now.state view n) }
 {
     let _rev = editor.rev();
     let view = view_of(group);
@@ -73,7 +74,8 @@ fn carry_out<L: Ledger>(
     requires placed { IsGroupPlace group.now }
     requires of_state { IsReady ready editor.old.state editor.old.engine.rows }
     requires room { HasRoomFor ready editor.old }
-    ensures made { IfOk result (λ counts. IsMade ready.edit group.now editor.old.state counts editor.new.state) }
+    ensures made { IfOk result
+        (λ counts. IsMade ready.edit group.now editor.old.state counts editor.new.state) }
 {
     let _rev = editor.rev();
     let changes = ready.changes().len();
@@ -101,8 +103,10 @@ pub(crate) fn take_out<L: Ledger>(
     requires placed { IsGroupPlace group.now }
     requires there { HasFeature editor.old.state.features (group_id group.now (codes "a")) }
     requires early { editor.old.state.rev < last_rev }
-    ensures turn { IfOk result (λ counts. IsTurn (goes group.now) editor.old.state counts editor.new.state) }
-    ensures state { OnOk result (editor.new.state ≡ step editor.old.state (remove_edit (group_id group.now (codes "a")))) }
+    ensures turn { IfOk result
+        (λ counts. IsTurn (goes group.now) editor.old.state counts editor.new.state) }
+    ensures state { OnOk result
+        (editor.new.state ≡ step editor.old.state (remove_edit (group_id group.now (codes "a")))) }
 {
     let id = id_of(alloc, group, "a")?;
     let ready = match editor.prepare_remove(alloc, None, &id, steps) {
@@ -127,8 +131,10 @@ pub(crate) fn put_back<L: Ledger>(
     requires gone { ¬ (HasFeature editor.old.state.features (group_id group.now (codes "a"))) }
     requires few { length editor.old.state.features < most_labels }
     requires early { editor.old.state.rev < last_rev }
-    ensures turn { IfOk result (λ counts. IsTurn (comes group.now) editor.old.state counts editor.new.state) }
-    ensures state { OnOk result ((f : FeatureOfMap) × (f.id ≡ group_id group.now (codes "a")) × (editor.new.state ≡ step editor.old.state (add_edit f))) }
+    ensures turn { IfOk result
+        (λ counts. IsTurn (comes group.now) editor.old.state counts editor.new.state) }
+    ensures state { OnOk result ((f : FeatureOfMap) × (f.id ≡ group_id group.now (codes "a"))
+        × (editor.new.state ≡ step editor.old.state (add_edit f))) }
 {
     one_feature();
     let town = first_town(alloc, group)?;

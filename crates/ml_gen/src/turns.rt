@@ -23,11 +23,15 @@ fn take_all_out<L: Ledger>(
 ) -> Result<Vec<Counts>, AllocError>
     requires placed { All IsGroupPlace groups.now }
     requires own { HaveOwnNumbers groups.now }
-    requires there { All (λ group. HasFeature editor.old.state.features (id_of group (codes "a"))) groups.now }
+    requires there { All
+        (λ group. HasFeature editor.old.state.features (id_of group (codes "a"))) groups.now }
     requires early { editor.old.state.rev + length groups.now ≤ last_rev }
-    ensures run { IfOk result (λ each. Run editor.old.state (map goes groups.now) each.items editor.new.state) }
-    ensures gone { OnOk result (All (λ group. ¬ (HasFeature editor.new.state.features (id_of group (codes "a")))) groups.now) }
-    ensures fewer { OnOk result (length editor.new.state.features + length groups.now ≤ length editor.old.state.features) }
+    ensures run { IfOk result
+        (λ each. Run editor.old.state (map goes groups.now) each.items editor.new.state) }
+    ensures gone { OnOk result (All
+        (λ group. ¬ (HasFeature editor.new.state.features (id_of group (codes "a")))) groups.now) }
+    ensures fewer { OnOk result
+        (length editor.new.state.features + length groups.now ≤ length editor.old.state.features) }
     ensures rev { OnOk result (editor.new.state.rev ≡ editor.old.state.rev + length groups.now) }
 {
     let mut each = Vec::new(alloc);
@@ -46,10 +50,12 @@ fn put_all_back<L: Ledger>(
 ) -> Result<Vec<Counts>, AllocError>
     requires placed { All IsGroupPlace groups.now }
     requires own { HaveOwnNumbers groups.now }
-    requires gone { All (λ group. ¬ (HasFeature editor.old.state.features (id_of group (codes "a")))) groups.now }
+    requires gone { All
+        (λ group. ¬ (HasFeature editor.old.state.features (id_of group (codes "a")))) groups.now }
     requires few { length editor.old.state.features + length groups.now ≤ most_labels }
     requires early { editor.old.state.rev + length groups.now ≤ last_rev }
-    ensures run { IfOk result (λ each. Run editor.old.state (map comes groups.now) each.items editor.new.state) }
+    ensures run { IfOk result
+        (λ each. Run editor.old.state (map comes groups.now) each.items editor.new.state) }
 {
     let mut each = Vec::new(alloc);
     for group in groups {
@@ -71,10 +77,12 @@ pub(crate) fn edit_all<L: Ledger>(
 ) -> Result<Vec<Counts>, AllocError>
     requires placed { All IsGroupPlace groups.now }
     requires own { HaveOwnNumbers groups.now }
-    requires there { All (λ group. HasFeature editor.old.state.features (id_of group (codes "a"))) groups.now }
+    requires there { All
+        (λ group. HasFeature editor.old.state.features (id_of group (codes "a"))) groups.now }
     requires few { length editor.old.state.features ≤ most_labels }
     requires early { editor.old.state.rev + (length groups.now + length groups.now) ≤ last_rev }
-    ensures run { IfOk result (λ each. Run editor.old.state (map goes groups.now ++ map comes groups.now) each.items editor.new.state) }
+    ensures run { IfOk result (λ each. Run editor.old.state
+        (map goes groups.now ++ map comes groups.now) each.items editor.new.state) }
 {
     let mut each = take_all_out(alloc, editor, groups, steps)?;
     let others = put_all_back(alloc, editor, groups, steps)?;

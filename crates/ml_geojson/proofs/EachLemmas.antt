@@ -43,7 +43,8 @@ module _ {Y : Type 0} where
   filled_apart [] ys = refl
   filled_apart (y ∷ x) ys = refl
 
-  filled_more : (xs : List (List Y)) (x : List Y) (reading : Reading (List (List Y))) → behind xs (then_made filled (then_made (λ ys. x ∷ ys) reading)) ≡ behind (xs ++ filled (x ∷ [])) (then_made filled reading)
+  filled_more : (xs : List (List Y)) (x : List Y) (reading : Reading (List (List Y))) →
+      behind xs (then_made filled (then_made (λ ys. x ∷ ys) reading)) ≡ behind (xs ++ filled (x ∷ [])) (then_made filled reading)
   filled_more xs x (Ok ys) = ap Ok (ap (λ zs. xs ++ zs) (filled_apart x ys) ∙ sym (append_assoc xs (filled (x ∷ [])) (filled ys)))
   filled_more xs x (Err fault) = refl
 
@@ -72,8 +73,10 @@ module _ {A B : Type 0} (view : A → B) where
   filled_view xs x = map-append (map view) xs (filled (x ∷ [])) ∙ ap (λ ys. map (map view) xs ++ ys) (filled_seen x)
 
   -- a further part, seen so
-  pub parts_next : (f : Tree → Reading (List B)) (items : List Lent) (i : ℕ) (item : Lent) (parts new : List (List A)) (part : List A) (all : Reading (List (List B))) → i < length items → get_or items i item ≡ item → f (lent_of item) ≡ Ok (map view part)
-      → new ≡ parts ++ filled (part ∷ []) → all ≡ behind (map (map view) parts) (then_made filled (each f (lents_view (drop i items)))) → all ≡ behind (map (map view) new) (then_made filled (each f (lents_view (drop (i + 1) items))))
+  pub parts_next : (f : Tree → Reading (List B)) (items : List Lent) (i : ℕ) (item : Lent) (parts new : List (List A)) (part : List A) (all : Reading (List (List B))) →
+      i < length items → get_or items i item ≡ item → f (lent_of item) ≡ Ok (map view part) → new ≡ parts ++ filled (part ∷ []) →
+      all ≡ behind (map (map view) parts) (then_made filled (each f (lents_view (drop i items)))) →
+      all ≡ behind (map (map view) new) (then_made filled (each f (lents_view (drop (i + 1) items))))
   parts_next f items i item parts new part all less there reads added so_far =
       let further : suc i ≡ i + 1 = omega arith in
       let left : drop i items ≡ item ∷ drop (i + 1) items = drop-cons items i item less ∙ ap (λ (x : Lent). x ∷ drop (suc i) items) there ∙ ap (λ (n : ℕ). item ∷ drop n items) further in

@@ -50,7 +50,8 @@ map_due : (answer : Result (List Feature) GeoFault) (fault : GeoFault) (reading 
 map_due (Ok found) fault reading e h = absurd (let both : Ok h.0 ≡ Err fault = sym h.1 ∙ e in cc)
 map_due (Err given) fault reading e h = fault_due given fault reading e h
 
-map_given : (answer : Result (List Feature) GeoFault) (features : List Feature) (reading : Reading (List Parts)) (parts : List Parts) → reading ≡ Ok parts → AreMadeOf parts features → AreRead answer reading → GivesMap answer features
+map_given : (answer : Result (List Feature) GeoFault) (features : List Feature) (reading : Reading (List Parts)) (parts : List Parts) →
+    reading ≡ Ok parts → AreMadeOf parts features → AreRead answer reading → GivesMap answer features
 map_given (Ok found) features reading parts e made h =
     let same : h.0 ≡ parts = (let both : Ok h.0 ≡ Ok parts = sym h.1 ∙ e in cc) in
     same_features parts found features (subst (λ (ps : List Parts). AreMadeOf ps found) same h.2) made
@@ -69,7 +70,8 @@ feature_due (Err NoId) fault reading e h = absurd (let both : Ok h.0 ≡ Err fau
 feature_due (Err Memory) fault reading e h = inr refl
 
 -- a reading with a value: the feature, or that it has no id, or out of memory
-feature_given : (answer : Result Feature GeoFault) (one : Feature) (reading : Reading Parts) (parts : Parts) → reading ≡ Ok parts → parts.own ≡ Some one.id → IsMadeOf parts one → IsRead answer reading → GivesFeature answer one
+feature_given : (answer : Result Feature GeoFault) (one : Feature) (reading : Reading Parts) (parts : Parts) →
+    reading ≡ Ok parts → parts.own ≡ Some one.id → IsMadeOf parts one → IsRead answer reading → GivesFeature answer one
 feature_given (Ok found) one reading parts e named made h =
     let same : h.0 ≡ parts = (let both : Ok h.0 ≡ Ok parts = sym h.1 ∙ e in cc) in
     let id : found.id ≡ one.id = same_Some found.id one.id (sym h.2 ∙ ap (λ (ps : Parts). ps.own) same ∙ named) in
@@ -111,7 +113,8 @@ pub record ReadsText (bytes : List ℕ) (found : Result Lent JsonFault) : Type 0
   pub not_json : (at : ℕ) → RefusesExactly found (json.NotJson at) json.Memory (IsNotJson bytes at)
   pub deep : (at : ℕ) → RefusesExactly found (json.Deep at) json.Memory (IsDeep bytes at)
 
-module _ {X Y : Type 0} (IsAnswer : Result X GeoFault → Reading Y → Type 0) (read : Tree → Reading Y) (bytes : List ℕ) (found : Result Lent JsonFault) (reads : ReadsText bytes found) (answer : Result X GeoFault) (from : IsAnswerTo IsAnswer read found answer) where
+module _ {X Y : Type 0} (IsAnswer : Result X GeoFault → Reading Y → Type 0) (read : Tree → Reading Y) (bytes : List ℕ)
+    (found : Result Lent JsonFault) (reads : ReadsText bytes found) (answer : Result X GeoFault) (from : IsAnswerTo IsAnswer read found answer) where
   -- the answer to the text's fault
   text_due : (fault : JsonFault) → (found ≡ Err fault) ⊎ (found ≡ Err json.Memory) → IsDue answer (fault_of fault)
   text_due fault h = elim h [
@@ -128,7 +131,8 @@ module _ {X Y : Type 0} (IsAnswer : Result X GeoFault → Reading Y → Type 0) 
   deep_due at fact = text_due (json.Deep at) ((reads.deep at).1 fact)
 
   -- what holds of an answer to the tree, and of out of memory, holds of the answer
-  on_tree : (P : Result X GeoFault → Type 0) (tree : Tree) (f : Result Lent JsonFault) → GivesTree lent_of f tree → IsAnswerTo IsAnswer read f answer → (IsAnswer answer (read tree) → P answer) → P (Err Memory) → P answer
+  on_tree : (P : Result X GeoFault → Type 0) (tree : Tree) (f : Result Lent JsonFault) → GivesTree lent_of f tree →
+      IsAnswerTo IsAnswer read f answer → (IsAnswer answer (read tree) → P answer) → P (Err Memory) → P answer
   on_tree P tree (Ok value) same h due memory = due (subst (λ (t : Tree). IsAnswer answer (read t)) same h)
   on_tree P tree (Err (json.NotJson at)) same h due memory = absurd same
   on_tree P tree (Err (json.Deep at)) same h due memory = absurd same
@@ -139,16 +143,19 @@ module _ {X Y : Type 0} (IsAnswer : Result X GeoFault → Reading Y → Type 0) 
   by_tree P tree text due memory = on_tree P tree found (reads.text tree text) from due memory
 
 -- a refusal that is right wherever it comes, and comes where it is due
-exactly : {X : Type 0} (answer : Result X GeoFault) (Fact : GeoFault → Type 0) (fault : GeoFault) → IfErr answer Fact → (Fact fault → IsDue answer fault) → RefusesExactly answer fault Memory (Fact fault)
+exactly : {X : Type 0} (answer : Result X GeoFault) (Fact : GeoFault → Type 0) (fault : GeoFault) →
+    IfErr answer Fact → (Fact fault → IsDue answer fault) → RefusesExactly answer fault Memory (Fact fault)
 exactly answer Fact fault cause due = ((λ e. subst (λ (a : Result _ GeoFault). IfErr a Fact) e cause), due)
 
-module _ (bytes : List ℕ) (found : Result Lent JsonFault) (reads : ReadsText bytes found) (answer : Result (List Feature) GeoFault) (from : IsAnswerTo AreRead collection found answer) (cause : IfErr answer (IsMapFault bytes)) where
+module _ (bytes : List ℕ) (found : Result Lent JsonFault) (reads : ReadsText bytes found) (answer : Result (List Feature) GeoFault)
+    (from : IsAnswerTo AreRead collection found answer) (cause : IfErr answer (IsMapFault bytes)) where
   of_tree : (fault : GeoFault) → ((tree : Tree) × IsText bytes tree × (collection tree ≡ Err fault)) → IsDue answer fault
   of_tree fault fact = by_tree AreRead collection bytes found reads answer from (λ a. IsDue a fault) fact.0 fact.1 (λ h. map_due answer fault (collection fact.0) fact.2 h) (inr refl)
 
   -- bytes that are a map file give it
   pub map_reads : (features : List Feature) → IsMap bytes features → GivesMap answer features
-  map_reads features is = by_tree AreRead collection bytes found reads answer from (λ a. GivesMap a features) is.tree is.text (λ h. map_given answer features (collection is.tree) is.parts is.reads is.made h) tt
+  map_reads features is = by_tree AreRead collection bytes found reads answer from (λ a. GivesMap a features) is.tree is.text
+      (λ h. map_given answer features (collection is.tree) is.parts is.reads is.made h) tt
 
   -- a map file is refused as no JSON at a byte exactly where its bytes cease to be JSON there
   pub map_not_json : (at : ℕ) → RefusesExactly answer (NotJson at) Memory (IsNotJson bytes at)
@@ -178,16 +185,19 @@ module _ (bytes : List ℕ) (found : Result Lent JsonFault) (reads : ReadsText b
   pub map_short_ring : (k : ℕ) → RefusesExactly answer (ShortRing k) Memory (IsMapFault bytes (ShortRing k))
   map_short_ring k = exactly answer (IsMapFault bytes) (ShortRing k) cause (of_tree (ShortRing k))
 
-module _ (bytes : List ℕ) (found : Result Lent JsonFault) (reads : ReadsText bytes found) (answer : Result Feature GeoFault) (from : IsAnswerTo IsRead (feature 0) found answer) (cause : IfErr answer (IsFeatureFault bytes)) where
+module _ (bytes : List ℕ) (found : Result Lent JsonFault) (reads : ReadsText bytes found) (answer : Result Feature GeoFault)
+    (from : IsAnswerTo IsRead (feature 0) found answer) (cause : IfErr answer (IsFeatureFault bytes)) where
   of_tree_1 : (fault : GeoFault) → ((tree : Tree) × IsText bytes tree × (feature 0 tree ≡ Err fault)) → IsDue answer fault
   of_tree_1 fault fact = by_tree IsRead (feature 0) bytes found reads answer from (λ a. IsDue a fault) fact.0 fact.1 (λ h. feature_due answer fault (feature 0 fact.0) fact.2 h) (inr refl)
 
   of_no_id : HasNoId bytes → IsDue answer NoId
-  of_no_id fact = by_tree IsRead (feature 0) bytes found reads answer from (λ a. IsDue a NoId) fact.tree fact.text (λ h. no_id_due answer (feature 0 fact.tree) fact.parts fact.reads fact.unnamed h) (inr refl)
+  of_no_id fact = by_tree IsRead (feature 0) bytes found reads answer from (λ a. IsDue a NoId) fact.tree fact.text
+      (λ h. no_id_due answer (feature 0 fact.tree) fact.parts fact.reads fact.unnamed h) (inr refl)
 
   -- bytes that are a feature with an id give it
   pub feature_reads : (one : Feature) → IsFeature bytes one → GivesFeature answer one
-  feature_reads one is = by_tree IsRead (feature 0) bytes found reads answer from (λ a. GivesFeature a one) is.tree is.text (λ h. feature_given answer one (feature 0 is.tree) is.parts is.reads is.named is.made h) tt
+  feature_reads one is = by_tree IsRead (feature 0) bytes found reads answer from (λ a. GivesFeature a one) is.tree is.text
+      (λ h. feature_given answer one (feature 0 is.tree) is.parts is.reads is.named is.made h) tt
 
   -- the text of one feature is refused as no JSON at a byte exactly where its bytes cease to be JSON there
   pub feature_not_json : (at : ℕ) → RefusesExactly answer (NotJson at) Memory (IsNotJson bytes at)

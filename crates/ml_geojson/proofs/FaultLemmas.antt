@@ -64,7 +64,8 @@ module _ (bytes : List ℕ) (tree : Tree) (text : IsText bytes tree) where
   feature_answered (Err fault) h = feature_refused bytes tree text fault h
 
 -- the refusal of the text
-module _ (bytes : List ℕ) (result : Result Lent JsonFault) (not_json : (at : ℕ) → RefusesExactly result (json.NotJson at) json.Memory (IsNotJson bytes at)) (deep : (at : ℕ) → RefusesExactly result (json.Deep at) json.Memory (IsDeep bytes at)) where
+module _ (bytes : List ℕ) (result : Result Lent JsonFault) (not_json : (at : ℕ) → RefusesExactly result (json.NotJson at) json.Memory (IsNotJson bytes at))
+    (deep : (at : ℕ) → RefusesExactly result (json.Deep at) json.Memory (IsDeep bytes at)) where
   -- why the text is no JSON, or is too deep, is why the bytes are no map file
   pub text_refused_map : (fault : JsonFault) → result ≡ Err fault → IsMapFault bytes (fault_of fault)
   text_refused_map (json.NotJson at) e = (not_json at).0 e

@@ -124,7 +124,8 @@ module _ (k : ℕ) where
 kept_features : (k : ℕ) (ts : Trees) → Kept (features k ts)
 kept_features k none = tt
 kept_features k (more t ts) =
-    kept_read (λ one. then_made (λ others. one ∷ others) (features (k + 1) ts)) (feature k t) (kept_feature k t) (λ one. kept_made (λ others. one ∷ others) (features (k + 1) ts) (kept_features (k + 1) ts))
+    kept_read (λ one. then_made (λ others. one ∷ others) (features (k + 1) ts)) (feature k t) (kept_feature k t)
+    (λ one. kept_made (λ others. one ∷ others) (features (k + 1) ts) (kept_features (k + 1) ts))
 
 -- what a map file's reading can refuse besides the text
 abbrev pub KeptMap : {X : Type 0} → Reading X → Type 0
@@ -158,7 +159,8 @@ kept_listed (Some (str s)) = tt
 kept_listed (Some (map ps)) = tt
 
 kept_collected : (ps : Pairs) → KeptMap (collected ps)
-kept_collected ps = kept_map_cond (is_text (codes "FeatureCollection") (member (codes "type") ps)) (listed (member (codes "features") ps)) (Err NotCollection) (kept_listed (member (codes "features") ps)) tt
+kept_collected ps = kept_map_cond (is_text (codes "FeatureCollection") (member (codes "type") ps))
+    (listed (member (codes "features") ps)) (Err NotCollection) (kept_listed (member (codes "features") ps)) tt
 
 -- a map file's reading is refused for nothing else, but for being no collection
 pub kept_collection : (t : Tree) → KeptMap (collection t)

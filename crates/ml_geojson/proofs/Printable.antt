@@ -96,7 +96,8 @@ module _ (laws : JsonLaws) where
   -- the tree of a collection of features is at most 8 deep
   pub collection_flat : (fs : List Feature) → IsFlat 8 (collection_tree fs)
   collection_flat fs =
-      let all : IsFlat 7 (list_tree feature_tree fs) = subst (λ (gs : List Feature). IsFlat 7 (list_tree feature_tree gs)) (map-id fs) (list_flat feature_tree (λ (f : Feature). f) 6 feature_flat fs) in
+      let all : IsFlat 7 (list_tree feature_tree fs) =
+      subst (λ (gs : List Feature). IsFlat 7 (list_tree feature_tree gs)) (map-id fs) (list_flat feature_tree (λ (f : Feature). f) 6 feature_flat fs) in
       let inner : max 0 (max (nesting (list_tree feature_tree fs)) 0) ≤ 7 = max-le (omega arith) (max-le all.shallow (omega arith)) in
       record { numbers = (tt, (all.numbers, tt)); shallow = omega arith }
 

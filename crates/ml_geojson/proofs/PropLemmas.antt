@@ -65,7 +65,8 @@ tail_ascends k v (pair l w ps) h = h.1
 
 with_ascends : (k : List ℕ) (tree : Option Scalar) (props : List Prop) → AreAbove k props → AreAscending props → AreAscending (with_scalar k tree props)
 with_ascends k None props h g = g
-with_ascends k (Some value) props h g = AllPairs-cons (λ (p q : Prop). slice_cmp nat_cmp p.key q.key ≡ Less) (record { key = k; value = value }) props (all_of (λ (q : Prop). slice_cmp nat_cmp k q.key ≡ Less) props h) g
+with_ascends k (Some value) props h g = AllPairs-cons (λ (p q : Prop). slice_cmp nat_cmp p.key q.key ≡ Less)
+    (record { key = k; value = value }) props (all_of (λ (q : Prop). slice_cmp nat_cmp k q.key ≡ Less) props h) g
 
 ascends : (ps : Pairs) → IsAscending ps → AreAscending (scalars ps)
 ascends no_pairs h = λ i j d less lt. absurd (omega arith)

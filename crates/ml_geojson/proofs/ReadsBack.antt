@@ -91,7 +91,8 @@ module _ (laws : JsonLaws) (k : ℕ) where
   shape_back : (shape : Geometry) → IsGeometry shape → geometry k (Some (settled (geometry_tree (some_shape_of (Some shape))))) ≡ Ok (some_shape_of (Some shape))
   shape_back (Point p) h = rw (place_back p) refl
   shape_back (MultiPoint positions') h =
-      ap (λ items. then_made (some_shape points) (positions k items)) (places_stay (places_of positions')) ∙ ap (then_made (some_shape points)) (positions_back positions') ∙ some_made points place_of positions' h
+      ap (λ items. then_made (some_shape points) (positions k items)) (places_stay (places_of positions'))
+      ∙ ap (then_made (some_shape points)) (positions_back positions') ∙ some_made points place_of positions' h
   shape_back (LineString line') h =
       ap (λ items. then_made (some_shape line) (positions k items)) (places_stay (places_of line')) ∙ ap (then_made (some_shape line)) (positions_back line') ∙ some_made line place_of line' h
   shape_back (MultiLineString parts) h =
@@ -99,7 +100,8 @@ module _ (laws : JsonLaws) (k : ℕ) where
   shape_back (Polygon parts) h =
       ap (λ items. then_made (some_shape polygon) (rings k items)) (lines_stay (lines_of parts)) ∙ ap (then_made (some_shape polygon)) (rings_back parts h.1) ∙ some_made polygon places_of parts h.0
   shape_back (MultiPolygon parts) h =
-      ap (λ items. then_made (some_shape polygons) (polygon_parts k items)) (polygons_stay (polygons_of parts)) ∙ ap (then_made (some_shape polygons)) (polygons_back parts h.1) ∙ some_made polygons lines_of parts h.0
+      ap (λ items. then_made (some_shape polygons) (polygon_parts k items)) (polygons_stay (polygons_of parts))
+      ∙ ap (then_made (some_shape polygons)) (polygons_back parts h.1) ∙ some_made polygons lines_of parts h.0
 
   geometry_back : (shape : Option Geometry) → IsSomeGeometry shape → geometry k (Some (settled (geometry_tree (some_shape_of shape)))) ≡ Ok (some_shape_of shape)
   geometry_back None h = refl

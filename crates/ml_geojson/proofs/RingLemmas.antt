@@ -22,12 +22,14 @@ last_of first last [] e = ap place_of (some_same e)
 last_of first last (next ∷ rest) e = last_of next last rest e
 
 module _ (ring : List Pos) (first last : Pos) (a : slice_get ring 0 ≡ Some first) (b : slice_get ring (length ring - 1) ≡ Some last) where
-  same_by : (t : Bool) → is_same (place_of first) (place_of last) ≡ t → (ps : List Pos) → slice_get ps 0 ≡ Some first → slice_get ps (length ps - 1) ≡ Some last → closed (places_of ps) ≡ cond t (places_of ps) (places_of (ps ++ first ∷ []))
+  same_by : (t : Bool) → is_same (place_of first) (place_of last) ≡ t → (ps : List Pos) → slice_get ps 0 ≡ Some first →
+      slice_get ps (length ps - 1) ≡ Some last → closed (places_of ps) ≡ cond t (places_of ps) (places_of (ps ++ first ∷ []))
   same_by t same [] c e = absurd (let f : None ≡ Some first = c in cc)
   same_by t same (p ∷ rest) c e =
       let at_end : last_place (place_of p) (places_of rest) ≡ place_of last = last_of p last rest (ap (slice_get (p ∷ rest)) (omega arith) ∙ e) in
       let here : is_same (place_of p) (last_place (place_of p) (places_of rest)) ≡ t = ap (is_same (place_of p)) at_end ∙ ap (λ (q : Pos). is_same (place_of q) (place_of last)) (some_same c) ∙ same in
-      let again : places_of (p ∷ rest) ++ place_of p ∷ [] ≡ places_of ((p ∷ rest) ++ first ∷ []) = ap (λ (q : Pos). places_of (p ∷ rest) ++ place_of q ∷ []) (some_same c) ∙ sym (map-append place_of (p ∷ rest) (first ∷ [])) in
+      let again : places_of (p ∷ rest) ++ place_of p ∷ [] ≡ places_of ((p ∷ rest) ++ first ∷ []) =
+      ap (λ (q : Pos). places_of (p ∷ rest) ++ place_of q ∷ []) (some_same c) ∙ sym (map-append place_of (p ∷ rest) (first ∷ [])) in
       ap (λ (u : Bool). cond u (places_of (p ∷ rest)) (places_of (p ∷ rest) ++ place_of p ∷ [])) here ∙ ap (cond t (places_of (p ∷ rest))) again
 
   -- a ring that is closed stays

@@ -60,7 +60,9 @@ module _ (fs : List Feature) (differ : HaveDifferentIds fs) where
   }
 
   -- a collection's text
-  pub collection_written : (tree : Tree) → tree ≡ collection_tree fs → IsPrintable (collection_tree fs) → collection (settled (collection_tree fs)) ≡ Ok (mapped own_parts fs) → (result : Result (List ℕ) AllocError) → (IsPrintable tree → IfOk result (λ text. IsText text (settled tree))) → IfOk result (λ text. IsMap text fs)
+  pub collection_written : (tree : Tree) → tree ≡ collection_tree fs → IsPrintable (collection_tree fs) →
+      collection (settled (collection_tree fs)) ≡ Ok (mapped own_parts fs) → (result : Result (List ℕ) AllocError) →
+      (IsPrintable tree → IfOk result (λ text. IsText text (settled tree))) → IfOk result (λ text. IsMap text fs)
   collection_written tree same prints back (Ok text) h = record {
     tree = settled (collection_tree fs);
     text = subst (λ t. IsText text (settled t)) same (h (subst IsPrintable (sym same) prints));

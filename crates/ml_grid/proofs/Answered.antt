@@ -12,7 +12,8 @@ use Rattle.ml_grid.specs.Entry.{Entry}
 use Rattle.ml_grid.specs.Found.{AreNumbers, AreFirst, AppendsNumbers, AppendsFirst, Finds, IsAmong, IsInHull, IsNumberOf}
 
 -- what was found, ascending and each once
-pub numbers_of_finds : (P : Entry → Type 0) (entries : List Entry) (found numbers : List ℕ) → Finds P entries [] found → IsStrictlyIncreasing numbers → ((n : ℕ) → Contains numbers n ↔ Contains found n) → AreNumbers P entries numbers
+pub numbers_of_finds : (P : Entry → Type 0) (entries : List Entry) (found numbers : List ℕ) → Finds P entries [] found →
+    IsStrictlyIncreasing numbers → ((n : ℕ) → Contains numbers n ↔ Contains found n) → AreNumbers P entries numbers
 numbers_of_finds P entries found numbers finds up same = record {
   ascending = up;
   sound = λ n h. elim ((finds n).0 ((same n).0 h)) [ inl none ↦ (let m = none.1 in absurd (omega arith)) | inr some ↦ some ];

@@ -33,13 +33,15 @@ unfolding within
 within_all k u low high y h i = grind (arith, ints, nat_tests)
 
 -- the key lies between the cells of column u of band k from low to high
-pub in_column : (k : ℕ) (u low high : ℤ) (c : Cell) → is_within cell_cmp (record { band = k; x = u; y = low }) (record { band = k; x = u; y = high }) c ≡ true → (c.band ≡ k) × (c.x ≡ u) × (low ≤ℤ c.y) × (c.y ≤ℤ high)
+pub in_column : (k : ℕ) (u low high : ℤ) (c : Cell) → is_within cell_cmp (record { band = k; x = u; y = low }) (record { band = k; x = u; y = high }) c ≡ true →
+    (c.band ≡ k) × (c.x ≡ u) × (low ≤ℤ c.y) × (c.y ≤ℤ high)
 unfolding within
 in_column k u low high c h =
     (within_band k u low high c.band c.x c.y h, within_x k u low high c.band c.x c.y h, within_low k u low high c.band c.x c.y h, within_high k u low high c.band c.x c.y h)
 
 -- a cell of column u of band k from low to high has its key between those of the lowest and the highest of these cells
-pub of_column : (k : ℕ) (u low high : ℤ) (c : Cell) → c.band ≡ k → c.x ≡ u → low ≤ℤ c.y → c.y ≤ℤ high → is_within cell_cmp (record { band = k; x = u; y = low }) (record { band = k; x = u; y = high }) c ≡ true
+pub of_column : (k : ℕ) (u low high : ℤ) (c : Cell) → c.band ≡ k → c.x ≡ u → low ≤ℤ c.y → c.y ≤ℤ high →
+    is_within cell_cmp (record { band = k; x = u; y = low }) (record { band = k; x = u; y = high }) c ≡ true
 unfolding within
 of_column k u low high c p q h i =
     let e : within k u low high k u c.y ≡ true = within_all k u low high c.y h i in

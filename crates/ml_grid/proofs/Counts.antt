@@ -59,7 +59,8 @@ counted_more P R n x h new r = record {
 }
 
 -- first those with one property, then those of the first n cells
-counted_placed : (P : Entry → Type 0) (m : ℕ) (number : ℕ) (until : Ratio) (cells : Cells) (n : ℕ) → AreCounted P m → ((e : Entry) → IsEntryAmong number until cells n e → ¬ (P e)) → AreCounted (λ e. P e ⊎ IsEntryAmong number until cells n e) (m + n)
+counted_placed : (P : Entry → Type 0) (m : ℕ) (number : ℕ) (until : Ratio) (cells : Cells) (n : ℕ) → AreCounted P m →
+    ((e : Entry) → IsEntryAmong number until cells n e → ¬ (P e)) → AreCounted (λ e. P e ⊎ IsEntryAmong number until cells n e) (m + n)
 counted_placed P m number until cells zero h apart =
     counted_same P (λ e. P e ⊎ IsEntryAmong number until cells 0 e) m (m + 0) h
     (λ e. (λ k. elim k [ inl old ↦ old | inr placed ↦ absurd (none_placed number until cells e placed) ], λ k. inl k)) (omega arith)
@@ -82,7 +83,8 @@ counted_placed P m number until cells (suc n) h apart =
       | inr placed ↦ not_placed number until cells n placed
     ] in
     let next : n + 1 ≡ suc n = omega arith in
-    let all : AreCounted (λ e. P e ⊎ IsEntryAmong number until cells (n + 1) e) ((m + n) + 1) = counted_more (λ e. P e ⊎ IsEntryAmong number until cells n e) (λ e. P e ⊎ IsEntryAmong number until cells (n + 1) e) (m + n) x fewer new more in
+    let all : AreCounted (λ e. P e ⊎ IsEntryAmong number until cells (n + 1) e) ((m + n) + 1) =
+    counted_more (λ e. P e ⊎ IsEntryAmong number until cells n e) (λ e. P e ⊎ IsEntryAmong number until cells (n + 1) e) (m + n) x fewer new more in
     counted_same (λ e. P e ⊎ IsEntryAmong number until cells (n + 1) e) (λ e. P e ⊎ IsEntryAmong number until cells (suc n) e) ((m + n) + 1) (m + suc n) all
     (λ e. subst (λ (k : ℕ). (P e ⊎ IsEntryAmong number until cells k e) ↔ (P e ⊎ IsEntryAmong number until cells (n + 1) e)) next (λ k. k, λ k. k)) (omega arith)
 
@@ -93,7 +95,8 @@ bool_cases false = inr refl
 -- the label's entries in the bands below k
 counted_below : ((a : Label) (k : ℕ) → HasFewCells a k) → (number : ℕ) (a : Label) (until : Ratio) (k : ℕ) → k ≤ 28 → AreCounted (IsEntryBelow number a until k) (entries_below a k)
 counted_below few number a until zero low =
-    counted_same (IsEntryBelow number a until 0) (IsEntryBelow number a until 0) 0 (entries_below a 0) (counted_none (IsEntryBelow number a until 0) (none_below number a until)) (λ e. (λ k. k, λ k. k)) (sym (below_none a))
+    counted_same (IsEntryBelow number a until 0) (IsEntryBelow number a until 0) 0 (entries_below a 0)
+    (counted_none (IsEntryBelow number a until 0) (none_below number a until)) (λ e. (λ k. k, λ k. k)) (sym (below_none a))
 counted_below few number a until (suc k) low =
     let P = IsEntryBelow number a until k in
     let fewer = counted_below few number a until k (omega arith) in
@@ -108,7 +111,8 @@ counted_below few number a until (suc k) low =
           let both = counted_placed P (entries_below a k) number until (hull_of a k) (cell_count (hull_of a k)) fewer
           (λ e there before. (let here = ((placed e).1 there).1 in let l = before.1 in omega arith)) in
           let n = count_met a k met in
-          counted_same (λ e. P e ⊎ IsEntryAmong number until (hull_of a k) (cell_count (hull_of a k)) e) (IsEntryBelow number a until (suc k)) (entries_below a k + cell_count (hull_of a k)) (entries_below a (suc k)) both
+          counted_same (λ e. P e ⊎ IsEntryAmong number until (hull_of a k) (cell_count (hull_of a k)) e)
+          (IsEntryBelow number a until (suc k)) (entries_below a k + cell_count (hull_of a k)) (entries_below a (suc k)) both
           (λ e. (
             λ h. elim ((more e).0 h) [ inl before ↦ inl before | inr here ↦ inr ((placed e).0 here) ],
             λ h. (more e).1 (elim h [ inl before ↦ inl before | inr there ↦ inr ((placed e).1 there) ]),
@@ -128,4 +132,5 @@ counted_below few number a until (suc k) low =
 -- all of the label's entries
 pub counted_all : ((a : Label) (k : ℕ) → HasFewCells a k) → (number : ℕ) (a : Label) (until : Ratio) → AreCounted (IsEntryOf number a until) (entry_count a)
 counted_all few number a until =
-    counted_same (IsEntryBelow number a until 28) (IsEntryOf number a until) (entries_below a 28) (entry_count a) (counted_below few number a until 28 (omega arith)) (below_all number a until) (count_all a)
+    counted_same (IsEntryBelow number a until 28) (IsEntryOf number a until) (entries_below a 28) (entry_count a)
+    (counted_below few number a until 28 (omega arith)) (below_all number a until) (count_all a)

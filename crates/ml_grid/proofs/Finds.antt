@@ -51,7 +51,8 @@ finds_same P Q entries a b h r n = (
 )
 
 -- what a search appended
-pub finds_tested : (p : Entry → Bool) (P : Entry → Type 0) (entries : List Entry) (a b : List ℕ) → ((e : Entry) → P e ↔ (p e ≡ true)) → ((n : ℕ) → Contains b n ↔ (Contains a n ⊎ IsValueOf p entries n)) → Finds P entries a b
+pub finds_tested : (p : Entry → Bool) (P : Entry → Type 0) (entries : List Entry) (a b : List ℕ) →
+    ((e : Entry) → P e ↔ (p e ≡ true)) → ((n : ℕ) → Contains b n ↔ (Contains a n ⊎ IsValueOf p entries n)) → Finds P entries a b
 finds_tested p P entries a b r found n = (
   λ new. elim ((found n).0 new) [ inl old ↦ inl old | inr f ↦ inr (f.0, f.1, f.3, (r f.0).1 f.2) ],
   λ h. (found n).1 (elim h [ inl old ↦ inl old | inr f ↦ inr (f.0, f.1, (r f.0).0 f.3, f.2) ]),
@@ -69,7 +70,8 @@ on_ok (Err e) P Q f h = h
 -- ---- columns
 
 -- an entry is in a column of the cells just if its key lies between those of the lowest and the highest cell there
-pub column_tests : (cells : Cells) (x : ℤ) (e : Entry) → IsInColumn cells x e ↔ (is_within cell_cmp (record { band = cells.band; x = x; y = cells.y0 }) (record { band = cells.band; x = x; y = cells.y1 }) e.key ≡ true)
+pub column_tests : (cells : Cells) (x : ℤ) (e : Entry) →
+    IsInColumn cells x e ↔ (is_within cell_cmp (record { band = cells.band; x = x; y = cells.y0 }) (record { band = cells.band; x = x; y = cells.y1 }) e.key ≡ true)
 column_tests cells x e = (λ h. of_column cells.band x cells.y0 cells.y1 e.key h.0 h.1 h.2 h.3, λ h. in_column cells.band x cells.y0 cells.y1 e.key h)
 
 both_true : (b c : Bool) → b ≡ true → c ≡ true → (b && c) ≡ true
@@ -150,7 +152,8 @@ pub lacks_none : (cells : Cells) (s : Ratio) (entries : List Entry) → ¬ (HasE
 lacks_none cells s entries h = none_first_from cells s h.0 h.2
 
 -- the first i + 1 columns have no such entry if neither the first i nor the next one has any
-pub lacks_more : (cells : Cells) (s : Ratio) (i : ℕ) (entries : List Entry) → ¬ (HasEntry (IsAmongFirstFrom cells s i) entries) → ¬ (HasEntry (IsInColumnFrom cells (cells.x0 +ℤ pos i) s) entries) → ¬ (HasEntry (IsAmongFirstFrom cells s (i + 1)) entries)
+pub lacks_more : (cells : Cells) (s : Ratio) (i : ℕ) (entries : List Entry) → ¬ (HasEntry (IsAmongFirstFrom cells s i) entries) →
+    ¬ (HasEntry (IsInColumnFrom cells (cells.x0 +ℤ pos i) s) entries) → ¬ (HasEntry (IsAmongFirstFrom cells s (i + 1)) entries)
 lacks_more cells s i entries before here h =
     elim ((first_more_from cells s i h.0).0 h.2) [
       | inl one ↦ before (h.0, h.1, one)
@@ -158,9 +161,11 @@ lacks_more cells s i entries before here h =
     ]
 
 -- the cells have such an entry if one of their columns has any
-pub has_here : (cells : Cells) (s : Ratio) (i n : ℕ) (entries : List Entry) → i < n → cells.x0 ≤ℤ cells.x1 → n ≡ count_between cells.x0 cells.x1 → HasEntry (IsInColumnFrom cells (cells.x0 +ℤ pos i) s) entries → HasEntry (IsAmongFrom cells s) entries
+pub has_here : (cells : Cells) (s : Ratio) (i n : ℕ) (entries : List Entry) → i < n → cells.x0 ≤ℤ cells.x1 →
+    n ≡ count_between cells.x0 cells.x1 → HasEntry (IsInColumnFrom cells (cells.x0 +ℤ pos i) s) entries → HasEntry (IsAmongFrom cells s) entries
 has_here cells s i n entries low some is h = (h.0, h.1, (first_all_from cells s n some is h.0).1 (first_upto cells s (i + 1) n h.0 (omega arith) ((first_more_from cells s i h.0).1 (inr h.2))))
 
 -- the cells have no such entry if the first n columns have none, where there are n
-pub lacks_all_from : (cells : Cells) (s : Ratio) (n : ℕ) (entries : List Entry) → cells.x0 ≤ℤ cells.x1 → n ≡ count_between cells.x0 cells.x1 → ¬ (HasEntry (IsAmongFirstFrom cells s n) entries) → ¬ (HasEntry (IsAmongFrom cells s) entries)
+pub lacks_all_from : (cells : Cells) (s : Ratio) (n : ℕ) (entries : List Entry) → cells.x0 ≤ℤ cells.x1 →
+    n ≡ count_between cells.x0 cells.x1 → ¬ (HasEntry (IsAmongFirstFrom cells s n) entries) → ¬ (HasEntry (IsAmongFrom cells s) entries)
 lacks_all_from cells s n entries some is none h = none (h.0, h.1, (first_all_from cells s n some is h.0).0 h.2)

@@ -16,7 +16,8 @@ pub replaces_none : (P Q : Entry → Type 0) (a : List Entry) → ((e : Entry) �
 replaces_none P Q a nothing none e = (λ h. inl (h, nothing e), λ h. elim h [ inl old ↦ old.0 | inr new ↦ absurd (none e new) ])
 
 -- first some, then others, of which none came in before
-pub replaces_both : (P Q P' Q' R S : Entry → Type 0) (a b c : List Entry) → Replaces P Q a b → Replaces P' Q' b c → ((e : Entry) → Q e → ¬ (P' e)) → ((e : Entry) → R e ↔ (P e ⊎ P' e)) → ((e : Entry) → S e ↔ (Q e ⊎ Q' e)) → Replaces R S a c
+pub replaces_both : (P Q P' Q' R S : Entry → Type 0) (a b c : List Entry) → Replaces P Q a b → Replaces P' Q' b c →
+    ((e : Entry) → Q e → ¬ (P' e)) → ((e : Entry) → R e ↔ (P e ⊎ P' e)) → ((e : Entry) → S e ↔ (Q e ⊎ Q' e)) → Replaces R S a c
 replaces_both P Q P' Q' R S a b c h k apart r s e = (
   λ new. elim ((k e).0 new) [
     | inl in_b ↦ elim ((h e).0 in_b.0) [
@@ -59,7 +60,8 @@ unfolding hull_of
 cell_band a k i = refl
 
 -- what got another end has it
-pub moved_are_its : (number : ℕ) (a : Label) (from to : Ratio) (before after : List Entry) → AreEntriesOf number a from before → Replaces (IsEntryOf number a from) (IsEntryOf number a to) before after → AreEntriesOf number a to after
+pub moved_are_its : (number : ℕ) (a : Label) (from to : Ratio) (before after : List Entry) → AreEntriesOf number a from before →
+    Replaces (IsEntryOf number a from) (IsEntryOf number a to) before after → AreEntriesOf number a to after
 moved_are_its number a from to before after its moved e = (
   λ h. elim ((moved e).0 h.0) [ inl old ↦ absurd (old.1 ((its e).0 (old.0, h.1))) | inr own ↦ own ],
   λ own. ((moved e).1 (inr own), own.its_number),

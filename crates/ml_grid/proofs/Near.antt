@@ -35,7 +35,8 @@ scale_low v k h =
     ]
 
 -- where the end is at least the scale, the band of the scale meets the range as soon as the minimum is below its upper end
-meets_below : (a : Label) (u : Ratio) (s : Fraction) (k : ℕ) → IsAtMost (value_of u) (value_of a.max) → IsAtMost s (value_of u) → IsInBand s k → a.min.num < 2 ^ (k + 1) * a.min.den → MeetsBand k (value_of a.min) (value_of a.max)
+meets_below : (a : Label) (u : Ratio) (s : Fraction) (k : ℕ) → IsAtMost (value_of u) (value_of a.max) →
+    IsAtMost s (value_of u) → IsInBand s k → a.min.num < 2 ^ (k + 1) * a.min.den → MeetsBand k (value_of a.min) (value_of a.max)
 unfolding whole
 meets_below a u s k most lasts band begins =
     let above : 0 < k → IsAtMost (whole (2 ^ k)) s = λ p. (let h = band.from p in omega arith) in
@@ -67,7 +68,8 @@ pub near_exactly : (a : Label) (number : ℕ) (u : Ratio) (entries : List Entry)
 near_exactly a number u entries v end its = (near_of_seen a number u entries v its, seen_of_near a number u entries v end its)
 
 -- where hulls of labels in view have a cell in view, the view sees an entry of each label that is active at its scale and in view
-pub seen_if_shown : ((a : Label) (v : View) (k : ℕ) → IsInBand (value_of v.scale) k → IsInView a v → SeenCell a v k) → (a : Label) (number : ℕ) (u : Ratio) (entries : List Entry) (v : View) → IsEnd a (value_of u) → AreEntriesOf number a u entries →
+pub seen_if_shown : ((a : Label) (v : View) (k : ℕ) → IsInBand (value_of v.scale) k → IsInView a v → SeenCell a v k) →
+    (a : Label) (number : ℕ) (u : Ratio) (entries : List Entry) (v : View) → IsEnd a (value_of u) → AreEntriesOf number a u entries →
     ActiveUntil a (value_of u) (value_of v.scale) → IsInView a v → IsNumberOf (IsSeen v) entries number
 unfolding whole
 seen_if_shown seen_in_cell a number u entries v end its active shown =

@@ -81,5 +81,9 @@ module _ (a : Label) where
       let l = box_of (λ p. p.l) (λ p h. lower_wide p.l h.0.0.0 h.0.0.1) (reach_of a).l least.l_is in
       let b = box_of (λ p. p.b) (λ p h. lower_wide p.b h.1.0.0 h.1.0.1) (reach_of a).b least.b_is in
       let r = box_of (λ p. p.r) (λ p h. upper_wide p.r h.0.1.0 h.0.1.1) (reach_of a).r least.r_is in
-      let t = box_of (λ p. p.t) (λ p h. upper_wide p.t h.1.1.0 h.1.1.1) (reach_of a).t least.t_is in
-      ((column_digit a.x (reach_of a).l k a.world_x l).0, (column_digit a.x (reach_of a).r k a.world_x r).1, (column_digit a.y (reach_of a).b k a.world_y b).0, (column_digit a.y (reach_of a).t k a.world_y t).1)
+      let t = box_of (λ p. p.t) (λ p h. upper_wide p.t h.1.1.0 h.1.1.1) (reach_of a).t least.t_is in (
+        (column_digit a.x (reach_of a).l k a.world_x l).0,
+        (column_digit a.x (reach_of a).r k a.world_x r).1,
+        (column_digit a.y (reach_of a).b k a.world_y b).0,
+        (column_digit a.y (reach_of a).t k a.world_y t).1,
+      )

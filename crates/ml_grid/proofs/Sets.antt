@@ -71,7 +71,8 @@ pub none_placed : (number : ℕ) (until : Ratio) (cells : Cells) (e : Entry) →
 none_placed number until cells e h = let m = h.1 in omega arith
 
 -- an entry is in one of the first n + 1 cells just if it is in one of the first n or is that of the next cell
-pub placed_more : (number : ℕ) (until : Ratio) (cells : Cells) (n : ℕ) (c : Cell) → c ≡ cell_in cells n → (e : Entry) → IsEntryAmong number until cells (n + 1) e ↔ (IsEntryAmong number until cells n e ⊎ (e ≡ (entry_of c until number)))
+pub placed_more : (number : ℕ) (until : Ratio) (cells : Cells) (n : ℕ) (c : Cell) → c ≡ cell_in cells n → (e : Entry) →
+    IsEntryAmong number until cells (n + 1) e ↔ (IsEntryAmong number until cells n e ⊎ (e ≡ (entry_of c until number)))
 placed_more number until cells n c is e = (
   λ h. elim (cases_lt h.0 n) [
     | inl less ↦ inl (h.0, less, h.2)
@@ -104,7 +105,8 @@ abbrev pub HasFewCells : Label → ℕ → Type 0
 HasFewCells a k = AreFew (hull_of a k).x0 (hull_of a k).x1 × AreFew (hull_of a k).y0 (hull_of a k).y1
 
 -- what is placed in the hull of band k is the label's
-pub placed_is_entry : ((a : Label) (k : ℕ) → HasFewCells a k) → (number : ℕ) (a : Label) (until : Ratio) (k : ℕ) → k < 28 → MeetsBand k (value_of a.min) (value_of a.max) → (e : Entry) → IsEntryAmong number until (hull_of a k) (cell_count (hull_of a k)) e → IsEntryOf number a until e × (e.key.band ≡ k)
+pub placed_is_entry : ((a : Label) (k : ℕ) → HasFewCells a k) → (number : ℕ) (a : Label) (until : Ratio) (k : ℕ) → k < 28 → MeetsBand k (value_of a.min) (value_of a.max) →
+    (e : Entry) → IsEntryAmong number until (hull_of a k) (cell_count (hull_of a k)) e → IsEntryOf number a until e × (e.key.band ≡ k)
 unfolding hull_of
 placed_is_entry few number a until k low meets e h =
     let among = among_at (hull_of a k) (few a k).0.0 (few a k).1.0 h.0 h.1 in

@@ -67,7 +67,8 @@ columns_fit c d h side world some wide few =
     let high = scaled_le c (pos 2000000000) d world.1 in
     let low = scaled_le (negsuc 1999999999) c d world.0 in
     let most : a ≤ℤ pos 2000000000 = stretch_le a (pos 2000000000) (m -ℤ pos h) m side (quotient_low (m -ℤ pos h) side positive) (omega (arith, ints)) (omega (arith, ints)) in
-    let least : negsuc 2000000000 ≤ℤ b = stretch_le (negsuc 2000000000) b (m -ℤ pos 1) ((m +ℤ pos h) -ℤ pos 1) side (omega (arith, ints)) (omega (arith, ints)) (quotient_high ((m +ℤ pos h) -ℤ pos 1) side positive) in
+    let least : negsuc 2000000000 ≤ℤ b = stretch_le (negsuc 2000000000) b (m -ℤ pos 1) ((m +ℤ pos h) -ℤ pos 1) side
+    (omega (arith, ints)) (omega (arith, ints)) (quotient_high ((m +ℤ pos h) -ℤ pos 1) side positive) in
     let after = few.0 in
     let near = few.1 in
     (omega (arith, ints), omega (arith, ints))

@@ -6,7 +6,8 @@ use Rattle.ml_cone.specs.Cell.{SeenCell}
 use Rattle.ml_cone.specs.declared.label.Label.{Label}
 use Rattle.ml_cone.specs.declared.view.View.{View}
 
--- the label, active until u, is near the view: its minimum is below the upper end of the band of the view's scale, its end is at least that scale, and some cell of its hull in that band meets the window
+-- the label, active until u, is near the view: its minimum is below the upper end of the band of the view's scale,
+-- its end is at least that scale, and some cell of its hull in that band meets the window
 pub record IsNear (a : Label) (u : Ratio) (v : View) : Type 0 where
   pub band : ℕ
   pub in_band : IsInBand (value_of v.scale) band

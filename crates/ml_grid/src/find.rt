@@ -48,7 +48,8 @@ fn find_column_from(
     scale: &Ratio,
     found: &mut Seq<u32>,
 ) -> Result<(), AllocError>
-    ensures ok { OnOk result (Finds (IsInColumnFrom cells.now x scale.now) tree.now.entries found.old found.new) }
+    ensures ok { OnOk result
+        (Finds (IsInColumnFrom cells.now x scale.now) tree.now.entries found.old found.new) }
 {
     let (from, to) = column_ends(x, cells);
     tree.stab(&from, &to, scale, found)
@@ -81,7 +82,8 @@ pub fn find_cells_from(
     found: &mut Seq<u32>,
 ) -> Result<(), AllocError>
     requires few { AreUpToNine cells.now.x0 cells.now.x1 }
-    ensures ok { OnOk result (Finds (IsAmongFrom cells.now scale.now) tree.now.entries found.old found.new) }
+    ensures ok { OnOk result
+        (Finds (IsAmongFrom cells.now scale.now) tree.now.entries found.old found.new) }
 {
     for i in 0..span_len(cells.x0, cells.x1) {
         find_column_from(tree, cells.x0 + i as i32, cells, scale, found)?;

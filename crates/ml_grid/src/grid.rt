@@ -73,7 +73,8 @@ impl Grid {
         requires apart { AreApart (marked ends.now marks.old.items) }
         requires free { IsFree number (marked ends.now marks.old.items) }
         ensures apart { OnOk result (AreApart (marked ends.now marks.new.items)) }
-        ensures entries { OnOk result (Adds (IsEntryOf number label.now (end_by ends.now number)) (marked ends.now marks.old.items) (marked ends.now marks.new.items)) }
+        ensures entries { OnOk result (Adds (IsEntryOf number label.now (end_by ends.now number))
+            (marked ends.now marks.old.items) (marked ends.now marks.new.items)) }
     {
         mark_all(marks, number, label, ends)
     }
@@ -84,7 +85,8 @@ impl Grid {
     /// Out of memory.
     pub fn of_marks(alloc: Global, marks: Marks, ends: &Ends) -> Result<Grid, AllocError>
         requires apart { AreApart (marked ends.now marks.items) }
-        ensures entries { IfOk result (λ grid. IsPermutation (marked ends.now marks.items) grid.entries) }
+        ensures entries { IfOk result
+            (λ grid. IsPermutation (marked ends.now marks.items) grid.entries) }
         ensures spare { IfOk result (λ grid. grid.spare ≡ 0) }
     {
         let mut sorted = marks;
@@ -137,7 +139,8 @@ impl Grid {
         requires begins { span.now.min ≡ label.now.min }
         requires free { IsFree number self.old.entries }
         requires room { entry_count label.now ≤ self.old.spare }
-        ensures entries { Adds (IsEntryOf number label.now span.now.until) self.old.entries self.new.entries }
+        ensures entries { Adds
+            (IsEntryOf number label.now span.now.until) self.old.entries self.new.entries }
         ensures spare { self.new.spare + entry_count label.now ≡ self.old.spare }
     {
         add_all(&mut self.tree, number, span.until, label);
@@ -148,7 +151,8 @@ impl Grid {
     pub fn drop_label(&mut self, number: u32, label: &Label, span: &Span)
         requires begins { span.now.min ≡ label.now.min }
         requires its { AreEntriesOf number label.now span.now.until self.old.entries }
-        ensures entries { LosesEntries (IsEntryOf number label.now span.now.until) self.old.entries self.new.entries }
+        ensures entries { LosesEntries
+            (IsEntryOf number label.now span.now.until) self.old.entries self.new.entries }
         ensures spare { self.new.spare ≡ self.old.spare + entry_count label.now }
     {
         drop_all(&mut self.tree, number, span.until, label);
@@ -158,7 +162,8 @@ impl Grid {
     /// takes no memory and cannot fail.
     pub fn move_label(&mut self, number: u32, label: &Label, from: &Ratio, to: &Ratio)
         requires its { AreEntriesOf number label.now from.now self.old.entries }
-        ensures entries { Replaces (IsEntryOf number label.now from.now) (IsEntryOf number label.now to.now) self.old.entries self.new.entries }
+        ensures entries { Replaces (IsEntryOf number label.now from.now)
+            (IsEntryOf number label.now to.now) self.old.entries self.new.entries }
         ensures spare { self.new.spare ≡ self.old.spare }
     {
         move_all(&mut self.tree, number, label, from, to);
@@ -182,8 +187,10 @@ impl Grid {
     /// Out of memory; the first of them were appended.
     pub fn near(&self, label: &Label, band: u8, out: &mut Seq<u32>) -> Result<(), AllocError>
         requires { band ≤ 27 }
-        ensures ok { OnOk result (AppendsNumbers (IsInHull label.now band) self.now.entries out.old out.new) }
-        ensures err { OnErr result (AppendsFirst (IsInHull label.now band) self.now.entries out.old out.new) }
+        ensures ok { OnOk result
+            (AppendsNumbers (IsInHull label.now band) self.now.entries out.old out.new) }
+        ensures err { OnErr result
+            (AppendsFirst (IsInHull label.now band) self.now.entries out.old out.new) }
     {
         let mut found = out.emptied();
         find_cells(&self.tree, &hull(label, band), &mut found)?;
@@ -214,7 +221,8 @@ impl Grid {
         scale: &Ratio,
     ) -> Result<Seq<u32>, AllocError>
         requires few { AreUpToNine cells.now.x0 cells.now.x1 }
-        ensures { IfOk result (λ numbers. (n : ℕ) → Contains numbers n ↔ IsNumberOf (IsAmongFrom cells.now scale.now) self.now.entries n) }
+        ensures { IfOk result (λ numbers. (n : ℕ) →
+            Contains numbers n ↔ IsNumberOf (IsAmongFrom cells.now scale.now) self.now.entries n) }
     {
         let mut found = Seq::of_vec(Vec::with_capacity(alloc, ROOM)?);
         find_cells_from(&self.tree, cells, scale, &mut found)?;
@@ -228,7 +236,8 @@ impl Grid {
     /// Out of memory.
     pub fn all_in_cells(&self, alloc: Global, cells: &Cells) -> Result<Seq<u32>, AllocError>
         requires few { AreUpToNine cells.now.x0 cells.now.x1 }
-        ensures { IfOk result (λ numbers. (n : ℕ) → Contains numbers n ↔ IsNumberOf (IsAmong cells.now) self.now.entries n) }
+        ensures { IfOk result (λ numbers.
+            (n : ℕ) → Contains numbers n ↔ IsNumberOf (IsAmong cells.now) self.now.entries n) }
     {
         let mut found = Seq::of_vec(Vec::with_capacity(alloc, ROOM)?);
         find_cells(&self.tree, cells, &mut found)?;
@@ -256,8 +265,10 @@ impl Grid {
         out: &mut Seq<u32>,
         looks: &mut Steps<L>,
     ) -> Result<(), AllocError>
-        ensures ok { OnOk result (AppendsNumbers (IsSeen view.now) self.now.entries out.old out.new) }
-        ensures err { OnErr result (AppendsFirst (IsSeen view.now) self.now.entries out.old out.new) }
+        ensures ok { OnOk result
+            (AppendsNumbers (IsSeen view.now) self.now.entries out.old out.new) }
+        ensures err { OnErr result
+            (AppendsFirst (IsSeen view.now) self.now.entries out.old out.new) }
         ensures spent { looks.new + length out.old ≡ looks.old + length out.new }
     {
         let mut found = out.emptied();

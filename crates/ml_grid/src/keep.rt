@@ -31,8 +31,10 @@ fn add_cells(tree: &mut Tree, number: u32, until: Ratio, cells: &Cells)
     requires few_columns { AreUpToNine cells.now.x0 cells.now.x1 }
     requires few_rows { AreUpToNine cells.now.y0 cells.now.y1 }
     requires room { cell_count cells.now ≤ tree.old.spare }
-    requires new { (i : ℕ) → i < cell_count cells.now → ¬ (Contains tree.old.entries (entry_of (cell_in cells.now i) until number)) }
-    ensures entries { Adds (IsEntryAmong number until cells.now (cell_count cells.now)) tree.old.entries tree.new.entries }
+    requires new { (i : ℕ) → i < cell_count cells.now →
+        ¬ (Contains tree.old.entries (entry_of (cell_in cells.now i) until number)) }
+    ensures entries { Adds (IsEntryAmong number until cells.now
+        (cell_count cells.now)) tree.old.entries tree.new.entries }
     ensures spare { tree.new.spare + cell_count cells.now ≡ tree.old.spare }
 {
     for i in 0..cells_of(cells) {
@@ -43,7 +45,8 @@ fn add_cells(tree: &mut Tree, number: u32, until: Ratio, cells: &Cells)
 // Takes out an entry that is there.
 fn take_out(tree: &mut Tree, number: u32, until: Ratio, cell: Cell)
     requires there { Contains tree.old.entries (entry_of cell until number) }
-    ensures entries { LosesEntries (λ e. e ≡ entry_of cell until number) tree.old.entries tree.new.entries }
+    ensures entries { LosesEntries
+        (λ e. e ≡ entry_of cell until number) tree.old.entries tree.new.entries }
     ensures spare { tree.new.spare ≡ tree.old.spare + 1 }
 {
     let _there = tree.remove(&cell, &until, &number);
@@ -53,8 +56,10 @@ fn take_out(tree: &mut Tree, number: u32, until: Ratio, cell: Cell)
 fn drop_cells(tree: &mut Tree, number: u32, until: Ratio, cells: &Cells)
     requires few_columns { AreUpToNine cells.now.x0 cells.now.x1 }
     requires few_rows { AreUpToNine cells.now.y0 cells.now.y1 }
-    requires there { (i : ℕ) → i < cell_count cells.now → Contains tree.old.entries (entry_of (cell_in cells.now i) until number) }
-    ensures entries { LosesEntries (IsEntryAmong number until cells.now (cell_count cells.now)) tree.old.entries tree.new.entries }
+    requires there { (i : ℕ) → i < cell_count cells.now →
+        Contains tree.old.entries (entry_of (cell_in cells.now i) until number) }
+    ensures entries { LosesEntries (IsEntryAmong number until cells.now
+        (cell_count cells.now)) tree.old.entries tree.new.entries }
     ensures spare { tree.new.spare ≡ tree.old.spare + cell_count cells.now }
 {
     for i in 0..cells_of(cells) {
@@ -66,8 +71,10 @@ fn drop_cells(tree: &mut Tree, number: u32, until: Ratio, cells: &Cells)
 fn add_band(tree: &mut Tree, number: u32, until: Ratio, label: &Label, band: u8)
     requires low { band < 28 }
     requires room { band_count label.now band ≤ tree.old.spare }
-    requires new { (e : Entry) → IsEntryAt number label.now until band e → ¬ (Contains tree.old.entries e) }
-    ensures entries { Adds (IsEntryAt number label.now until band) tree.old.entries tree.new.entries }
+    requires new { (e : Entry) → IsEntryAt number label.now until band e →
+        ¬ (Contains tree.old.entries e) }
+    ensures entries { Adds
+        (IsEntryAt number label.now until band) tree.old.entries tree.new.entries }
     ensures spare { tree.new.spare + band_count label.now band ≡ tree.old.spare }
 {
     if is_kept(label, band) {
@@ -79,8 +86,10 @@ fn add_band(tree: &mut Tree, number: u32, until: Ratio, label: &Label, band: u8)
 // Takes out the label's entries of the band.
 fn drop_band(tree: &mut Tree, number: u32, until: Ratio, label: &Label, band: u8)
     requires low { band < 28 }
-    requires there { (e : Entry) → IsEntryAt number label.now until band e → Contains tree.old.entries e }
-    ensures entries { LosesEntries (IsEntryAt number label.now until band) tree.old.entries tree.new.entries }
+    requires there { (e : Entry) → IsEntryAt number label.now until band e →
+        Contains tree.old.entries e }
+    ensures entries { LosesEntries
+        (IsEntryAt number label.now until band) tree.old.entries tree.new.entries }
     ensures spare { tree.new.spare ≡ tree.old.spare + band_count label.now band }
 {
     if is_kept(label, band) {
@@ -104,7 +113,8 @@ pub fn add_all(tree: &mut Tree, number: u32, until: Ratio, label: &Label)
 /// Takes out the entries of a label, which are those with its number.
 pub fn drop_all(tree: &mut Tree, number: u32, until: Ratio, label: &Label)
     requires its { AreEntriesOf number label.now until tree.old.entries }
-    ensures entries { LosesEntries (IsEntryOf number label.now until) tree.old.entries tree.new.entries }
+    ensures entries { LosesEntries
+        (IsEntryOf number label.now until) tree.old.entries tree.new.entries }
     ensures spare { tree.new.spare ≡ tree.old.spare + entry_count label.now }
 {
     for band in 0..BANDS {
@@ -114,8 +124,10 @@ pub fn drop_all(tree: &mut Tree, number: u32, until: Ratio, label: &Label)
 
 // Gives an entry that is there another end. No other one has its cell and its number.
 fn move_one(tree: &mut Tree, number: u32, from: &Ratio, to: &Ratio, cell: Cell)
-    requires its { (until : Ratio) → Contains tree.old.entries (entry_of cell until number) ↔ (until ≡ from.now) }
-    ensures entries { Replaces (λ e. e ≡ entry_of cell from.now number) (λ e. e ≡ entry_of cell to.now number) tree.old.entries tree.new.entries }
+    requires its { (until : Ratio) →
+        Contains tree.old.entries (entry_of cell until number) ↔ (until ≡ from.now) }
+    ensures entries { Replaces (λ e. e ≡ entry_of cell from.now number)
+        (λ e. e ≡ entry_of cell to.now number) tree.old.entries tree.new.entries }
     ensures spare { tree.new.spare ≡ tree.old.spare }
 {
     let _there = tree.set_end(&cell, from, &number, to);
@@ -125,8 +137,11 @@ fn move_one(tree: &mut Tree, number: u32, from: &Ratio, to: &Ratio, cell: Cell)
 fn move_cells(tree: &mut Tree, number: u32, from: &Ratio, to: &Ratio, cells: &Cells)
     requires few_columns { AreUpToNine cells.now.x0 cells.now.x1 }
     requires few_rows { AreUpToNine cells.now.y0 cells.now.y1 }
-    requires its { (i : ℕ) → i < cell_count cells.now → (until : Ratio) → Contains tree.old.entries (entry_of (cell_in cells.now i) until number) ↔ (until ≡ from.now) }
-    ensures entries { Replaces (IsEntryAmong number from.now cells.now (cell_count cells.now)) (IsEntryAmong number to.now cells.now (cell_count cells.now)) tree.old.entries tree.new.entries }
+    requires its { (i : ℕ) → i < cell_count cells.now → (until : Ratio) → Contains tree.old.entries
+        (entry_of (cell_in cells.now i) until number) ↔ (until ≡ from.now) }
+    ensures entries { Replaces (IsEntryAmong number from.now cells.now (cell_count cells.now))
+        (IsEntryAmong number to.now cells.now
+        (cell_count cells.now)) tree.old.entries tree.new.entries }
     ensures spare { tree.new.spare ≡ tree.old.spare }
 {
     for i in 0..cells_of(cells) {
@@ -137,9 +152,12 @@ fn move_cells(tree: &mut Tree, number: u32, from: &Ratio, to: &Ratio, cells: &Ce
 // Gives the label's entries of the band another end.
 fn move_band(tree: &mut Tree, number: u32, from: &Ratio, to: &Ratio, label: &Label, band: u8)
     requires low { band < 28 }
-    requires there { (e : Entry) → IsEntryAt number label.now from.now band e → Contains tree.old.entries e }
-    requires alone { (e : Entry) → Contains tree.old.entries e → e.value ≡ number → e.key.band ≡ band → e.end ≡ from.now }
-    ensures entries { Replaces (IsEntryAt number label.now from.now band) (IsEntryAt number label.now to.now band) tree.old.entries tree.new.entries }
+    requires there { (e : Entry) → IsEntryAt number label.now from.now band e →
+        Contains tree.old.entries e }
+    requires alone { (e : Entry) → Contains tree.old.entries e →
+        e.value ≡ number → e.key.band ≡ band → e.end ≡ from.now }
+    ensures entries { Replaces (IsEntryAt number label.now from.now band)
+        (IsEntryAt number label.now to.now band) tree.old.entries tree.new.entries }
     ensures spare { tree.new.spare ≡ tree.old.spare }
 {
     if is_kept(label, band) {
@@ -151,7 +169,8 @@ fn move_band(tree: &mut Tree, number: u32, from: &Ratio, to: &Ratio, label: &Lab
 /// Gives the entries of a label, which are those with its number, another end.
 pub fn move_all(tree: &mut Tree, number: u32, label: &Label, from: &Ratio, to: &Ratio)
     requires its { AreEntriesOf number label.now from.now tree.old.entries }
-    ensures entries { Replaces (IsEntryOf number label.now from.now) (IsEntryOf number label.now to.now) tree.old.entries tree.new.entries }
+    ensures entries { Replaces (IsEntryOf number label.now from.now)
+        (IsEntryOf number label.now to.now) tree.old.entries tree.new.entries }
     ensures spare { tree.new.spare ≡ tree.old.spare }
 {
     for band in 0..BANDS {

@@ -115,9 +115,11 @@ fn mark_one(marks: &mut Marks, number: u32, cell: Cell, _ends: &Ends) -> Result<
     requires row { IsDigit cell.y }
     requires number { number < 2 ^ 15 }
     requires apart { AreApart (marked _ends.now marks.old.items) }
-    requires new { ¬ (Contains (marked _ends.now marks.old.items) (entry_of cell (end_by _ends.now number) number)) }
+    requires new { ¬ (Contains (marked _ends.now marks.old.items)
+        (entry_of cell (end_by _ends.now number) number)) }
     ensures apart { OnOk result (AreApart (marked _ends.now marks.new.items)) }
-    ensures entries { OnOk result (Adds (λ e. e ≡ entry_of cell (end_by _ends.now number) number) (marked _ends.now marks.old.items) (marked _ends.now marks.new.items)) }
+    ensures entries { OnOk result (Adds (λ e. e ≡ entry_of cell (end_by _ends.now number) number)
+        (marked _ends.now marks.old.items) (marked _ends.now marks.new.items)) }
 {
     marks.push(mark_of(cell, number))?;
     Ok(())
@@ -131,9 +133,12 @@ fn mark_cells(marks: &mut Marks, number: u32, cells: &Cells, ends: &Ends) -> Res
     requires digits { AreDigits cells.now }
     requires number { number < 2 ^ 15 }
     requires apart { AreApart (marked ends.now marks.old.items) }
-    requires new { (i : ℕ) → i < cell_count cells.now → ¬ (Contains (marked ends.now marks.old.items) (entry_of (cell_in cells.now i) (end_by ends.now number) number)) }
+    requires new { (i : ℕ) → i < cell_count cells.now → ¬ (Contains (marked ends.now
+        marks.old.items) (entry_of (cell_in cells.now i) (end_by ends.now number) number)) }
     ensures apart { OnOk result (AreApart (marked ends.now marks.new.items)) }
-    ensures entries { OnOk result (Adds (IsEntryAmong number (end_by ends.now number) cells.now (cell_count cells.now)) (marked ends.now marks.old.items) (marked ends.now marks.new.items)) }
+    ensures entries { OnOk result
+        (Adds (IsEntryAmong number (end_by ends.now number) cells.now (cell_count cells.now))
+        (marked ends.now marks.old.items) (marked ends.now marks.new.items)) }
 {
     for i in 0..cells_of(cells) {
         mark_one(marks, number, cell_at(cells, i), ends)?;
@@ -152,9 +157,11 @@ fn mark_band(
     requires low { band < 28 }
     requires number { number < 2 ^ 15 }
     requires apart { AreApart (marked ends.now marks.old.items) }
-    requires new { (e : GridEntry) → IsEntryAt number label.now (end_by ends.now number) band e → ¬ (Contains (marked ends.now marks.old.items) e) }
+    requires new { (e : GridEntry) → IsEntryAt number label.now (end_by ends.now number) band e →
+        ¬ (Contains (marked ends.now marks.old.items) e) }
     ensures apart { OnOk result (AreApart (marked ends.now marks.new.items)) }
-    ensures entries { OnOk result (Adds (IsEntryAt number label.now (end_by ends.now number) band) (marked ends.now marks.old.items) (marked ends.now marks.new.items)) }
+    ensures entries { OnOk result (Adds (IsEntryAt number label.now (end_by ends.now number) band)
+        (marked ends.now marks.old.items) (marked ends.now marks.new.items)) }
 {
     if is_kept(label, band) {
         hulls_are_few();
@@ -179,7 +186,8 @@ pub fn mark_all(
     requires apart { AreApart (marked ends.now marks.old.items) }
     requires free { IsFree number (marked ends.now marks.old.items) }
     ensures apart { OnOk result (AreApart (marked ends.now marks.new.items)) }
-    ensures entries { OnOk result (Adds (IsEntryOf number label.now (end_by ends.now number)) (marked ends.now marks.old.items) (marked ends.now marks.new.items)) }
+    ensures entries { OnOk result (Adds (IsEntryOf number label.now (end_by ends.now number))
+        (marked ends.now marks.old.items) (marked ends.now marks.new.items)) }
 {
     for band in 0..BANDS {
         mark_band(marks, number, label, band, ends)?;

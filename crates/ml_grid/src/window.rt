@@ -72,7 +72,8 @@ fn columns_in(c: i64, w: u32, scale: &Ratio, band: u8) -> (i32, i32)
     requires low_band { band ≤ 27 }
     requires in_band { IsInBand (value_of scale.now) band }
     ensures few { AreUpToNine result.0 result.1 }
-    ensures meets { (x : ℤ) → ((result.0 ≤ℤ x) × (x ≤ℤ result.1)) ↔ ColumnInWindow band x c w (value_of scale.now) }
+    ensures meets { (x : ℤ) →
+        ((result.0 ≤ℤ x) × (x ≤ℤ result.1)) ↔ ColumnInWindow band x c w (value_of scale.now) }
 {
     let middle = middle_of(c, scale);
     let half = half_of(w, scale);

@@ -1,5 +1,6 @@
 -- One turn of a connection, and what follows it.
-use Rattle.std.proofs.Common.{◌≡◌, ℕ, ◌-◌, ◌<◌, Bool, true, false, ◌==◌, List, [], ◌∷◌, ◌++◌, take, map, flat_map, refl, ap, ◌∙◌, sym, subst, arith, inl, inr, append_assoc, append-nil, Option, Some, None, MatchBool}
+use Rattle.std.proofs.Common.{◌≡◌, ℕ, ◌-◌, ◌<◌, Bool, true, false, ◌==◌, List, [], ◌∷◌, ◌++◌, take, map, flat_map, refl, ap}
+use Rattle.std.proofs.Common.{◌∙◌, sym, subst, arith, inl, inr, append_assoc, append-nil, Option, Some, None, MatchBool}
 use Rattle.std.proofs.lemmas.Bool.Decides.{nat_tests}
 use Rattle.ml_io.specs.Calls.{Put, Taken}
 use Rattle.ml_io.specs.Causes.{Appends, AppendsPart, IsCut}
@@ -124,7 +125,8 @@ module _ {S A : Type 0} (machine : Machine S A) (from to : Position S) (input mo
   bytes_are : bytes_from from input whole ≡ (from.held ++ turn.taken) ++ brought more.left x.taken
   bytes_are = all_bytes input.left more.left more.left_after from.held turn.taken x.taken takes later
 
-  turn_reads : (Rest : List ℕ → Type 0) (behind bytes : List ℕ) → bytes ≡ (from.held ++ turn.taken) ++ behind → Reads Rest to.left (to.held ++ behind) x.events → Reads Rest from.left bytes whole.events
+  turn_reads : (Rest : List ℕ → Type 0) (behind bytes : List ℕ) → bytes ≡ (from.held ++ turn.taken) ++ behind →
+      Reads Rest to.left (to.held ++ behind) x.events → Reads Rest from.left bytes whole.events
   turn_reads Rest behind bytes is rest = reads_turn Rest from.left to.left (from.held ++ turn.taken) behind to.held bytes turn.event x.events turn.begins turn.stays turn.one_less is rest
 
   turn_puts : (rest : List ℕ) → Appends next.written next.written_after rest → Appends out.written next.written_after (answer ++ rest)

@@ -153,7 +153,8 @@ forgotten one rows settled id (Some label) (Some span) old new (r, there, is, sp
     drops
 
 -- the label with an id after an edit of the label with another
-pub other_label : (before after : List Label) (id other : List ℕ) (come label : Option Label) → IsEdited id come before after → IsLabelWith after come id → other ≢ id → IsLabelWith before label other → IsLabelWith after label other
+pub other_label : (before after : List Label) (id other : List ℕ) (come label : Option Label) → IsEdited id come before after →
+    IsLabelWith after come id → other ≢ id → IsLabelWith before label other → IsLabelWith after label other
 other_label before after id other come (Some label) edited came differ there =
     ((edited label).1 (inl (there.0, λ same. differ (sym there.1 ∙ same))), there.1)
 other_label before after id other come None edited came differ absent = λ there. elim ((edited there.0).0 there.1) [

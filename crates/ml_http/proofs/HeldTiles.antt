@@ -31,11 +31,13 @@ use Rattle.ml_http.proofs.ShownRows.{ShowsRow, AreJustShown, just_shown, rows_sh
 
 -- what stays where no change has the id
 abbrev pub StaysAfter : Type 0
-StaysAfter = (before after : List Row) (changes : List Change) (row : Row) → AreChanges (labels_in before) (slots_in before) (labels_in after) (slots_in after) changes → Contains before row → ¬ (IsChanged changes row.label.order.id) → StandsAmong after row
+StaysAfter = (before after : List Row) (changes : List Change) (row : Row) → AreChanges (labels_in before) (slots_in before)
+    (labels_in after) (slots_in after) changes → Contains before row → ¬ (IsChanged changes row.label.order.id) → StandsAmong after row
 
 -- the other way round: what stands after an edit and whose id no change has stood there before
 abbrev pub StaysBefore : Type 0
-StaysBefore = (before after : List Row) (changes : List Change) (row : Row) → AreChanges (labels_in before) (slots_in before) (labels_in after) (slots_in after) changes → Contains after row → ¬ (IsChanged changes row.label.order.id) → StandsAmong before row
+StaysBefore = (before after : List Row) (changes : List Change) (row : Row) → AreChanges (labels_in before) (slots_in before)
+    (labels_in after) (slots_in after) changes → Contains after row → ¬ (IsChanged changes row.label.order.id) → StandsAmong before row
 
 -- no two rows have one id
 abbrev pub OneAnId : Type 0
@@ -141,7 +143,8 @@ module _ (one : OneLabel) (longest : OneLongest) (stays_after : StaysAfter) (sta
     (s t : State) (before after : List Row) (changes : List Change) (of_s : AreRowsOf s before) (of_t : AreRowsOf t after)
     (are : AreChanges (labels_in before) (slots_in before) (labels_in after) (slots_in after) changes) where
   -- the id of a label that is shown in a tile that shows no change is in no change
-  no_change : (key : TileKey) (row : Row) → ¬ (ShowsChanges before after changes key) → ShowsId before row.label.order.id key ⊎ ShowsId after row.label.order.id key → ¬ (IsChanged changes row.label.order.id)
+  no_change : (key : TileKey) (row : Row) → ¬ (ShowsChanges before after changes key) →
+      ShowsId before row.label.order.id key ⊎ ShowsId after row.label.order.id key → ¬ (IsChanged changes row.label.order.id)
   no_change key row none shows (change, there, same) =
       none (
         change,

@@ -19,14 +19,16 @@ use Rattle.ml_tile.specs.Cache.{Cache, HeldTile}
 module _ {W : Type 0} (hearing : W → Hearing)
     (nothing : (ws : List W) → AllHear hearing [] ws ws)
     (twice : (xs ys : List Change) (a b c : List W) → AllHear hearing xs a b → AllHear hearing ys b c → AllHear hearing (xs ++ ys) a c) where
-  hears_run : (old last : LinkState W) (events : List Event) (answers : List LinkAnswer) → Run (LinkStep hearing) old events answers last → AllHear hearing (flat_map (λ a. a.changes) answers) old.crowd last.crowd
+  hears_run : (old last : LinkState W) (events : List Event) (answers : List LinkAnswer) →
+      Run (LinkStep hearing) old events answers last → AllHear hearing (flat_map (λ a. a.changes) answers) old.crowd last.crowd
   hears_run old last [] [] run = rw (ap (λ s. s.crowd) run) (nothing old.crowd)
   hears_run old last [] (a ∷ answers) run = absurd run
   hears_run old last (e ∷ events) [] run = absurd run
   hears_run old last (e ∷ events) (a ∷ answers) run =
       twice a.changes (flat_map (λ b. b.changes) answers) old.crowd run.0.crowd last.crowd run.1.hears (hears_run run.0 last events answers run.2)
 
-spent_run : {W : Type 0} (hearing : W → Hearing) (old last : LinkState W) (events : List Event) (answers : List LinkAnswer) → Run (LinkStep hearing) old events answers last → last.spent ≡ old.spent + sum_by (λ a. a.cost) answers
+spent_run : {W : Type 0} (hearing : W → Hearing) (old last : LinkState W) (events : List Event) (answers : List LinkAnswer) →
+    Run (LinkStep hearing) old events answers last → last.spent ≡ old.spent + sum_by (λ a. a.cost) answers
 spent_run hearing old last [] [] run = let same : last.spent ≡ old.spent = ap (λ s. s.spent) run in omega arith
 spent_run hearing old last [] (a ∷ answers) run = absurd run
 spent_run hearing old last (e ∷ events) [] run = absurd run
@@ -44,7 +46,8 @@ crowd_left Starved last new left = left.crowd
 crowd_left WriteFault last new (inl left) = ap (λ s. s.crowd) left
 crowd_left WriteFault last new (inr left) = left.crowd
 
-spent_left : {W : Type 0} (end : ConnEnd) (old : ℕ) (last new : LinkState W) (answers : List LinkAnswer) → IsLeft LinkIdles end last new → last.spent ≡ old + sum_by (λ a. a.cost) answers → IsSpent end old new.spent answers
+spent_left : {W : Type 0} (end : ConnEnd) (old : ℕ) (last new : LinkState W) (answers : List LinkAnswer) →
+    IsLeft LinkIdles end last new → last.spent ≡ old + sum_by (λ a. a.cost) answers → IsSpent end old new.spent answers
 spent_left Closed old last new answers left is = ap (λ s. s.spent) left ∙ is
 spent_left Shut old last new answers left is = ap (λ s. s.spent) left ∙ is
 spent_left ReadFault old last new answers left is = ap (λ s. s.spent) left ∙ is
@@ -70,12 +73,14 @@ pub same_texts : (s t : State) (old new : List HeldTile) → s ≡ t → old ≡
 same_texts s t old new map tiles texts = subst (AreTexts t) tiles (subst (λ z. AreTexts z old) map texts)
 
 -- the bodies of tiles stay right over answers, and so over a whole connection
-module _ (right : (s t : State) (event : Event) (answer : LinkAnswer) (old new : Cache) → MapStep s event answer t → IsDoneTo answer.work answer.changes old new → AreTexts s old.tiles → AreTexts t new.tiles) where
+module _ (right : (s t : State) (event : Event) (answer : LinkAnswer) (old new : Cache) → MapStep s event answer t →
+    IsDoneTo answer.work answer.changes old new → AreTexts s old.tiles → AreTexts t new.tiles) where
   -- each body that is held stays that of its tile while one event is answered
   pub texts_stay : {W : Type 0} (hearing : W → Hearing) (old new : LinkState W) (event : Event) (answer : LinkAnswer) → LinkStep hearing old event answer new → HoldsTexts old → HoldsTexts new
   texts_stay hearing old new event answer step texts = right old.map_state new.map_state event answer old.tiles new.tiles step.by_rule step.done texts
 
-  texts_run : {W : Type 0} (hearing : W → Hearing) (old last : LinkState W) (events : List Event) (answers : List LinkAnswer) → Run (LinkStep hearing) old events answers last → HoldsTexts old → HoldsTexts last
+  texts_run : {W : Type 0} (hearing : W → Hearing) (old last : LinkState W) (events : List Event) (answers : List LinkAnswer) →
+      Run (LinkStep hearing) old events answers last → HoldsTexts old → HoldsTexts last
   texts_run hearing old last [] [] run texts = subst HoldsTexts (sym run) texts
   texts_run hearing old last [] (a ∷ answers) run texts = absurd run
   texts_run hearing old last (e ∷ events) [] run texts = absurd run
@@ -95,4 +100,5 @@ module _ (right : (s t : State) (event : Event) (answer : LinkAnswer) (old new :
   -- and so it does while a whole connection is served
   pub texts_served : {W : Type 0} (hearing : W → Hearing) (old new : LinkState W) (input : Taken) (out : Put) (end : ConnEnd) →
       IsServed (link_machine hearing) (position most_requests [] old) new input out end → HoldsTexts old → HoldsTexts new
-  texts_served hearing old new input out end served texts = texts_left end served.last new served.leaves (texts_run hearing old served.last served.exchange.events served.exchange.answers served.run texts)
+  texts_served hearing old new input out end served texts =
+      texts_left end served.last new served.leaves (texts_run hearing old served.last served.exchange.events served.exchange.answers served.run texts)

@@ -140,7 +140,8 @@ module _ (reaches : Reaches) (one : OneReply) where
       }
 
   -- a run over more events begins with the same replies
-  run_begins : (events others : List Event) (s p q : State) (xs ys : List LinkAnswer) → IsState s → Run MapStep s events xs p → Run MapStep s (events ++ others) ys q → BeginWith (replies ys) (replies xs)
+  run_begins : (events others : List Event) (s p q : State) (xs ys : List LinkAnswer) → IsState s →
+      Run MapStep s events xs p → Run MapStep s (events ++ others) ys q → BeginWith (replies ys) (replies xs)
   run_begins [] others s p q [] ys is x y = record { rest = replies ys; are = refl }
   run_begins [] others s p q (a ∷ xs) ys is x y = absurd x
   run_begins (event ∷ events) others s p q [] ys is x y = absurd x
@@ -179,13 +180,15 @@ left_state {W} last new WriteFault (inl e) = ap (λ (s : LinkState W). s.map_sta
 left_state last new WriteFault (inr idle) = idle.map_state
 
 -- the run of a connection, as one of the map
-link_run : {W : Type 0} (hearing : W → Hearing) (u p : LinkState W) (input : Taken) (out : Put) (end : ConnEnd) → (x : IsLinkServed hearing u p input out end) → Run MapStep u.map_state x.served.exchange.events x.served.exchange.answers p.map_state
+link_run : {W : Type 0} (hearing : W → Hearing) (u p : LinkState W) (input : Taken) (out : Put) (end : ConnEnd) →
+    (x : IsLinkServed hearing u p input out end) → Run MapStep u.map_state x.served.exchange.events x.served.exchange.answers p.map_state
 link_run hearing u p input out end x =
     subst (λ (t : State). Run MapStep u.map_state x.served.exchange.events x.served.exchange.answers t) (sym (left_state x.served.last p end x.served.leaves))
     (map_run hearing x.served.exchange.events u x.served.last x.served.exchange.answers x.served.run)
 
 -- a connection leaves a state that can be reached
-pub link_state : {W : Type 0} (reaches : Reaches) (hearing : W → Hearing) (u p : LinkState W) (input : Taken) (out : Put) (end : ConnEnd) → IsState u.map_state → IsLinkServed hearing u p input out end → IsState p.map_state
+pub link_state : {W : Type 0} (reaches : Reaches) (hearing : W → Hearing) (u p : LinkState W) (input : Taken) (out : Put) (end : ConnEnd) →
+    IsState u.map_state → IsLinkServed hearing u p input out end → IsState p.map_state
 link_state reaches hearing u p input out end is x =
     run_state reaches x.served.exchange.events u.map_state p.map_state x.served.exchange.answers is (link_run hearing u p input out end x)
 
@@ -257,7 +260,8 @@ module _ {W : Type 0} (reaches : Reaches) (once : OneReply) (hearing : W → Hea
       let run : Run MapStep one.old.map_state events_too answers one.new.map_state =
       subst (λ (es : List Event). Run MapStep one.old.map_state es answers one.new.map_state) one_events (link_run hearing one.old one.new one.input one.out one.end both.served) in
       let also : Run MapStep one.old.map_state events_too answers_too other.new.map_state =
-      subst (λ (s : State). Run MapStep s events_too answers_too other.new.map_state) (sym both.alike.map_state) (link_run hearing other.old other.new other.input other.out other.end both.served_too) in
+      subst (λ (s : State). Run MapStep s events_too answers_too other.new.map_state) (sym both.alike.map_state)
+      (link_run hearing other.old other.new other.input other.out other.end both.served_too) in
       same_run reaches once events_too one.old.map_state one.new.map_state other.new.map_state answers answers_too both.reached run also
 
   -- they tell the watchers the same changes
@@ -268,7 +272,8 @@ module _ {W : Type 0} (reaches : Reaches) (once : OneReply) (hearing : W → Hea
   pub one_state : AreLikeStates one.new other.new
   one_state = record {
     map_state = one_run.same_state;
-    spent = all_spent hearing one.old one.new bytes one.input one.out both.brings one.end both.well both.served ∙ ap (λ (n : ℕ). n + costs answers) both.alike.spent ∙ ap (λ (n : ℕ). other.old.spent + n) (one_run.same_costs 0)
+    spent = all_spent hearing one.old one.new bytes one.input one.out both.brings one.end both.well both.served
+        ∙ ap (λ (n : ℕ). n + costs answers) both.alike.spent ∙ ap (λ (n : ℕ). other.old.spent + n) (one_run.same_costs 0)
         ∙ sym (all_spent hearing other.old other.new bytes other.input other.out both.brings_too other.end both.well_too both.served_too);
   }
 
@@ -281,7 +286,8 @@ module _ {W : Type 0} (reaches : Reaches) (once : OneReply) (hearing : W → Hea
   one_written same =
       let texts = sym (joined_replies answers) ∙ ap joined one_run.same_replies ∙ joined_replies answers_too in
       let wrote : Appends other.out.written one.out.written_after (written_of answers) =
-      subst (λ (o : Option (List ℕ)). Appends o one.out.written_after (written_of answers)) same (all_written hearing one.old one.new bytes one.input one.out both.brings one.end both.well both.served) in
+      subst (λ (o : Option (List ℕ)). Appends o one.out.written_after (written_of answers)) same
+      (all_written hearing one.old one.new bytes one.input one.out both.brings one.end both.well both.served) in
       appends_once other.out.written one.out.written_after other.out.written_after _ _ texts wrote
       (all_written hearing other.old other.new bytes other.input other.out both.brings_too other.end both.well_too both.served_too)
 
@@ -296,7 +302,8 @@ one_owed reaches one s bytes xs ys is x y =
 module _ {W : Type 0} (reaches : Reaches) (once : OneReply) (hearing : W → Hearing) (u p : LinkState W) (all : List ℕ) (input : Taken) (out : Put) (texts : List (List ℕ))
     (brings : input.left ≡ Some all) (is : IsState u.map_state) (owed : AreReplies u.map_state all texts) where
   -- where the events that were answered are the first of all, so are the replies
-  begins : (end : ConnEnd) → (x : IsLinkServed hearing u p input out end) → ((others : List Event) × (owed.events ≡ x.served.exchange.events ++ others)) → BeginWith texts (replies x.served.exchange.answers)
+  begins : (end : ConnEnd) → (x : IsLinkServed hearing u p input out end) →
+      ((others : List Event) × (owed.events ≡ x.served.exchange.events ++ others)) → BeginWith texts (replies x.served.exchange.answers)
   begins end x more =
       let events = x.served.exchange.events in
       let run : Run MapStep u.map_state (events ++ more.0) owed.answers owed.last = subst (λ (es : List Event). Run MapStep u.map_state es owed.answers owed.last) more.1 owed.run in

@@ -77,7 +77,8 @@ module _ (one : OneLabel) (known : KnownChoice) (s : State) where
   id_at labels d (Some j) = Some (get_or labels j d).order.id
 
   -- the id of the blocker is that of the label at its place
-  id_by_place : (rows : List Row) (d : Label) (p : ℕ) (blocker : Option ℕ) (id : Option (List ℕ)) (x : Option ℕ) → IsSettled rows → p < length rows → IsIdOf rows blocker id → MatchOption blocker (x ≡ None) (λ n. (j : ℕ) × (x ≡ Some j) × (number_at rows j ≡ n) × (j < p)) → id ≡ id_at (labels_in rows) d x
+  id_by_place : (rows : List Row) (d : Label) (p : ℕ) (blocker : Option ℕ) (id : Option (List ℕ)) (x : Option ℕ) → IsSettled rows → p < length rows →
+      IsIdOf rows blocker id → MatchOption blocker (x ≡ None) (λ n. (j : ℕ) × (x ≡ Some j) × (number_at rows j ≡ n) × (j < p)) → id ≡ id_at (labels_in rows) d x
   unfolding id_at
   id_by_place rows d p None id x settled lt is place = is ∙ ap (id_at (labels_in rows) d) (sym place)
   id_by_place rows d p (Some n) id x settled lt (row, there, number, is) (j, x_is, at, less) =
@@ -115,17 +116,22 @@ module _ (one : OneLabel) (known : KnownChoice) (s : State) where
       let inside : p < length (labels_in rows) = omega arith in
       let until : row.slot.until ≡ other.slot.until =
       ap (λ (c : Slot). c.until) (sym slot_p) ∙ untils p inside ∙ ap (λ (k : ℕ). (get_or (slots_in others) k no_slot).until) places ∙ ap (λ (c : Slot). c.until) slot_q in
-      let first : IsBlockerBy (number_at rows) (labels_in rows) (ends (slots_in rows)) p row.slot.blocker = subst (λ (c : Slot). IsBlockerBy (number_at rows) (labels_in rows) (ends (slots_in rows)) p c.blocker) slot_p (are.settled.slots.blockers p inside) in
-      let second : IsBlockerBy (number_at others) (labels_in others) (ends (slots_in others)) q other.slot.blocker = subst (λ (c : Slot). IsBlockerBy (number_at others) (labels_in others) (ends (slots_in others)) q c.blocker) slot_q (those.settled.slots.blockers q (omega arith)) in
+      let first : IsBlockerBy (number_at rows) (labels_in rows) (ends (slots_in rows)) p row.slot.blocker =
+      subst (λ (c : Slot). IsBlockerBy (number_at rows) (labels_in rows) (ends (slots_in rows)) p c.blocker) slot_p (are.settled.slots.blockers p inside) in
+      let second : IsBlockerBy (number_at others) (labels_in others) (ends (slots_in others)) q other.slot.blocker =
+      subst (λ (c : Slot). IsBlockerBy (number_at others) (labels_in others) (ends (slots_in others)) q c.blocker) slot_q (those.settled.slots.blockers q (omega arith)) in
       let x = by_place rows d p row.slot.blocker first in
       let y = by_place others d q other.slot.blocker second in
       let y_there : IsBlockerBy (λ j. j) (labels_in rows) (ends (slots_in others)) p y.0 =
-      subst (λ (k : ℕ). IsBlockerBy (λ j. j) (labels_in rows) (ends (slots_in others)) k y.0) (sym places) (subst (λ (ls : List Label). IsBlockerBy (λ j. j) ls (ends (slots_in others)) q y.0) (sym labels) y.1) in
-      let blockers = known.blocker (λ j. j) (labels_in rows) (ends (slots_in rows)) (ends (slots_in others)) (λ k k_in. subst (λ (f : Fraction). IsSame (ends (slots_in rows) k) f) (ap value_of (untils k k_in)) refl) p inside x.0 y.0 x.1 y_there in
+      subst (λ (k : ℕ). IsBlockerBy (λ j. j) (labels_in rows) (ends (slots_in others)) k y.0) (sym places)
+      (subst (λ (ls : List Label). IsBlockerBy (λ j. j) ls (ends (slots_in others)) q y.0) (sym labels) y.1) in
+      let blockers = known.blocker (λ j. j) (labels_in rows) (ends (slots_in rows)) (ends (slots_in others))
+      (λ k k_in. subst (λ (f : Fraction). IsSame (ends (slots_in rows) k) f) (ap value_of (untils k k_in)) refl) p inside x.0 y.0 x.1 y_there in
       let id_x = id_by_place rows d p row.slot.blocker blocker x.0 are.settled p_in blocker_is x.2 in
       let id_y = id_by_place others d q other.slot.blocker rival y.0 those.settled q_in rival_is y.2 in
       let blocker_ids : blocker ≡ rival = id_x ∙ ap (id_at (labels_in rows) d) blockers ∙ ap (λ (ls : List Label). id_at ls d y.0) labels ∙ sym id_y in
-      text ∙ ap (λ (l : Label). slot_text l row.slot.until blocker) same_label ∙ ap (λ (u : Ratio). slot_text other.label u blocker) until ∙ ap (slot_text other.label other.slot.until) blocker_ids ∙ sym words
+      text ∙ ap (λ (l : Label). slot_text l row.slot.until blocker) same_label ∙ ap (λ (u : Ratio). slot_text other.label u blocker) until
+      ∙ ap (slot_text other.label other.slot.until) blocker_ids ∙ sym words
 
   -- ---- how a feature stands
 
@@ -144,12 +150,15 @@ module _ (one : OneLabel) (known : KnownChoice) (s : State) where
   told_feature : (id text : List ℕ) → IsSlotText s id text → (f : Feature) × Contains s.features f × (f.id ≡ id) × ((l : Label) × IsLabelling s.style f (Ok l))
   told_feature id text (rows, are, (row, there, named, rest)) =
       let labels = labels_in rows in
-      let listed : Contains labels row.label = (there.0, omega (arith, there.1, length-map rows (λ r. r.label)), get_or-map (λ r. r.label) rows there.0 row row.label there.1 ∙ ap (λ (r : Row). r.label) there.2) in
+      let listed : Contains labels row.label =
+      (there.0, omega (arith, there.1, length-map rows (λ r. r.label)), get_or-map (λ r. r.label) rows there.0 row row.label there.1 ∙ ap (λ (r : Row). r.label) there.2) in
       let unsorted = Contains-permutation labels are.labels.unsorted row.label (IsPermutation-sym are.labels.unsorted labels are.labels.same) listed in
-      let found = its_feature one s.style s.features are.labels.made.answers row.label are.labels.made.answered (subst (λ (ys : List Label). Contains ys row.label) are.labels.made.labels_are unsorted) in
+      let found = its_feature one s.style s.features are.labels.made.answers row.label are.labels.made.answered
+      (subst (λ (ys : List Label). Contains ys row.label) are.labels.made.labels_are unsorted) in
       (found.0, found.1, sym found.2.ordered.id_is ∙ named, (row.label, found.2))
 
-  answers_again : IsState s → (id : List ℕ) (f g : Feature) (a b : Result Label Reason) → Contains s.features f → Contains s.features g → f.id ≡ id → g.id ≡ id → IsLabelling s.style f a → IsLabelling s.style g b → IsSameAnswer a b
+  answers_again : IsState s → (id : List ℕ) (f g : Feature) (a b : Result Label Reason) → Contains s.features f →
+      Contains s.features g → f.id ≡ id → g.id ≡ id → IsLabelling s.style f a → IsLabelling s.style g b → IsSameAnswer a b
   answers_again is id f g a b there here f_id g_id of_f of_g =
       let same = same_feature is f g there here (f_id ∙ sym g_id) in
       one s.style g a b (subst (λ (h : Feature). IsLabelling s.style h a) same of_f) of_g
@@ -174,7 +183,8 @@ module _ (one : OneLabel) (known : KnownChoice) (s : State) where
   why_again : IsState s → (closes : Bool) (query : Query) (a b : List ℕ) → IsWhyReply s closes query a → IsWhyReply s closes query b → a ≡ b
   why_again is closes query a b v w = by_id (id_in query) v w
     where
-      by_id : (o : Option (List ℕ)) → MatchOption o (a ≡ query_reply closes (codes "id")) (λ id. (standing : Option Standing) × IsStandingReply s closes id standing a) → MatchOption o (b ≡ query_reply closes (codes "id")) (λ id. (standing : Option Standing) × IsStandingReply s closes id standing b) → a ≡ b
+      by_id : (o : Option (List ℕ)) → MatchOption o (a ≡ query_reply closes (codes "id")) (λ id. (standing : Option Standing) × IsStandingReply s closes id standing a) →
+          MatchOption o (b ≡ query_reply closes (codes "id")) (λ id. (standing : Option Standing) × IsStandingReply s closes id standing b) → a ≡ b
       by_id None v w = v ∙ sym w
       by_id (Some id) v w = standing_again is closes id v.0 w.0 a b v.1 w.1
 

@@ -38,7 +38,8 @@ use Rattle.ml_http.proofs.SameViews.{KnownChoice, same_untils}
 pub record KnownEdits : Type 0 where
   pub one_refusal : (s : State) (rev : Option ℕ) (wish : Wish) → ExcludeOneAnother (IsFault s rev wish) (IsGranted s rev wish)
   pub one_edit : (wish : Wish) (one other : Edit) → AsksFor wish one → AsksFor wish other → one ≡ other
-  pub one_changes : (labels : List Label) (slots : List Slot) (new_labels : List Label) (new_slots : List Slot) (changes others : List Change) → AreChanges labels slots new_labels new_slots changes → AreChanges labels slots new_labels new_slots others → changes ≡ others
+  pub one_changes : (labels : List Label) (slots : List Slot) (new_labels : List Label) (new_slots : List Slot) (changes others : List Change) →
+      AreChanges labels slots new_labels new_slots changes → AreChanges labels slots new_labels new_slots others → changes ≡ others
   pub one_cost : (before after : List Label) (id : List ℕ) (cost other : ℕ) → IsLabelList before → IsLabelList after → IsCost before after id cost → IsCost before after id other → cost ≡ other
 
 -- nothing changes in either, and the replies are one
@@ -51,7 +52,8 @@ stays_once s p q a b t u same one other = record {
 }
 
 -- what a query gives, or the reply where it gives nothing
-given_once : {X : Type 0} (s : State) (p : List ℕ) (a b : LinkAnswer) (t u : State) (o : Option X) (P Q : X → Type 0) → ((x : X) → P x → Q x → AreOneAnswer a b t u) → MatchOption o (Stays s p a t) P → MatchOption o (Stays s p b u) Q → AreOneAnswer a b t u
+given_once : {X : Type 0} (s : State) (p : List ℕ) (a b : LinkAnswer) (t u : State) (o : Option X) (P Q : X → Type 0) →
+    ((x : X) → P x → Q x → AreOneAnswer a b t u) → MatchOption o (Stays s p a t) P → MatchOption o (Stays s p b u) Q → AreOneAnswer a b t u
 given_once s p a b t u None P Q each one other = stays_once s p p a b t u refl one other
 given_once s p a b t u (Some x) P Q each one other = each x one other
 
@@ -62,7 +64,8 @@ module _ (one : OneLabel) (choice : KnownChoice) (known : KnownEdits) (s : State
       let labels = labels_again one choice z (labels_in xs) (labels_in ys) first.labels second.labels in
       (labels, λ p within. same_untils choice.longest ys xs second.settled first.settled (sym labels) p within)
 
-  costs_once : (o : Option (List ℕ)) (before after : List Label) (m n : ℕ) → IsLabelList before → IsLabelList after → MatchOption o (m ≡ 0) (λ id. IsCost before after id m) → MatchOption o (n ≡ 0) (λ id. IsCost before after id n) → m ≡ n
+  costs_once : (o : Option (List ℕ)) (before after : List Label) (m n : ℕ) → IsLabelList before → IsLabelList after →
+      MatchOption o (m ≡ 0) (λ id. IsCost before after id m) → MatchOption o (n ≡ 0) (λ id. IsCost before after id n) → m ≡ n
   costs_once None before after m n first second p q = p ∙ sym q
   costs_once (Some id) before after m n first second p q = known.one_cost before after id m n first second p q
 
@@ -93,7 +96,8 @@ module _ (one : OneLabel) (choice : KnownChoice) (known : KnownEdits) (s : State
       let edit = known.one_edit wish x.0 y.0 x.1.asked y.1.asked in
       carried_once closes y.0 a b t u (subst (λ (e : Edit). IsCarriedOut s closes e a t) edit x.2) y.2
 
-  route_once : (route : EditRoute) (closes : Bool) (query : Query) (body : List ℕ) (a b : LinkAnswer) (t u : State) → IsEditReply route s closes query body a t → IsEditReply route s closes query body b u → AreOneAnswer a b t u
+  route_once : (route : EditRoute) (closes : Bool) (query : Query) (body : List ℕ) (a b : LinkAnswer) (t u : State) →
+      IsEditReply route s closes query body a t → IsEditReply route s closes query body b u → AreOneAnswer a b t u
   route_once route closes query body a b t u x y =
       given_once s _ a b t u (wish_in route query body) _ _
       (λ wish v w. given_once s _ a b t u (revision_in (named (codes "rev") query)) _ _ (λ rev p q. edited_once closes rev wish a b t u p q) v w) x y

@@ -82,7 +82,8 @@ one_asked query (Ok a) (Err q) v w = absurd (good_or_bad _ _ _ a q v w)
 one_asked query (Err p) (Ok b) v w = absurd (good_or_bad _ _ _ b p w v)
 one_asked query (Err p) (Err q) v w = ap Err (one_bad _ _ _ p q v w)
 
-replies_for : OneLabel → OneLongest → (s t : State) (closes : Bool) (asked : Result TileKey ℕ) (a b : LinkAnswer) (u v : State) → LookAlike s t → IsTileFor s closes asked a u → IsTileFor t closes asked b v → a.reply ≡ b.reply
+replies_for : OneLabel → OneLongest → (s t : State) (closes : Bool) (asked : Result TileKey ℕ) (a b : LinkAnswer) (u v : State) →
+    LookAlike s t → IsTileFor s closes asked a u → IsTileFor t closes asked b v → a.reply ≡ b.reply
 replies_for one longest s t closes (Err place) a b u v alike first second =
     ap (λ (answer : LinkAnswer). answer.reply) first.is ∙ sym (ap (λ (answer : LinkAnswer). answer.reply) second.is)
 replies_for one longest s t closes (Ok key) a b u v alike first second =
@@ -90,6 +91,7 @@ replies_for one longest s t closes (Ok key) a b u v alike first second =
     ∙ sym (ap (λ (answer : LinkAnswer). answer.reply) second.3)
 
 -- a query for a tile has one reply
-pub one_reply : OneLabel → OneLongest → (s t : State) (closes : Bool) (query : Query) (a b : LinkAnswer) (u v : State) → LookAlike s t → IsTileAnswer s closes query a u → IsTileAnswer t closes query b v → a.reply ≡ b.reply
+pub one_reply : OneLabel → OneLongest → (s t : State) (closes : Bool) (query : Query) (a b : LinkAnswer) (u v : State) →
+    LookAlike s t → IsTileAnswer s closes query a u → IsTileAnswer t closes query b v → a.reply ≡ b.reply
 one_reply one longest s t closes query a b u v alike first second =
     replies_for one longest s t closes first.0 a b u v alike first.2 (subst (λ (asked : Result TileKey ℕ). IsTileFor t closes asked b v) (one_asked query second.0 first.0 second.1 first.1) second.2)

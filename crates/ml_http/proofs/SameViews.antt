@@ -51,7 +51,8 @@ module _ (longest : OneLongest) (one other : List Row) (settled_one : IsSettled 
       (shown.0, λ d. subst (λ e. IsShownUntil (get_or (labels_in one) p d) view (λ k. e) p) (same_ends p shown.0) (shown.1 d))
 
 -- what one shows, the other shows: their places are the same
-same_places : (us vs : List Label) (c d : Choice) (view : View) (ps qs : List ℕ) → AreShown us c view ps → AreShown vs d view qs → ((p : ℕ) → IsShown us c view p → IsShown vs d view p) → ((p : ℕ) → IsShown vs d view p → IsShown us c view p) → ps ≡ qs
+same_places : (us vs : List Label) (c d : Choice) (view : View) (ps qs : List ℕ) → AreShown us c view ps → AreShown vs d view qs →
+    ((p : ℕ) → IsShown us c view p → IsShown vs d view p) → ((p : ℕ) → IsShown vs d view p → IsShown us c view p) → ps ≡ qs
 same_places us vs c d view ps qs first second there back =
     same_listed (IsShown us c view) (IsShown vs d view) ps qs first.ascending second.ascending first.sound second.sound first.whole second.whole there back
 
@@ -91,7 +92,8 @@ module _ (one other : List Row) (own_one : HaveOwnNumbers one) (own_other : Have
 
   same_row : (a b : Row) (p : ℕ) → Contains one a → Contains other b → p < length (labels_in one) → a.number ≡ number_at one p → b.number ≡ number_at other p → shown_of a ≡ shown_of b
   same_row a b p in_one in_other within number_a number_b =
-      let label : get_or (labels_in one) p a.label ≡ get_or (labels_in other) p b.label = ap (λ ls. get_or ls p a.label) labels ∙ get_or_default (labels_in other) p a.label b.label (omega (arith, within, ap length labels)) in
+      let label : get_or (labels_in one) p a.label ≡ get_or (labels_in other) p b.label =
+      ap (λ ls. get_or ls p a.label) labels ∙ get_or_default (labels_in other) p a.label b.label (omega (arith, within, ap length labels)) in
       shown_is one a p own_one in_one (omega (arith, within, many_one)) number_a
       ∙ ap (λ l. let s : Shown = record { label = l; until = (get_or (slots_in one) p no_slot).until } in s) label
       ∙ ap (λ u. let s : Shown = record { label = get_or (labels_in other) p b.label; until = u } in s) (untils p within)
@@ -100,7 +102,8 @@ module _ (one other : List Row) (own_one : HaveOwnNumbers one) (own_other : Have
   heads : (x y : ℕ) (xs ys : List ℕ) → x ∷ xs ≡ y ∷ ys → (x ≡ y) × (xs ≡ ys)
   heads x y xs ys e = (cc, cc)
 
-  same_shown : (places : List ℕ) (us vs : List Row) → ((p : ℕ) → Contains places p → p < length (labels_in one)) → numbers_in us ≡ map (number_at one) places → numbers_in vs ≡ map (number_at other) places →
+  same_shown : (places : List ℕ) (us vs : List Row) → ((p : ℕ) → Contains places p → p < length (labels_in one)) →
+      numbers_in us ≡ map (number_at one) places → numbers_in vs ≡ map (number_at other) places →
       ((r : Row) → Contains us r → Contains one r) → ((r : Row) → Contains vs r → Contains other r) → map shown_of us ≡ map shown_of vs
   same_shown [] [] [] within na nb in_one in_other = refl
   same_shown [] (a ∷ us) vs within na nb in_one in_other = cc
@@ -111,14 +114,16 @@ module _ (one other : List Row) (own_one : HaveOwnNumbers one) (own_other : Have
       let at_a = heads a.number (number_at one p) (numbers_in us) (map (number_at one) places) na in
       let at_b = heads b.number (number_at other p) (numbers_in vs) (map (number_at other) places) nb in
       let first : shown_of a ≡ shown_of b = same_row a b p (in_one a (here a us)) (in_other b (here b vs)) (within p (here p places)) at_a.0 at_b.0 in
-      let rest : map shown_of us ≡ map shown_of vs = same_shown places us vs (λ q there. within q (later p q places there)) at_a.1 at_b.1 (λ r there. in_one r (later a r us there)) (λ r there. in_other r (later b r vs there)) in
+      let rest : map shown_of us ≡ map shown_of vs = same_shown places us vs (λ q there. within q (later p q places there)) at_a.1 at_b.1
+      (λ r there. in_one r (later a r us there)) (λ r there. in_other r (later b r vs there)) in
       ap (λ s. s ∷ map shown_of us) first ∙ ap (λ ss. shown_of b ∷ ss) rest
 
 all_within : {X : Type 0} (P : X → Type 0) (xs : List X) → All P xs → (x : X) → Contains xs x → P x
 all_within P xs all x there = subst P there.2 (All-get_or P xs there.0 x there.1 all)
 
 -- two lists of rows with the same labels show the same
-pub same_rows_shown : OneLongest → (one other : List Row) → IsSettled one → IsSettled other → labels_in one ≡ labels_in other → (view : View) (us vs : List Row) → AreShownRows one view us → AreShownRows other view vs → map shown_of us ≡ map shown_of vs
+pub same_rows_shown : OneLongest → (one other : List Row) → IsSettled one → IsSettled other → labels_in one ≡ labels_in other →
+    (view : View) (us vs : List Row) → AreShownRows one view us → AreShownRows other view vs → map shown_of us ≡ map shown_of vs
 same_rows_shown longest one other settled_one settled_other labels view us vs first second =
     let places : first.numbers.places ≡ second.numbers.places =
     same_places (labels_in one) (labels_in other) (ends (slots_in one)) (ends (slots_in other)) view first.numbers.places second.numbers.places first.numbers.shown second.numbers.shown

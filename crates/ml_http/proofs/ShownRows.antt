@@ -127,7 +127,8 @@ size_of : (rows shown : List Row) (among : All (Contains rows) shown) → length
 size_of rows [] among = refl
 size_of rows (r ∷ shown) among = ap suc (size_of rows shown (All-tail (Contains rows) r shown among))
 
-place_at : (rows shown : List Row) (among : All (Contains rows) shown) (k : ℕ) (d : Row) → k < length shown → (get_or (places_of rows shown among) k 0 < length rows) × (get_or rows (get_or (places_of rows shown among) k 0) (get_or shown k d) ≡ get_or shown k d)
+place_at : (rows shown : List Row) (among : All (Contains rows) shown) (k : ℕ) (d : Row) → k < length shown →
+    (get_or (places_of rows shown among) k 0 < length rows) × (get_or rows (get_or (places_of rows shown among) k 0) (get_or shown k d) ≡ get_or shown k d)
 place_at rows [] among k d lt = absurd (omega (arith, lt))
 place_at rows (r ∷ shown) among zero d lt = ((All-head (Contains rows) r shown among).1, (All-head (Contains rows) r shown among).2)
 place_at rows (r ∷ shown) among (suc k) d lt = place_at rows shown (All-tail (Contains rows) r shown among) k d (omega (arith, lt))
@@ -167,7 +168,8 @@ module _ (rows : List Row) (settled : IsSettled rows) where
           | inr not_down ↦
               let same : p ≡ q = omega (arith, not_up, not_down) in
               let rows_same : a ≡ b = sym at_p ∙ ap (λ n. get_or rows n a) same ∙ get_or_default rows q a b q_in ∙ at_q in
-              absurd (clash a.label.order a.label.order (subst (λ r. order_cmp a.label.order r.label.order ≡ Less) (sym rows_same) less) (subst (λ r. order_cmp a.label.order r.label.order ≡ Less) (sym rows_same) less))
+              absurd (clash a.label.order a.label.order (subst (λ r. order_cmp a.label.order r.label.order ≡ Less) (sym rows_same) less)
+              (subst (λ r. order_cmp a.label.order r.label.order ≡ Less) (sym rows_same) less))
         ]
       ]
 

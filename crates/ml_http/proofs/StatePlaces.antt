@@ -91,7 +91,8 @@ pub record AreAdded (rows : List Row) (rev count i : ℕ) (text : List ℕ) : Ty
 pub none_added : (rows : List Row) (rev count : ℕ) (text : List ℕ) → text ≡ begun_text rev count [] [] → AreAdded rows rev count 0 text
 none_added rows rev count text is = record { slots = []; size = refl; each = λ k lt. absurd (omega (arith, lt)); so_far = is }
 
-module _ (rows : List Row) (own : HaveOwnNumbers rows) (rev count i : ℕ) (old new : List ℕ) (within : i < length rows) (added : AreAdded rows rev count i old) (row : IsRowAdded rows (number_at rows i) old new) where
+module _ (rows : List Row) (own : HaveOwnNumbers rows) (rev count i : ℕ) (old new : List ℕ) (within : i < length rows)
+    (added : AreAdded rows rev count i old) (row : IsRowAdded rows (number_at rows i) old new) where
   at_place : get_or rows i row.row ≡ row.row
   at_place = row_of rows row.row i own row.there within row.its_number
 
@@ -109,7 +110,8 @@ module _ (rows : List Row) (own : HaveOwnNumbers rows) (rev count i : ℕ) (old 
 
   each_more : (k : ℕ) → k < i + 1 → IsToldByPlace rows (get_or (slots_in rows) k no_slot) (get_or more_slots k no_slot)
   each_more k lt = elim (cases_lt k i) [
-    | inl before ↦ subst (IsToldByPlace rows (get_or (slots_in rows) k no_slot)) (sym (get_or_append_left added.slots (row.slot ∷ []) no_slot k (omega (arith, before, added.size)))) (added.each k before)
+    | inl before ↦ subst (IsToldByPlace rows (get_or (slots_in rows) k no_slot))
+        (sym (get_or_append_left added.slots (row.slot ∷ []) no_slot k (omega (arith, before, added.size)))) (added.each k before)
     | inr not_before ↦
         let same : i ≡ k = omega (arith, lt, not_before) in
         subst (λ n. IsToldByPlace rows (get_or (slots_in rows) n no_slot) (get_or more_slots n no_slot)) same
@@ -126,7 +128,8 @@ module _ (rows : List Row) (own : HaveOwnNumbers rows) (rev count i : ℕ) (old 
         slots = more_slots;
         size = length-append added.slots (row.slot ∷ []) ∙ ap (λ n. n + 1) added.size;
         each = each_more;
-        so_far = row.added rev count (take i (labels_in rows)) added.slots (added.size ∙ sym (length_taken (labels_in rows) i (omega (arith, within, many_labels)))) added.so_far ∙ ap (λ ls. begun_text rev count ls more_slots) (sym more);
+        so_far = row.added rev count (take i (labels_in rows)) added.slots (added.size ∙ sym (length_taken (labels_in rows) i (omega (arith, within, many_labels)))) added.so_far
+            ∙ ap (λ ls. begun_text rev count ls more_slots) (sym more);
       }
     where
       length_taken : (xs : List Label) (n : ℕ) → n < length xs → length (take n xs) ≡ n
@@ -143,7 +146,8 @@ place_told rows places (Some n) new are (r, there, number) told =
     (p, there.1, at_p, told ∙ ap (slice_get places) (sym at_p) ∙ are p (omega (arith, there.1, many)))
 
 -- the slot with its blocker told by place
-pub placed_by : (rows : List Row) (places : List ℕ) (row given : Slot) (blocker : Option ℕ) → ArePlacesOf (numbers_in rows) places → given ≡ row → IfSome given.blocker (IsLive rows) → IsPlaceOf places given.blocker blocker →
+pub placed_by : (rows : List Row) (places : List ℕ) (row given : Slot) (blocker : Option ℕ) → ArePlacesOf (numbers_in rows) places →
+    given ≡ row → IfSome given.blocker (IsLive rows) → IsPlaceOf places given.blocker blocker →
     IsToldByPlace rows row (record { until = given.until; blocker = blocker })
 placed_by rows places row given blocker are same live told =
     let told_row = place_told rows places given.blocker blocker are live told in
@@ -180,14 +184,16 @@ pub low_numbers : (rows : List Row) (numbers : List ℕ) → numbers ≡ numbers
 low_numbers rows numbers are low = subst (All (λ n. n < 32768)) (sym are) (low_list rows low)
 
 -- the rows added, one more
-pub row_added : (rows : List Row) (own : HaveOwnNumbers rows) (rev i : ℕ) (numbers : List ℕ) (old new : List ℕ) → numbers ≡ numbers_in rows → i < length numbers → AreAdded rows rev (length numbers) i old → IsRowAdded rows (get_or numbers i 0) old new → AreAdded rows rev (length numbers) (i + 1) new
+pub row_added : (rows : List Row) (own : HaveOwnNumbers rows) (rev i : ℕ) (numbers : List ℕ) (old new : List ℕ) → numbers ≡ numbers_in rows →
+    i < length numbers → AreAdded rows rev (length numbers) i old → IsRowAdded rows (get_or numbers i 0) old new → AreAdded rows rev (length numbers) (i + 1) new
 row_added rows own rev i numbers old new are within added row =
     let many : length numbers ≡ length rows = ap length are ∙ length-map rows (λ x. x.number) in
     one_added rows own rev (length numbers) i old new (omega (arith, within, many)) added (subst (λ n. IsRowAdded rows n old new) (ap (λ xs. get_or xs i 0) are) row)
 
 -- all rows were added
-pub all_added : (s : State) (rows : List Row) → AreLabelsOf s.style s.features (labels_in rows) → IsSettled rows → (rev : ℕ) → rev ≡ s.rev → (numbers : List ℕ) → numbers ≡ numbers_in rows → (n : ℕ) → n ≡ length numbers → (before text : List ℕ) →
-    AreAdded rows rev (length numbers) n before → ((r : ℕ) (labels : List Label) (slots : List Slot) → before ≡ begun_text r (length labels) labels slots → text ≡ state_text r labels slots) → IsStateText s text
+pub all_added : (s : State) (rows : List Row) → AreLabelsOf s.style s.features (labels_in rows) → IsSettled rows → (rev : ℕ) → rev ≡ s.rev →
+    (numbers : List ℕ) → numbers ≡ numbers_in rows → (n : ℕ) → n ≡ length numbers → (before text : List ℕ) → AreAdded rows rev (length numbers) n before →
+    ((r : ℕ) (labels : List Label) (slots : List Slot) → before ≡ begun_text r (length labels) labels slots → text ≡ state_text r labels slots) → IsStateText s text
 all_added s rows of settled rev rev_is numbers are n at_end before text added whole =
     let many : length numbers ≡ length rows = ap length are ∙ length-map rows (λ x. x.number) in
     let many_labels : length (labels_in rows) ≡ length rows = length-map rows (λ x. x.label) in
@@ -197,5 +203,8 @@ all_added s rows of settled rev rev_is numbers are n at_end before text added wh
       each = λ i within. added.each i (omega (arith, within, at_end, many));
     } in
     let begun : before ≡ begun_text rev (length (labels_in rows)) (labels_in rows) added.slots =
-    added.so_far ∙ ap (λ ls. begun_text rev (length numbers) ls added.slots) all ∙ ap (λ k. begun_text rev k (labels_in rows) added.slots) (many ∙ sym many_labels) in
-    (labels_in rows, of, (added.slots, placed_slots rows settled.own_numbers settled.slots added.slots placed, whole rev (labels_in rows) added.slots begun ∙ ap (λ r. state_text r (labels_in rows) added.slots) rev_is))
+    added.so_far ∙ ap (λ ls. begun_text rev (length numbers) ls added.slots) all ∙ ap (λ k. begun_text rev k (labels_in rows) added.slots) (many ∙ sym many_labels) in (
+      labels_in rows,
+      of,
+      (added.slots, placed_slots rows settled.own_numbers settled.slots added.slots placed, whole rev (labels_in rows) added.slots begun ∙ ap (λ r. state_text r (labels_in rows) added.slots) rev_is),
+    )

@@ -99,7 +99,8 @@ tile_right s t closes (Ok key) answer (text, right, same, is) old new done texts
 
 module _ (one : OneLabel) (longest : OneLongest) (stays_after : StaysAfter) (stays_before : StaysBefore) (one_an_id : OneAnId) where
   -- an edit is carried out
-  work_right : (s t : State) (closes : Bool) (edit : Edit) (answer : LinkAnswer) (out : IsCarriedOut s closes edit answer t) (own : Option (List ℕ)) → answer.work ≡ unwrap_or (option_map (λ id. Changed out.before out.after) own) Remade → StayRight s t answer
+  work_right : (s t : State) (closes : Bool) (edit : Edit) (answer : LinkAnswer) (out : IsCarriedOut s closes edit answer t) (own : Option (List ℕ)) →
+      answer.work ≡ unwrap_or (option_map (λ id. Changed out.before out.after) own) Remade → StayRight s t answer
   work_right s t closes edit answer out None work old new done texts =
       let emptied : new ≡ record old { tiles = [] } = subst (λ w. IsDoneTo w answer.changes old new) work done in
       subst (λ (c : Cache). AreTexts t c.tiles) (sym emptied) (λ tile there. absurd (none_in_none there))

@@ -42,7 +42,8 @@ not_memory fault code status is =
 -- replies that change nothing
 module _ {W : Type 0} (hearing : W → Hearing) (nothing : (ws : List W) → AllHear hearing [] ws ws) where
   -- a reply that follows a rule, while nothing changes and no step is spent, is an answer by the rule
-  pub answered_plain : (rule : State → LinkAnswer → State → Type 0) (old new : LinkState W) (reply : List ℕ) → LinkIdles old new → new.spent ≡ old.spent → rule old.map_state (plain reply) new.map_state → IsAnswered hearing rule old new reply
+  pub answered_plain : (rule : State → LinkAnswer → State → Type 0) (old new : LinkState W) (reply : List ℕ) → LinkIdles old new →
+      new.spent ≡ old.spent → rule old.map_state (plain reply) new.map_state → IsAnswered hearing rule old new reply
   answered_plain rule old new reply idle same by = (
     plain reply,
     record {
@@ -63,7 +64,8 @@ module _ {W : Type 0} (hearing : W → Hearing) (nothing : (ws : List W) → All
 
   -- what is read
   pub read_answered : (request : RequestParts) (routed : Result Route NoRoute) (route : ReadRoute) (said : Bool) (given : Query) (old : LinkState W) (reply : List ℕ) →
-      Ok (routes.Read route) ≡ routed → said ≡ request.closes → given ≡ query_pairs (query_of request.target) → IsRead route old.map_state said given reply → IsAnswered hearing (λ s a t. IsRouted routed s request a t) old old reply
+      Ok (routes.Read route) ≡ routed → said ≡ request.closes → given ≡ query_pairs (query_of request.target) →
+      IsRead route old.map_state said given reply → IsAnswered hearing (λ s a t. IsRouted routed s request a t) old old reply
   read_answered request routed route said given old reply is says gives read =
       let s = old.map_state in
       answered_plain (λ s a t. IsRouted routed s request a t) old old reply (idles old) refl

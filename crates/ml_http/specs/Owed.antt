@@ -25,7 +25,8 @@ pub record BeginWith (texts front : List (List ℕ)) : Type 0 where
   pub rest : List (List ℕ)
   pub are : texts ≡ front ++ rest
 
--- what a connection that ended so has put out, of these texts that it was owed: all of them, where it ended well; else the first of them, whole where the source failed, followed by the reply that memory is wanting where it is, and cut where the sink failed
+-- what a connection that ended so has put out, of these texts that it was owed: all of them, where it ended well; else the first of them,
+-- whole where the source failed, followed by the reply that memory is wanting where it is, and cut where the sink failed
 abbrev pub IsBeginning : ConnEnd → Option (List ℕ) → Option (List ℕ) → List (List ℕ) → Type 0
 IsBeginning Closed written written_after texts = Appends written written_after (flat_map (λ (text : List ℕ). text) texts)
 IsBeginning Shut written written_after texts = Appends written written_after (flat_map (λ (text : List ℕ). text) texts)

@@ -26,7 +26,8 @@ impl<W: Watcher, L: Ledger> Context<'_, '_, W, L> {
     pub(crate) fn answer(&mut self, event: &Event) -> Result<Vec<u8>, AllocError>
         requires texts { HoldsTexts (state_of self.old) }
         ensures loan { IsSameLoan self.old self.new }
-        ensures ok { IfOk result (λ bytes. IsAnswered W.hearing (λ s answer t. MapStep s event.now answer t)
+        ensures ok { IfOk result
+            (λ bytes. IsAnswered W.hearing (λ s answer t. MapStep s event.now answer t)
             (state_of self.old) (state_of self.new) bytes.items) }
         ensures memory { OnErr result (LinkIdles (state_of self.old) (state_of self.new)) }
     {
@@ -42,7 +43,8 @@ impl<W: Watcher, L: Ledger> Context<'_, '_, W, L> {
         requires texts { HoldsTexts (state_of self.old) }
         ensures loan { IsSameLoan self.old self.new }
         ensures ok { IfOk result (λ bytes. IsAnswered W.hearing
-            (λ s answer t. IsRouted (route_of request.now.method (path_of request.now.target)) s request.now answer t)
+            (λ s answer t. IsRouted
+            (route_of request.now.method (path_of request.now.target)) s request.now answer t)
             (state_of self.old) (state_of self.new) bytes.items) }
         ensures memory { OnErr result (LinkIdles (state_of self.old) (state_of self.new)) }
     {

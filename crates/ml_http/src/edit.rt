@@ -37,7 +37,8 @@ impl<W: Watcher, L: Ledger> Context<'_, '_, W, L> {
     ) -> Result<Vec<u8>, AllocError>
         ensures loan { IsSameLoan self.old self.new }
         ensures ok { IfOk result (λ bytes. IsAnswered W.hearing
-            (λ s answer t. IsEditReply route s request.now.closes (map pair_bytes pairs.now) request.now.body answer t)
+            (λ s answer t. IsEditReply route s request.now.closes
+            (map pair_bytes pairs.now) request.now.body answer t)
             (state_of self.old) (state_of self.new) bytes.items) }
         ensures memory { OnErr result (LinkIdles (state_of self.old) (state_of self.new)) }
     {
@@ -58,11 +59,13 @@ impl<W: Watcher, L: Ledger> Context<'_, '_, W, L> {
     // Makes the reply to an edit that is ready, and then drops the tiles that show what it changes and
     // carries it out, which cannot fail. The steps for it were spent when it was made ready.
     fn accept(&mut self, ready: Ready, closes: bool) -> Result<Vec<u8>, AllocError>
-        requires of_state { IsReady ready self.old.editor.now.state self.old.editor.now.engine.rows }
+        requires of_state { IsReady ready self.old.editor.now.state
+            self.old.editor.now.engine.rows }
         requires room { HasRoomFor ready self.old.editor.now }
         ensures loan { IsSameLoan self.old self.new }
         ensures ok { IfOk result (λ bytes.
-            IsAccepted W.hearing closes ready.edit ready.evaluated (state_of self.old) (state_of self.new) bytes.items) }
+            IsAccepted W.hearing closes ready.edit ready.evaluated
+            (state_of self.old) (state_of self.new) bytes.items) }
         ensures memory { OnErr result (state_of self.new ≡ state_of self.old) }
     {
         let reply = accepted_reply(self.alloc, &ready, closes)?;
@@ -74,7 +77,8 @@ impl<W: Watcher, L: Ledger> Context<'_, '_, W, L> {
 
 // What a request for an edit asks; none where it needs an id that its query does not give.
 fn asked_in<'a>(route: EditRoute, request: &'a Request, pairs: &'a [Pair<'_>]) -> Option<Asked<'a>>
-    ensures { option_map wish_of result ≡ wish_in route (map pair_bytes pairs.now) request.now.body }
+    ensures { option_map wish_of result
+        ≡ wish_in route (map pair_bytes pairs.now) request.now.body }
 {
     match route {
         EditRoute::Add => Some(Asked::Add(request.body())),
@@ -89,7 +93,8 @@ fn asked_in<'a>(route: EditRoute, request: &'a Request, pairs: &'a [Pair<'_>]) -
 
 // The reply to an edit that is ready.
 fn accepted_reply(alloc: Global, ready: &Ready, closes: bool) -> Result<Vec<u8>, AllocError>
-    ensures { IfOk result (λ bytes. bytes.items ≡ json_reply_text 200 closes (edit_text ready.now.rev ready.now.changes)) }
+    ensures { IfOk result (λ bytes.
+        bytes.items ≡ json_reply_text 200 closes (edit_text ready.now.rev ready.now.changes)) }
 {
     let text = edit_json(alloc, ready.rev(), ready.changes())?;
     json_reply(alloc, StatusCode::OK, closes, text.as_slice())

@@ -18,7 +18,8 @@ use ml_watch::Change;
 /// them where the edit is a new style. It takes no memory.
 pub(crate) fn forget_changes(editor: &Editor, tiles: &mut Tiles, ready: &Ready)
     requires { IsReady ready.now editor.now.state editor.now.engine.rows }
-    ensures { IsDoneTo (work_of ready.now.edit editor.now.engine.rows (rows_after ready.now.work editor.now.engine.rows))
+    ensures { IsDoneTo (work_of ready.now.edit editor.now.engine.rows
+        (rows_after ready.now.work editor.now.engine.rows))
         ready.now.changes tiles.old tiles.new }
 {
     match ready.edited_id() {
@@ -31,7 +32,8 @@ pub(crate) fn forget_changes(editor: &Editor, tiles: &mut Tiles, ready: &Ready)
 fn forget_shown(editor: &Editor, tiles: &mut Tiles, ready: &Ready, id: &Text)
     requires of_state { IsReady ready.now editor.now.state editor.now.engine.rows }
     requires id { id_of ready.now.edit ≡ Some id.now }
-    ensures { Drops (ShowsChanges editor.now.engine.rows (rows_after ready.now.work editor.now.engine.rows) ready.now.changes)
+    ensures { Drops (ShowsChanges editor.now.engine.rows
+        (rows_after ready.now.work editor.now.engine.rows) ready.now.changes)
         tiles.old tiles.new }
 {
     for change in ready.changes().as_slice() {
@@ -44,8 +46,10 @@ fn forget_change(editor: &Editor, tiles: &mut Tiles, ready: &Ready, id: &Text, c
     requires of_state { IsReady ready.now editor.now.state editor.now.engine.rows }
     requires id { id_of ready.now.edit ≡ Some id.now }
     requires change { IsChange (labels_in editor.now.engine.rows) (slots_in editor.now.engine.rows)
-        (labels_in (rows_after ready.now.work editor.now.engine.rows)) (slots_in (rows_after ready.now.work editor.now.engine.rows)) change.now }
-    ensures { Drops (ShowsChange editor.now.engine.rows (rows_after ready.now.work editor.now.engine.rows) change.now) tiles.old tiles.new }
+        (labels_in (rows_after ready.now.work editor.now.engine.rows))
+        (slots_in (rows_after ready.now.work editor.now.engine.rows)) change.now }
+    ensures { Drops (ShowsChange editor.now.engine.rows
+        (rows_after ready.now.work editor.now.engine.rows) change.now) tiles.old tiles.new }
 {
     changes_tell();
     forget_before(editor, tiles, change);
@@ -65,8 +69,10 @@ fn forget_before(editor: &Editor, tiles: &mut Tiles, change: &Change)
 fn forget_after(editor: &Editor, tiles: &mut Tiles, ready: &Ready, id: &Text, change: &Change)
     requires of_state { IsReady ready.now editor.now.state editor.now.engine.rows }
     requires id { id_of ready.now.edit ≡ Some id.now }
-    requires told { IsTold (rows_after ready.now.work editor.now.engine.rows) change.now.id change.now.after }
-    ensures { Drops (ShowsId (rows_after ready.now.work editor.now.engine.rows) change.now.id) tiles.old tiles.new }
+    requires told { IsTold
+        (rows_after ready.now.work editor.now.engine.rows) change.now.id change.now.after }
+    ensures { Drops (ShowsId (rows_after ready.now.work editor.now.engine.rows) change.now.id)
+        tiles.old tiles.new }
 {
     one_label_an_id();
     let label = if change.id == *id {

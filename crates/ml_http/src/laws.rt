@@ -82,7 +82,8 @@ pub fn empty_word()
 /// as one that is not.
 pub fn held_tiles_stay_right()
     ensures { (s t : State) (event : Event) (answer : LinkAnswer) (old new : Cache) →
-        MapStep s event answer t → IsDoneTo answer.work answer.changes old new → AreTexts s old.tiles → AreTexts t new.tiles }
+        MapStep s event answer t → IsDoneTo answer.work answer.changes old new →
+        AreTexts s old.tiles → AreTexts t new.tiles }
 {
     one_label();
     one_longest();
@@ -94,9 +95,12 @@ pub fn held_tiles_stay_right()
 /// answer each request for a tile with the same bytes. So a tile that is held, whose body is that of the
 /// present map, is answered as one that is made for the request.
 pub fn one_tile()
-    ensures body { (s t : State) (key : TileKey) (a b : List ℕ) → LookAlike s t → IsTileText s key a → IsTileText t key b → a ≡ b }
-    ensures reply { (s t : State) (closes : Bool) (query : Query) (one other : LinkAnswer) (u v : State) → LookAlike s t →
-        IsTileAnswer s closes query one u → IsTileAnswer t closes query other v → one.reply ≡ other.reply }
+    ensures body { (s t : State) (key : TileKey) (a b : List ℕ) →
+        LookAlike s t → IsTileText s key a → IsTileText t key b → a ≡ b }
+    ensures reply { (s t : State) (closes : Bool) (query : Query)
+        (one other : LinkAnswer) (u v : State) → LookAlike s t →
+        IsTileAnswer s closes query one u →
+        IsTileAnswer t closes query other v → one.reply ≡ other.reply }
 {
     one_label();
     one_longest();
@@ -106,10 +110,13 @@ pub fn one_tile()
 /// nothing, or a smaller revision, is to adopt; and it has the labels of the map's features in priority
 /// order, alike in ids, anchors, boxes, selectable ranges and margins, with their ends and blockers.
 pub fn states_are_adopted()
-    ensures { (s : State) (text : List ℕ) (held : Option followed.State) → IsState s → All (λ f. IsUtf8 f.id) s.features →
+    ensures { (s : State) (text : List ℕ) (held : Option followed.State) →
+        IsState s → All (λ f. IsUtf8 f.id) s.features →
         IsStateText s text → ¬ (IsStale held s.rev) →
-        (labels : List Label) × (slots : List Slot) × (state : followed.State) × AreLabelsOf s.style s.features labels
-        × AreSlots (λ j. j) labels slots × AreStates text (state ∷ []) × IsStateWith s.rev labels slots state × IsDue held state }
+        (labels : List Label) × (slots : List Slot)
+        × (state : followed.State) × AreLabelsOf s.style s.features labels
+        × AreSlots (λ j. j) labels slots × AreStates text (state ∷ [])
+        × IsStateWith s.rev labels slots state × IsDue held state }
 {
     adopted();
 }
@@ -119,9 +126,12 @@ pub fn states_are_adopted()
 ///
 /// So a view of a map whose style has such classes alone may be drawn on a map that is stretched in y.
 pub fn names_rise()
-    ensures { (style : Style) (f g : Feature) (one other : Class) (a b : Label) (height : ℤ) (s : Fraction) →
-        IsClassOf style f one → one.kind ≢ LineKind → ReachesHeight height one → IsFeatureLabel style f a →
-        IsClassOf style g other → other.kind ≢ LineKind → ReachesHeight height other → IsFeatureLabel style g b →
+    ensures { (style : Style) (f g : Feature) (one other : Class)
+        (a b : Label) (height : ℤ) (s : Fraction) →
+        IsClassOf style f one → one.kind ≢ LineKind →
+        ReachesHeight height one → IsFeatureLabel style f a →
+        IsClassOf style g other → other.kind ≢ LineKind →
+        ReachesHeight height other → IsFeatureLabel style g b →
         MayRise a b s }
 {
     level_labels();
@@ -129,7 +139,8 @@ pub fn names_rise()
 
 /// A request that changes nothing has one reply.
 pub fn one_read()
-    ensures { (s : State) (route : ReadRoute) (closes : Bool) (query : Query) (a b : List ℕ) → IsState s →
+    ensures { (s : State) (route : ReadRoute) (closes : Bool) (query : Query) (a b : List ℕ) →
+        IsState s →
         IsRead route s closes query a → IsRead route s closes query b → a ≡ b }
 {
     one_label();
@@ -155,8 +166,10 @@ pub fn one_reply()
 /// What answers requests leads from states that can be reached to such states: one event, and a connection,
 /// however it ends.
 pub fn stays_reached<W>()
-    ensures event { (s t : State) (event : Event) (answer : LinkAnswer) → IsState s → MapStep s event answer t → IsState t }
-    ensures connection { (hearing : W → Hearing) (old new : LinkState W) (input : Taken) (out : Put) (end : ConnEnd) →
+    ensures event { (s t : State) (event : Event) (answer : LinkAnswer) →
+        IsState s → MapStep s event answer t → IsState t }
+    ensures connection { (hearing : W → Hearing) (old new : LinkState W)
+        (input : Taken) (out : Put) (end : ConnEnd) →
         IsState old.map_state → IsLinkServed hearing old new input out end → IsState new.map_state }
 {
     accepted_is_reached();
@@ -166,13 +179,17 @@ pub fn stays_reached<W>()
 /// states that are alike, write the same bytes, in whatever pieces these came. They end alike, tell the
 /// watchers the same changes, and leave states that are alike; so the next connection finds one map.
 pub fn one_account<W>()
-    ensures written { (hearing : W → Hearing) (bytes : List ℕ) (one other : Account W) → AreAccounts hearing bytes one other →
+    ensures written { (hearing : W → Hearing) (bytes : List ℕ) (one other : Account W) →
+        AreAccounts hearing bytes one other →
         one.out.written ≡ other.out.written → one.out.written_after ≡ other.out.written_after }
-    ensures ended { (hearing : W → Hearing) (bytes : List ℕ) (one other : Account W) → AreAccounts hearing bytes one other → one.end ≡ other.end }
-    ensures told { (hearing : W → Hearing) (bytes : List ℕ) (one other : Account W) (both : AreAccounts hearing bytes one other) →
+    ensures ended { (hearing : W → Hearing) (bytes : List ℕ) (one other : Account W) →
+        AreAccounts hearing bytes one other → one.end ≡ other.end }
+    ensures told { (hearing : W → Hearing) (bytes : List ℕ)
+        (one other : Account W) (both : AreAccounts hearing bytes one other) →
         flat_map (λ (a : LinkAnswer). a.changes) both.served.served.exchange.answers
         ≡ flat_map (λ (a : LinkAnswer). a.changes) both.served_too.served.exchange.answers }
-    ensures states { (hearing : W → Hearing) (bytes : List ℕ) (one other : Account W) → AreAccounts hearing bytes one other → AreLikeStates one.new other.new }
+    ensures states { (hearing : W → Hearing) (bytes : List ℕ) (one other : Account W) →
+        AreAccounts hearing bytes one other → AreLikeStates one.new other.new }
 {
     one_reply();
     accepted_is_reached();
@@ -180,7 +197,8 @@ pub fn one_account<W>()
 
 /// The bytes of a connection are owed one list of replies.
 pub fn one_list_of_replies()
-    ensures { (s : State) (bytes : List ℕ) (one other : List (List ℕ)) → IsState s → AreReplies s bytes one → AreReplies s bytes other → one ≡ other }
+    ensures { (s : State) (bytes : List ℕ) (one other : List (List ℕ)) → IsState s →
+        AreReplies s bytes one → AreReplies s bytes other → one ≡ other }
 {
     one_reply();
     accepted_is_reached();
@@ -190,8 +208,10 @@ pub fn one_list_of_replies()
 /// where it ended well; the first of them where the source failed; these and the reply that memory is wanting
 /// where it is; and a part of such replies where the sink failed.
 pub fn one_prefix<W>()
-    ensures { (hearing : W → Hearing) (old new : LinkState W) (bytes : List ℕ) (input : Taken) (out : Put) (end : ConnEnd) (texts : List (List ℕ)) →
-        IsState old.map_state → input.left ≡ Some bytes → IsLinkServed hearing old new input out end →
+    ensures { (hearing : W → Hearing) (old new : LinkState W) (bytes : List ℕ)
+        (input : Taken) (out : Put) (end : ConnEnd) (texts : List (List ℕ)) →
+        IsState old.map_state → input.left ≡ Some bytes →
+        IsLinkServed hearing old new input out end →
         AreReplies old.map_state bytes texts → IsBeginning end out.written out.written_after texts }
 {
     one_reply();

@@ -45,7 +45,8 @@ fn count_of(pairs: &[Pair<'_>], name: &str) -> usize
 
 // The first value of a name.
 fn first_of<'a>(pairs: &'a [Pair<'_>], name: &str) -> Option<&'a str>
-    ensures { option_map (λ value. value.now) result ≡ first (named name.now (map pair_bytes pairs.now)) }
+    ensures { option_map (λ value. value.now) result
+        ≡ first (named name.now (map pair_bytes pairs.now)) }
 {
     for pair in pairs {
         if pair.0.as_str() == name {

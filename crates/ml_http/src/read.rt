@@ -24,7 +24,8 @@ pub(crate) fn read(
     closes: bool,
     pairs: &[Pair<'_>],
 ) -> Result<Vec<u8>, AllocError>
-    ensures { IfOk result (λ bytes. IsRead route editor.now.state closes (map pair_bytes pairs.now) bytes.items) }
+    ensures { IfOk result
+        (λ bytes. IsRead route editor.now.state closes (map pair_bytes pairs.now) bytes.items) }
 {
     match route {
         ReadRoute::View => json_view_reply(alloc, editor, closes, pairs),

@@ -41,7 +41,8 @@ pub(crate) fn tile_reply(
     pairs: &[Pair<'_>],
 ) -> Result<Vec<u8>, AllocError>
     requires texts { AreTexts editor.now.state tiles.old.tiles }
-    ensures ok { IfOk result (λ bytes. (asked : Result TileKey ℕ) × IsTileAsked (map pair_bytes pairs.now) asked
+    ensures ok { IfOk result
+        (λ bytes. (asked : Result TileKey ℕ) × IsTileAsked (map pair_bytes pairs.now) asked
         × IsTileReply editor.now.state closes asked tiles.old tiles.new bytes.items) }
     ensures memory { OnErr result (tiles.new ≡ tiles.old) }
 {
@@ -60,7 +61,8 @@ fn reply_of(
     key: TileKey,
 ) -> Result<Vec<u8>, AllocError>
     requires texts { AreTexts editor.now.state tiles.old.tiles }
-    ensures ok { IfOk result (λ bytes. IsTileTold editor.now.state closes key tiles.old tiles.new bytes.items) }
+    ensures ok { IfOk result
+        (λ bytes. IsTileTold editor.now.state closes key tiles.old tiles.new bytes.items) }
     ensures memory { OnErr result (tiles.new ≡ tiles.old) }
 {
     if let Some(reply) = held_reply(alloc, tiles, closes, &key)? {
@@ -81,7 +83,8 @@ fn held_reply(
     key: &TileKey,
 ) -> Result<Option<Vec<u8>>, AllocError>
     ensures { IfOk result (λ found. MatchOption found (¬ (IsHeld key.now tiles.now.tiles))
-        (λ bytes. (body : List ℕ) × Contains tiles.now.tiles (key.now, body) × (bytes.items ≡ json_reply 200 closes body))) }
+        (λ bytes. (body : List ℕ) × Contains tiles.now.tiles (key.now, body)
+        × (bytes.items ≡ json_reply 200 closes body))) }
 {
     match tiles.peek(key) {
         Some(body) => {

@@ -34,7 +34,8 @@ pub(crate) fn json_view_reply(
     closes: bool,
     pairs: &[Pair<'_>],
 ) -> Result<Vec<u8>, AllocError>
-    ensures { IfOk result (λ bytes. IsViewReply json_body kinds.Json editor.now.state closes (map pair_bytes pairs.now) bytes.items) }
+    ensures { IfOk result (λ bytes. IsViewReply json_body kinds.Json editor.now.state closes
+        (map pair_bytes pairs.now) bytes.items) }
 {
     match view_asked(pairs) {
         Ok(view) => {
@@ -59,7 +60,8 @@ pub(crate) fn svg_view_reply(
     closes: bool,
     pairs: &[Pair<'_>],
 ) -> Result<Vec<u8>, AllocError>
-    ensures { IfOk result (λ bytes. IsViewReply svg_body kinds.Svg editor.now.state closes (map pair_bytes pairs.now) bytes.items) }
+    ensures { IfOk result (λ bytes. IsViewReply svg_body kinds.Svg editor.now.state closes
+        (map pair_bytes pairs.now) bytes.items) }
 {
     match view_asked(pairs) {
         Ok(view) => {

@@ -24,7 +24,8 @@ pub(crate) fn why_reply(
     closes: bool,
     pairs: &[Pair<'_>],
 ) -> Result<Vec<u8>, AllocError>
-    ensures { IfOk result (λ bytes. IsWhyReply editor.now.state closes (map pair_bytes pairs.now) bytes.items) }
+    ensures { IfOk result
+        (λ bytes. IsWhyReply editor.now.state closes (map pair_bytes pairs.now) bytes.items) }
 {
     match id_asked(pairs) {
         Some(id) => {
@@ -42,7 +43,8 @@ fn standing_reply(
     closes: bool,
     id: &Text,
 ) -> Result<Vec<u8>, AllocError>
-    ensures { IfOk result (λ bytes. (standing : Option Standing) × IsStandingReply editor.now.state closes id.now standing bytes.items) }
+    ensures { IfOk result (λ bytes. (standing : Option Standing)
+        × IsStandingReply editor.now.state closes id.now standing bytes.items) }
 {
     match editor.standing(id) {
         Some(Standing::Labelled(number)) => {
@@ -59,7 +61,8 @@ fn standing_reply(
 
 // The reply where no feature has this id.
 fn unknown_reply(alloc: Global, closes: bool, id: &Text) -> Result<Vec<u8>, AllocError>
-    ensures { IfOk result (λ bytes. bytes.items ≡ json_reply 404 closes (fault_text (edit_faults.Unknown id.now))) }
+    ensures { IfOk result
+        (λ bytes. bytes.items ≡ json_reply 404 closes (fault_text (edit_faults.Unknown id.now))) }
 {
     let unknown = EditFault::Unknown(id.copy()?);
     let text = fault_json(alloc, &unknown)?;

@@ -87,9 +87,11 @@ impl Door for CalmDoor {
     fn next(&mut self) -> Result<Option<CalmLink>, Failed>
         requires listens { self.old.listens ≡ true }
         requires out { self.old.out ≡ false }
-        ensures ok { IfOk result (λ link. GivesNext (Some self.old.coming) (Some self.new.coming) link
+        ensures ok { IfOk result
+            (λ link. GivesNext (Some self.old.coming) (Some self.new.coming) link
             × (self.new.out ≡ is_some link)) }
-        ensures err { OnErr result ((Some self.new.coming ≡ Some self.old.coming) × (self.new.out ≡ false)) }
+        ensures err { OnErr result
+            ((Some self.new.coming ≡ Some self.old.coming) × (self.new.out ≡ false)) }
         ensures same { (self.new.port ≡ self.old.port) × (self.new.listens ≡ self.old.listens)
             × (Some self.new.served ≡ Some self.old.served) }
         ensures cause { HasCause 0 0 result }

@@ -58,7 +58,8 @@ pub trait Door {
         requires out { is_out self.old ≡ false }
         ensures ok { IfOk result (λ link. GivesNext (coming self.old) (coming self.new) link
             × (is_out self.new ≡ is_some link)) }
-        ensures err { OnErr result ((coming self.new ≡ coming self.old) × (is_out self.new ≡ false)) }
+        ensures err { OnErr result
+            ((coming self.new ≡ coming self.old) × (is_out self.new ≡ false)) }
         ensures same { (at_port self.new ≡ at_port self.old) × (listens self.new ≡ listens self.old)
             × (served self.new ≡ served self.old) }
         ensures cause { HasCause (faults self.old) (faults self.new) result };

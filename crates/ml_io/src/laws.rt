@@ -30,7 +30,8 @@ pub fn append_twice<A>()
 /// A whole piece, and then a part of the next one, is a part of the two together.
 pub fn append_part_after()
     ensures { (old between new : Option (List ℕ)) (whole next : List ℕ) →
-        Appends old between whole → AppendsPart between new next → AppendsPart old new (whole ++ next) }
+        Appends old between whole → AppendsPart between new next →
+        AppendsPart old new (whole ++ next) }
 {}
 
 /// A part of a piece is a part of a longer one.

@@ -83,7 +83,8 @@ impl<I, O> LinkList<I, O> {
     /// Takes a connection back, last of those done. It takes no memory.
     pub(crate) fn done(&mut self, link: Link<I, O>)
         requires { self.old.out ≡ true }
-        ensures { self.new ≡ record self.old { served = self.old.served ++ link ∷ []; out = false } }
+        ensures { self.new
+            ≡ record self.old { served = self.old.served ++ link ∷ []; out = false } }
     {
         match self.served.push(link) {
             Ok(()) => self.out = false,

@@ -13,7 +13,8 @@ use itoa::Buffer;
 /// that is not the whole was appended.
 pub fn put_number<K: Sink>(sink: &mut K, number: u64) -> Result<(), Failed>
     ensures ok { OnOk result (Appends (K.written sink.old) (K.written sink.new) (decimal number)) }
-    ensures err { OnErr result (AppendsPart (K.written sink.old) (K.written sink.new) (decimal number)) }
+    ensures err { OnErr result
+        (AppendsPart (K.written sink.old) (K.written sink.new) (decimal number)) }
     ensures cause { HasCause (K.faults sink.old) (K.faults sink.new) result }
 {
     let mut buffer = Buffer::new();

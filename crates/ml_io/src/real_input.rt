@@ -51,12 +51,14 @@ impl<R: Read> Source for RealInput<R> {
         ensures bound { IfOk result (λ n. n ≤ length buf.new) }
         ensures ok { IfOk result (λ n.
             Draws (told_left self.old.ended) (told_left self.new.ended) (take n buf.new)) }
-        ensures err { OnErr result (Draws (told_left self.old.ended) (told_left self.new.ended) []) }
+        ensures err { OnErr result
+            (Draws (told_left self.old.ended) (told_left self.new.ended) []) }
         ensures end { IfOk result (λ n. n ≡ 0 → 0 < length buf.new →
             HasRunOut (told_left self.new.ended)) }
         ensures cause { HasCause self.old.faults self.new.faults result }
         ensures read { self.old.ended ≡ false
-            → ReadConsumes (R.remaining self.old.reader) (R.remaining self.new.reader) result buf.new }
+            → ReadConsumes (R.remaining self.old.reader)
+            (R.remaining self.new.reader) result buf.new }
         ensures over { self.old.ended ≡ true → IsOk result × (self.new.reader ≡ self.old.reader) }
         ensures ended { self.new.ended ≡ (self.old.ended || says_end result (length buf.new)) }
         ensures counted { self.new.faults ≡ faults_after_call result self.old.faults }

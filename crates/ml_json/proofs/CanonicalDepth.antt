@@ -6,7 +6,8 @@ use Rattle.ml_json.proofs.RunsRead.{by_cases}
 use Rattle.ml_json.specs.Canonical.{hex_byte, byte_on, bytes_on, tree_on, items_on, rest_on, members_on, more_on, nesting, items_nesting, pairs_nesting}
 use Rattle.ml_json.proofs.CanonicalReads.{Good, AllGood, AllGoodPairs}
 use Rattle.ml_json.proofs.DepthRuns.{calm_digit, calm_first, calm_sign, calm_letter}
-use Rattle.ml_ratio.specs.JsonNumber.{minus_number, plain_number, IsNumber, Unsigned, exponent, no_exponent, ExponentPart, signed, unsigned, Signed, fraction, no_fraction, FractionPart, whole, nought, Whole, Digits, AllDigits}
+use Rattle.ml_ratio.specs.JsonNumber.{minus_number, plain_number, IsNumber, Unsigned, exponent, no_exponent, ExponentPart, signed}
+use Rattle.ml_ratio.specs.JsonNumber.{unsigned, Signed, fraction, no_fraction, FractionPart, whole, nought, Whole, Digits, AllDigits}
 use Rattle.ml_json.specs.Depth.{outside, inside, Seen, see, seen, IsShallow}
 
 -- no byte takes the depth beyond the limit
@@ -131,25 +132,33 @@ mutual
   -- nor does the text of a list's items, one level deeper behind the opening bracket
   pub items_stay : (vs : Trees) (d : ℕ) (r : List ℕ) → AllGood vs → d + 1 + items_nesting vs ≤ 64 → Stays 64 (outside, d) r → Stays 64 (outside, d + 1) (items_on vs r)
   items_stay none d r h le g = ((omega arith), subst (λ n. Stays 64 (outside, n) r) (closed d) g)
-  items_stay (more v vs) d r h le g = spell_stays v (d + 1) (rest_on vs r) h.0 (omega (arith, max_left (nesting v) (items_nesting vs))) (rest_stays vs d r h.1 (omega (arith, max_right (nesting v) (items_nesting vs))) g)
+  items_stay (more v vs) d r h le g = spell_stays v (d + 1) (rest_on vs r) h.0 (omega (arith, max_left (nesting v) (items_nesting vs)))
+      (rest_stays vs d r h.1 (omega (arith, max_right (nesting v) (items_nesting vs))) g)
 
   -- nor does the text behind one of its items
   pub rest_stays : (vs : Trees) (d : ℕ) (r : List ℕ) → AllGood vs → d + 1 + items_nesting vs ≤ 64 → Stays 64 (outside, d) r → Stays 64 (outside, d + 1) (rest_on vs r)
   rest_stays none d r h le g = ((omega arith), subst (λ n. Stays 64 (outside, n) r) (closed d) g)
-  rest_stays (more v vs) d r h le g = ((omega arith), spell_stays v (d + 1) (rest_on vs r) h.0 (omega (arith, max_left (nesting v) (items_nesting vs))) (rest_stays vs d r h.1 (omega (arith, max_right (nesting v) (items_nesting vs))) g))
+  rest_stays (more v vs) d r h le g = (
+    (omega arith),
+    spell_stays v (d + 1) (rest_on vs r) h.0 (omega (arith, max_left (nesting v) (items_nesting vs))) (rest_stays vs d r h.1 (omega (arith, max_right (nesting v) (items_nesting vs))) g),
+  )
 
   -- nor does the text of a map's members, one level deeper behind the opening brace
   pub members_stay : (ps : Pairs) (d : ℕ) (r : List ℕ) → AllGoodPairs ps → d + 1 + pairs_nesting ps ≤ 64 → Stays 64 (outside, d) r → Stays 64 (outside, d + 1) (members_on ps r)
   members_stay no_pairs d r h le g = ((omega arith), subst (λ n. Stays 64 (outside, n) r) (closed d) g)
   members_stay (pair k v ps) d r h le g =
-      let w : Stays 64 (outside, d + 1) (58 ∷ tree_on v (more_on ps r)) =
-      ((omega arith), spell_stays v (d + 1) (more_on ps r) h.1 (omega (arith, max_left (nesting v) (pairs_nesting ps))) (more_stays ps d r h.2 (omega (arith, max_right (nesting v) (pairs_nesting ps))) g)) in
+      let w : Stays 64 (outside, d + 1) (58 ∷ tree_on v (more_on ps r)) = (
+        (omega arith),
+        spell_stays v (d + 1) (more_on ps r) h.1 (omega (arith, max_left (nesting v) (pairs_nesting ps))) (more_stays ps d r h.2 (omega (arith, max_right (nesting v) (pairs_nesting ps))) g),
+      ) in
       ((omega arith), text_stays 64 (d + 1) k (58 ∷ tree_on v (more_on ps r)) (omega arith) w)
 
   -- nor does the text behind one of its members
   pub more_stays : (ps : Pairs) (d : ℕ) (r : List ℕ) → AllGoodPairs ps → d + 1 + pairs_nesting ps ≤ 64 → Stays 64 (outside, d) r → Stays 64 (outside, d + 1) (more_on ps r)
   more_stays no_pairs d r h le g = ((omega arith), subst (λ n. Stays 64 (outside, n) r) (closed d) g)
   more_stays (pair k v ps) d r h le g =
-      let w : Stays 64 (outside, d + 1) (58 ∷ tree_on v (more_on ps r)) =
-      ((omega arith), spell_stays v (d + 1) (more_on ps r) h.1 (omega (arith, max_left (nesting v) (pairs_nesting ps))) (more_stays ps d r h.2 (omega (arith, max_right (nesting v) (pairs_nesting ps))) g)) in
+      let w : Stays 64 (outside, d + 1) (58 ∷ tree_on v (more_on ps r)) = (
+        (omega arith),
+        spell_stays v (d + 1) (more_on ps r) h.1 (omega (arith, max_left (nesting v) (pairs_nesting ps))) (more_stays ps d r h.2 (omega (arith, max_right (nesting v) (pairs_nesting ps))) g),
+      ) in
       ((omega arith), ((omega arith), text_stays 64 (d + 1) k (58 ∷ tree_on v (more_on ps r)) (omega arith) w))

@@ -3,8 +3,10 @@ use Rattle.std.proofs.Common.{◌≡◌, ℕ, List, [], ◌∷◌, true, false, 
 use Rattle.std.specs.Str.{IsUtf8}
 use Rattle.ml_json.specs.Tree.{Tree, null, flag, num, str, list, map, Trees, none, more, Pairs, no_pairs, pair, put_all}
 use Rattle.ml_ratio.specs.JsonNumber.{IsNumber}
-use Rattle.ml_json.specs.Grammar.{no_blank, Value, a_null, a_true, a_false, a_number, a_string, empty_list, a_list, empty_map, a_map, items, Rest, close, comma, members, MoreMembers, close_map, comma_map, document, Reads, unmarked}
-use Rattle.ml_json.specs.Canonical.{string_on, tree_on, items_on, rest_on, members_on, more_on, IsOrderly, AllOrderly, AllPairsOrderly, HasNumbers, AllHaveNumbers, AllPairsHaveNumbers, settled, items_settled, members_settled, HasUtf8, AllHaveUtf8, AllPairsHaveUtf8}
+use Rattle.ml_json.specs.Grammar.{no_blank, Value, a_null, a_true, a_false, a_number, a_string, empty_list, a_list, empty_map, a_map}
+use Rattle.ml_json.specs.Grammar.{items, Rest, close, comma, members, MoreMembers, close_map, comma_map, document, Reads, unmarked}
+use Rattle.ml_json.specs.Canonical.{string_on, tree_on, items_on, rest_on, members_on, more_on, IsOrderly, AllOrderly, AllPairsOrderly, HasNumbers}
+use Rattle.ml_json.specs.Canonical.{AllHaveNumbers, AllPairsHaveNumbers, settled, items_settled, members_settled, HasUtf8, AllHaveUtf8, AllPairsHaveUtf8}
 use Rattle.ml_json.proofs.CanonicalStrings.{string_reads}
 use Rattle.ml_json.proofs.SortedPairs.{ascending_stays}
 

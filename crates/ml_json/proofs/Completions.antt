@@ -129,7 +129,8 @@ unfolding run reach
 run_append [] q m st = refl
 run_append (b ∷ p) q m st = goes_reaches p q (step m st b) (run_append p q)
 
-reaches_append : (p q : List ℕ) (o : Option State) → ((m : Mode) (st : List Frame) → reach (p ++ q) m st ≡ reaches (reach q) (reach p m st)) → reaches (reach (p ++ q)) o ≡ reaches (reach q) (reaches (reach p) o)
+reaches_append : (p q : List ℕ) (o : Option State) → ((m : Mode) (st : List Frame) → reach (p ++ q) m st ≡ reaches (reach q) (reach p m st)) →
+    reaches (reach (p ++ q)) o ≡ reaches (reach q) (reaches (reach p) o)
 reaches_append p q None h = refl
 reaches_append p q (Some x) h = h x.0 x.1
 

@@ -1,5 +1,6 @@
 -- Digits read up to a cut, and a bound on the number.
-use Rattle.std.proofs.Common.{◌≡◌, ℕ, zero, suc, ◌+◌, ◌-◌, ◌*◌, ◌^◌, ◌<◌, ◌≤◌, List, [], ◌∷◌, ◌++◌, length, take, drop, get_or, min, true, false, refl, sym, ◌∙◌, ap, arith, add-one, inl, inr, append-nil, append_assoc}
+use Rattle.std.proofs.Common.{◌≡◌, ℕ, zero, suc, ◌+◌, ◌-◌, ◌*◌, ◌^◌, ◌<◌, ◌≤◌, List, [], ◌∷◌, ◌++◌, length, take, drop, get_or}
+use Rattle.std.proofs.Common.{min, true, false, refl, sym, ◌∙◌, ap, arith, add-one, inl, inr, append-nil, append_assoc}
 use Rattle.std.proofs.Math.Nat.{min-eq_left, min-eq_right, pow-suc, one-le-pow, mul-le-mul_left, mul-le-mul_right}
 use Rattle.std.proofs.Math.Seq.{drop-cons}
 use Rattle.std.proofs.lemmas.List.{take_more}
@@ -17,7 +18,8 @@ take_next : (text : List ℕ) (at : ℕ) (rest : List ℕ) → at < length text 
 take_next text at rest h = sym (append_assoc (take at text) (get_or text at 0 ∷ []) rest) ∙ ap (λ x. x ++ rest) (sym (take_more text at 0 h))
 
 -- no mark here
-pub before_more : (x y : ℕ) (text : List ℕ) (at : ℕ) → at < length text → is_either x y (get_or text at 0) ≡ false → take at text ++ before x y (drop at text) ≡ take (at + 1) text ++ before x y (drop (at + 1) text)
+pub before_more : (x y : ℕ) (text : List ℕ) (at : ℕ) → at < length text → is_either x y (get_or text at 0) ≡ false →
+    take at text ++ before x y (drop at text) ≡ take (at + 1) text ++ before x y (drop (at + 1) text)
 before_more x y text at h e = ap (λ s. take at text ++ before x y s) (next_byte text at h) ∙ rw e (take_next text at (before x y (drop (at + 1) text)) h)
 
 -- where the byte is no mark, what stands behind the mark is looked for from the next byte on
@@ -49,8 +51,9 @@ pub capped_more : (n v m : ℕ) (ds : List ℕ) → min (digits_value_after 10 (
 capped_more n v m ds = capped_first (min (10 * n + v) m) (n * 10 + v) m ds (omega arith)
 
 -- a byte that is a digit, and one that is none
-pub digit_next : (n left most : ℕ) (text : List ℕ) (at : ℕ) → at < length text → 0 < left → is_digit (get_or text at 0) ≡ true
-    → min (digits_value_after 10 n (take left (digits_in (drop at text)))) most ≡ min (digits_value_after 10 (min (10 * n + (get_or text at 0 - 48)) most) (take (left - 1) (digits_in (drop (at + 1) text)))) most
+pub digit_next : (n left most : ℕ) (text : List ℕ) (at : ℕ) → at < length text → 0 < left →
+    is_digit (get_or text at 0) ≡ true → min (digits_value_after 10 n (take left (digits_in (drop at text)))) most
+    ≡ min (digits_value_after 10 (min (10 * n + (get_or text at 0 - 48)) most) (take (left - 1) (digits_in (drop (at + 1) text)))) most
 digit_next n zero most text at h l e = absurd (omega arith)
 digit_next n (suc left) most text at h l e =
     let one : suc left - 1 ≡ left = omega arith in

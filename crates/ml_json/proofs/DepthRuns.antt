@@ -117,7 +117,8 @@ colon_sees : (ps : Pairs) (k : List ℕ) (st : List Frame) (b : ℕ) → Sees ou
 unfolding place_of open_of
 colon_sees ps k st b =
     by_cases (Sees outside (length st + 1) b) (is_space b) _ _ (λ e. calm_space (length st + 1) b e)
-    (λ _. at_byte (Sees outside (length st + 1) b) (λ x. see outside (length st + 1) x ≡ (outside, suc (length st))) b 58 _ _ (λ to. to (let e : length st + 1 ≡ suc (length st) = omega arith in ap (λ n. (outside, n)) e)) (λ _. tt))
+    (λ _. at_byte (Sees outside (length st + 1) b) (λ x. see outside (length st + 1) x ≡ (outside, suc (length st))) b 58 _ _
+    (λ to. to (let e : length st + 1 ≡ suc (length st) = omega arith in ap (λ n. (outside, n)) e)) (λ _. tt))
 
 -- strings
 ended_sees : (purpose : Purpose) (s : List ℕ) (st : List Frame) → see inside (with_key purpose (length st)) 34 ≡ (place_of (m.ended purpose s), open_of (m.ended purpose s) st)
@@ -125,7 +126,8 @@ unfolding place_of open_of
 ended_sees m.as_value s st = refl
 ended_sees (m.as_key ps) s st = refl
 
-lead_sees : (purpose : Purpose) (p : Option ℕ) (c : List ℕ) (st : List Frame) (b : ℕ) (o : Option Tail) → (b == 34) ≡ false → (b == 92) ≡ false → Sees inside (with_key purpose (length st)) b (m.lead_step purpose p c st b o)
+lead_sees : (purpose : Purpose) (p : Option ℕ) (c : List ℕ) (st : List Frame) (b : ℕ) (o : Option Tail) →
+    (b == 34) ≡ false → (b == 92) ≡ false → Sees inside (with_key purpose (length st)) b (m.lead_step purpose p c st b o)
 unfolding place_of open_of
 lead_sees purpose p c st b None h k = tt
 lead_sees purpose p c st b (Some t) h k = still _ b h k
@@ -154,7 +156,8 @@ one_of_sees : (w : Where) (d b : ℕ) (c : Bool) (M N : Mode) (st : List Frame) 
 one_of_sees w d b true M N st h k = h
 one_of_sees w d b false M N st h k = k
 
-unit_sees : (purpose : Purpose) (p : Option ℕ) (c : List ℕ) (u : ℕ) (st : List Frame) (b : ℕ) → see inside (with_key purpose (length st)) b ≡ (inside, with_key purpose (length st)) → Sees inside (with_key purpose (length st)) b (Some (m.add_unit purpose p c u, st))
+unit_sees : (purpose : Purpose) (p : Option ℕ) (c : List ℕ) (u : ℕ) (st : List Frame) (b : ℕ) →
+    see inside (with_key purpose (length st)) b ≡ (inside, with_key purpose (length st)) → Sees inside (with_key purpose (length st)) b (Some (m.add_unit purpose p c u, st))
 unfolding place_of open_of
 unit_sees purpose None c u st b h = one_of_sees inside _ b (is_high u) _ _ st h h
 unit_sees purpose (Some x) c u st b h = one_of_sees inside _ b (is_high u) _ _ st h (one_of_sees inside _ b (is_low u) _ _ st h h)
@@ -165,7 +168,8 @@ hex_quote b d h = grind (arith, nat_tests)
 hex_slash : (b d : ℕ) → hex_digit b ≡ Some d → (b == 92) ≡ false
 hex_slash b d h = grind (arith, nat_tests)
 
-hex_sees : (purpose : Purpose) (p : Option ℕ) (c : List ℕ) (n a : ℕ) (st : List Frame) (b : ℕ) (o : Option ℕ) → hex_digit b ≡ o → Sees inside (with_key purpose (length st)) b (m.hex_step purpose p c n a st o)
+hex_sees : (purpose : Purpose) (p : Option ℕ) (c : List ℕ) (n a : ℕ) (st : List Frame) (b : ℕ) (o : Option ℕ) →
+    hex_digit b ≡ o → Sees inside (with_key purpose (length st)) b (m.hex_step purpose p c n a st o)
 unfolding place_of open_of
 hex_sees purpose p c n a st b None h = tt
 hex_sees purpose p c zero a st b (Some d) h = unit_sees purpose p c (16 * a + d) st b (still _ b (hex_quote b d h) (hex_slash b d h))
@@ -185,14 +189,17 @@ low_large after_f4 = omega arith
 pub large_still : (d b n k : ℕ) → 128 ≤ n → is_between n k b ≡ true → see inside d b ≡ (inside, d)
 large_still d b n k h e = still d b (grind (arith, nat_tests)) (grind (arith, nat_tests))
 
-bytes_to_sees : (purpose : Purpose) (p : Option ℕ) (c : List ℕ) (o : Option Tail) (got : List ℕ) (st : List Frame) (b : ℕ) → see inside (with_key purpose (length st)) b ≡ (inside, with_key purpose (length st)) → Sees inside (with_key purpose (length st)) b (Some (m.bytes_to purpose p c o got, st))
+bytes_to_sees : (purpose : Purpose) (p : Option ℕ) (c : List ℕ) (o : Option Tail) (got : List ℕ) (st : List Frame) (b : ℕ) →
+    see inside (with_key purpose (length st)) b ≡ (inside, with_key purpose (length st)) →
+    Sees inside (with_key purpose (length st)) b (Some (m.bytes_to purpose p c o got, st))
 unfolding place_of open_of
 bytes_to_sees purpose p c None got st b h = h
 bytes_to_sees purpose p c (Some t) got st b h = h
 
 bytes_sees : (purpose : Purpose) (p : Option ℕ) (c : List ℕ) (t : Tail) (got : List ℕ) (st : List Frame) (b : ℕ) → Sees inside (with_key purpose (length st)) b (m.bytes_step purpose p c t got st b)
 bytes_sees purpose p c t got st b =
-    by_cases (Sees inside (with_key purpose (length st)) b) (is_between (low t) (high t) b) _ _ (λ e. bytes_to_sees purpose p c (later t) _ st b (large_still _ b (low t) (high t) (low_large t) e)) (λ _. tt)
+    by_cases (Sees inside (with_key purpose (length st)) b) (is_between (low t) (high t) b) _ _
+    (λ e. bytes_to_sees purpose p c (later t) _ st b (large_still _ b (low t) (high t) (low_large t) e)) (λ _. tt)
 
 -- numbers and words
 abbrev Calm : ℕ → ℕ → Option Part → Type 0
@@ -202,7 +209,8 @@ Calm d b (Some q) = see outside d b ≡ (outside, d)
 go_calm : (part : Part) (d b : ℕ) → Calm d b (go_on part b)
 go_calm m.minus d b = by_cases (Calm d b) (b == 48) _ _ (λ e. calm_digit d b (grind (arith, nat_tests))) (λ _. by_cases (Calm d b) (is_between 49 57 b) _ _ (λ e. calm_first d b e) (λ _. tt))
 go_calm m.nought d b = at_byte (Calm d b) (λ x. see outside d x ≡ (outside, d)) b 46 _ _ (λ to. to refl) (λ _. by_cases (Calm d b) (is_letter b) _ _ (λ e. calm_letter d b e) (λ _. tt))
-go_calm m.whole d b = by_cases (Calm d b) (is_digit b) _ _ (λ e. calm_digit d b e) (λ _. at_byte (Calm d b) (λ x. see outside d x ≡ (outside, d)) b 46 _ _ (λ to. to refl) (λ _. by_cases (Calm d b) (is_letter b) _ _ (λ e. calm_letter d b e) (λ _. tt)))
+go_calm m.whole d b = by_cases (Calm d b) (is_digit b) _ _ (λ e. calm_digit d b e)
+    (λ _. at_byte (Calm d b) (λ x. see outside d x ≡ (outside, d)) b 46 _ _ (λ to. to refl) (λ _. by_cases (Calm d b) (is_letter b) _ _ (λ e. calm_letter d b e) (λ _. tt)))
 go_calm m.dot d b = by_cases (Calm d b) (is_digit b) _ _ (λ e. calm_digit d b e) (λ _. tt)
 go_calm m.digits d b = by_cases (Calm d b) (is_digit b) _ _ (λ e. calm_digit d b e) (λ _. by_cases (Calm d b) (is_letter b) _ _ (λ e. calm_letter d b e) (λ _. tt))
 go_calm m.letter d b = by_cases (Calm d b) (is_digit b) _ _ (λ e. calm_digit d b e) (λ _. by_cases (Calm d b) (is_sign b) _ _ (λ e. calm_sign d b e) (λ _. tt))
@@ -257,12 +265,14 @@ abbrev Saw : Mode → List Frame → List ℕ → Option State → Type 0
 Saw m st bs None = Unit {0}
 Saw m st bs (Some x) = seen (place_of m, open_of m st) bs ≡ (place_of x.0, open_of x.0 x.1)
 
-saw_on : (m : Mode) (st : List Frame) (b : ℕ) (bs : List ℕ) (x : State) → see (place_of m) (open_of m st) b ≡ (place_of x.0, open_of x.0 x.1) → (o : Option State) → Saw x.0 x.1 bs o → Saw m st (b ∷ bs) o
+saw_on : (m : Mode) (st : List Frame) (b : ℕ) (bs : List ℕ) (x : State) →
+    see (place_of m) (open_of m st) b ≡ (place_of x.0, open_of x.0 x.1) → (o : Option State) → Saw x.0 x.1 bs o → Saw m st (b ∷ bs) o
 unfolding seen
 saw_on m st b bs x h None k = tt
 saw_on m st b bs x h (Some y) k = ap (λ z. seen z bs) h ∙ k
 
-saw_step : (m : Mode) (st : List Frame) (b : ℕ) (bs : List ℕ) (o : Option State) → Sees (place_of m) (open_of m st) b o → ((n : Mode) (su : List Frame) → Saw n su bs (reach bs n su)) → Saw m st (b ∷ bs) (reaches (reach bs) o)
+saw_step : (m : Mode) (st : List Frame) (b : ℕ) (bs : List ℕ) (o : Option State) → Sees (place_of m) (open_of m st) b o →
+    ((n : Mode) (su : List Frame) → Saw n su bs (reach bs n su)) → Saw m st (b ∷ bs) (reaches (reach bs) o)
 unfolding seen
 saw_step m st b bs None h k = tt
 saw_step m st b bs (Some x) h k = saw_on m st b bs x h (reach bs x.0 x.1) (k x.0 x.1)

@@ -33,7 +33,8 @@ three_bytes c h k s =
         | inr x ↦ elim (scalar_cases c s) [
           | inl below ↦ (let q : 224 + c / 4096 ≡ 237 = omega arith in let hi : is_between 128 159 (128 + c / 64 % 64) ≡ true = grind (arith, nat_tests) in
               (224 + c / 4096, (128 + c / 64 % 64) ∷ (128 + c % 64) ∷ [], after_ed, rw (e, f, g) refl, rw q refl, next hi (next z end)))
-          | inr above ↦ (let l : lead (224 + c / 4096) ≡ Some two = grind (arith, nat_tests) in (224 + c / 4096, (128 + c / 64 % 64) ∷ (128 + c % 64) ∷ [], two, rw (e, f, g) refl, l, next y (next z end)))
+          | inr above ↦ (let l : lead (224 + c / 4096) ≡ Some two = grind (arith, nat_tests) in
+              (224 + c / 4096, (128 + c / 64 % 64) ∷ (128 + c % 64) ∷ [], two, rw (e, f, g) refl, l, next y (next z end)))
         ]
       ]
     ]

@@ -17,7 +17,8 @@ use Rattle.ml_json.proofs.ReadWritable.{text_writable}
 shorter : (bytes : List ℕ) (n k : ℕ) → n ≤ k → IsPrefix (take k bytes) → IsPrefix (take n bytes)
 shorter bytes n k h (rest, good) =
     let e : take n bytes ++ (drop n (take k bytes) ++ rest) ≡ take k bytes ++ rest =
-    sym (append_assoc (take n bytes) (drop n (take k bytes)) rest) ∙ ap (λ x. (x ++ drop n (take k bytes)) ++ rest) (sym (take-take n k bytes h)) ∙ ap (λ x. x ++ rest) (take-append-drop n (take k bytes)) in
+    sym (append_assoc (take n bytes) (drop n (take k bytes)) rest) ∙ ap (λ x. (x ++ drop n (take k bytes)) ++ rest) (sym (take-take n k bytes h))
+    ∙ ap (λ x. x ++ rest) (take-append-drop n (take k bytes)) in
     (drop n (take k bytes) ++ rest, subst IsGood (sym e) good)
 
 -- each front of a good text begins one

@@ -1,5 +1,6 @@
 -- The machine over whole tokens.
-use Rattle.std.proofs.Common.{◌≡◌, ℕ, zero, suc, ◌+◌, ◌-◌, ◌<◌, ◌≤◌, ◌⊎◌, inl, inr, List, [], ◌∷◌, ◌++◌, length, take, drop, get_or, Bool, true, false, cond, ◌==◌, Option, Some, None, refl, sym, ◌∙◌, ap, subst, arith, append_assoc, append-nil, length-append}
+use Rattle.std.proofs.Common.{◌≡◌, ℕ, zero, suc, ◌+◌, ◌-◌, ◌<◌, ◌≤◌, ◌⊎◌, inl, inr, List, [], ◌∷◌, ◌++◌, length, take, drop, get_or, Bool, true}
+use Rattle.std.proofs.Common.{false, cond, ◌==◌, Option, Some, None, refl, sym, ◌∙◌, ap, subst, arith, append_assoc, append-nil, length-append}
 use Rattle.std.proofs.lemmas.Bool.Decides.{nat_tests}
 use Rattle.std.specs.Str.{IsAscii}
 use Rattle.std.proofs.lemmas.List.{take_at, take_rest}
@@ -9,7 +10,8 @@ use Rattle.ml_json.specs.Grammar.{is_space}
 use Rattle.ml_json.specs.Strings.{is_plain}
 use Rattle.ml_json.specs.Machine as m
 use Rattle.ml_json.specs.Machine.{Mode, Frame, State, Part, Purpose, step, open_of, with_key, go_on, may_end}
-use Rattle.ml_json.specs.Leaps.{skip_space, plain_front, behind_plain, Cut, closed, plain_string, before_colon, named, plain_key, first_part, number_front, behind_number, last_part, front_on, rest_on, part_on, number_from, plain_number, Passes, here, on}
+use Rattle.ml_json.specs.Leaps.{skip_space, plain_front, behind_plain, Cut, closed, plain_string, before_colon, named, plain_key, first_part}
+use Rattle.ml_json.specs.Leaps.{number_front, behind_number, last_part, front_on, rest_on, part_on, number_from, plain_number, Passes, here, on}
 use Rattle.ml_json.proofs.RunsRead.{by_cases, at_byte}
 use Rattle.ml_json.proofs.TokenRuns.{first_digit, space_value}
 use Rattle.ml_json.proofs.StringRuns.{text_plain}
@@ -55,7 +57,8 @@ unfolding open_of
 plain_passes purpose st le [] c = subst (λ x. Passes (m.text purpose None c, st) [] (m.text purpose None x, st) []) (sym (append-nil c)) here
 plain_passes purpose st le (b ∷ s) c =
     by_test (λ t. Passes (m.text purpose None c, st) (b ∷ s) (m.text purpose None (c ++ cond t (b ∷ plain_front s) []), st) (cond t (behind_plain s) (b ∷ s))) (is_plain b)
-    (λ e. on (text_more purpose c st b e) le (subst (λ x. Passes (m.text purpose None (c ++ b ∷ []), st) s (m.text purpose None x, st) (behind_plain s)) (append_assoc c (b ∷ []) (plain_front s)) (plain_passes purpose st le s (c ++ b ∷ []))))
+    (λ e. on (text_more purpose c st b e) le (subst (λ x. Passes (m.text purpose None (c ++ b ∷ []), st) s (m.text purpose None x, st) (behind_plain s))
+    (append_assoc c (b ∷ []) (plain_front s)) (plain_passes purpose st le s (c ++ b ∷ []))))
     (λ e. subst (λ x. Passes (m.text purpose None c, st) (b ∷ s) (m.text purpose None x, st) (b ∷ s)) (sym (append-nil c)) here)
 
 -- where there is a token, what it leads to
@@ -105,7 +108,8 @@ key_ways n ps st h lt (b ∷ s) =
     (λ to. to (if_weaker _ _ (λ q r p. on h (omega arith) (passes_then (plain_passes (m.as_key ps) st (omega arith) s []) p))
     (named (plain_front s) (behind_plain s)) (named_passes ps st (plain_front s) lt (behind_plain s)))) (λ _. tt)
 
-key_passes : (n : Mode) (ps : Pairs) (st : List Frame) → step n st 34 ≡ Some (m.text (m.as_key ps) None [], st) → length st < 64 → (s k r : List ℕ) → plain_key s ≡ Some (k, r) → Passes (n, st) s (m.value, m.at_key ps k ∷ st) r
+key_passes : (n : Mode) (ps : Pairs) (st : List Frame) → step n st 34 ≡ Some (m.text (m.as_key ps) None [], st) →
+    length st < 64 → (s k r : List ℕ) → plain_key s ≡ Some (k, r) → Passes (n, st) s (m.value, m.at_key ps k ∷ st) r
 key_passes n ps st h lt s k r e = if_cut (λ q r. Passes (n, st) s (m.value, m.at_key ps q ∷ st) r) (plain_key s) k r e (key_ways n ps st h lt s)
 
 -- a string behind its opening quote
@@ -162,7 +166,8 @@ unfolding step
 after_closes v st b y s = s
 
 -- the machine goes over a plain string and over the byte behind it, to the state that this byte leads to
-pub string_leaps : (st : List Frame) → length st ≤ 64 → (s k : List ℕ) (b : ℕ) (t : List ℕ) (y : State) → plain_string s ≡ Some (k, b ∷ t) → m.after_step (str k) st b ≡ Some y → open_of y.0 y.1 ≤ 64 → Passes (m.value, st) (34 ∷ s) y t
+pub string_leaps : (st : List Frame) → length st ≤ 64 → (s k : List ℕ) (b : ℕ) (t : List ℕ) (y : State) →
+    plain_string s ≡ Some (k, b ∷ t) → m.after_step (str k) st b ≡ Some y → open_of y.0 y.1 ≤ 64 → Passes (m.value, st) (34 ∷ s) y t
 string_leaps st le s k b t y e h hy = passes_then (string_passes st le s k (b ∷ t) e) (on (after_closes (str k) st b y h) hy here)
 
 -- what a number's first byte makes
@@ -202,22 +207,26 @@ first_item st b =
 abbrev NumberLeaps : State → List Frame → List ℕ → List ℕ → List ℕ → Type 0
 NumberLeaps x st s k r = (b : ℕ) (t : List ℕ) (y : State) → r ≡ b ∷ t → m.after_step (num k) st b ≡ Some y → open_of y.0 y.1 ≤ 64 → Passes x s y t
 
-from_part : (x : State) (st : List Frame) → length st ≤ 64 → (a : ℕ) (s : List ℕ) (part : Part) → step x.0 x.1 a ≡ Some (m.number part (a ∷ []), st) → IfCut (NumberLeaps x st (a ∷ s)) (number_from a s (Some part))
+from_part : (x : State) (st : List Frame) → length st ≤ 64 → (a : ℕ) (s : List ℕ) (part : Part) →
+    step x.0 x.1 a ≡ Some (m.number part (a ∷ []), st) → IfCut (NumberLeaps x st (a ∷ s)) (number_from a s (Some part))
 unfolding open_of
 from_part x st le a s part h =
     by_cases (IfCut (NumberLeaps x st (a ∷ s))) (may_end (last_part s part)) _ _
     (λ e b t y r k hy. on h le (passes_then (number_passes st le s part (a ∷ []))
-    (subst (λ u. Passes (m.number (last_part s part) (a ∷ number_front s part), st) u y t) (sym r) (on (number_closes (last_part s part) (a ∷ number_front s part) st b y (number_stops s part b t r) e k) hy here))))
+    (subst (λ u. Passes (m.number (last_part s part) (a ∷ number_front s part), st) u y t) (sym r)
+    (on (number_closes (last_part s part) (a ∷ number_front s part) st b y (number_stops s part b t r) e k) hy here))))
     (λ _. tt)
 
-number_ways : (x : State) (st : List Frame) → length st ≤ 64 → ((a : ℕ) → IfPart (λ part. step x.0 x.1 a ≡ Some (m.number part (a ∷ []), st)) (first_part a)) → (s : List ℕ) → IfCut (NumberLeaps x st s) (plain_number s)
+number_ways : (x : State) (st : List Frame) → length st ≤ 64 → ((a : ℕ) → IfPart (λ part. step x.0 x.1 a ≡ Some (m.number part (a ∷ []), st)) (first_part a)) →
+    (s : List ℕ) → IfCut (NumberLeaps x st s) (plain_number s)
 number_ways x st le begins [] = tt
 number_ways x st le begins (a ∷ s) =
     by_part (λ o. IfPart (λ part. step x.0 x.1 a ≡ Some (m.number part (a ∷ []), st)) o → IfCut (NumberLeaps x st (a ∷ s)) (number_from a s o)) (first_part a)
     (λ _ _. tt) (λ part _ h. from_part x st le a s part h) (begins a)
 
 -- the same of a number and the byte behind it
-pub number_leaps : (st : List Frame) → length st ≤ 64 → (s k : List ℕ) (b : ℕ) (t : List ℕ) (y : State) → plain_number s ≡ Some (k, b ∷ t) → m.after_step (num k) st b ≡ Some y → open_of y.0 y.1 ≤ 64 → Passes (m.value, st) s y t
+pub number_leaps : (st : List Frame) → length st ≤ 64 → (s k : List ℕ) (b : ℕ) (t : List ℕ) (y : State) →
+    plain_number s ≡ Some (k, b ∷ t) → m.after_step (num k) st b ≡ Some y → open_of y.0 y.1 ≤ 64 → Passes (m.value, st) s y t
 number_leaps st le s k b t y e h hy = if_cut (NumberLeaps (m.value, st) st s) (plain_number s) k (b ∷ t) e (number_ways (m.value, st) st le (first_value st) s) b t y refl h hy
 
 item_leaps : (st : List Frame) → length st + 1 ≤ 64 → (s k t : List ℕ) → plain_number s ≡ Some (k, 44 ∷ t) → Passes (m.first, st) s (m.value, m.in_list (more (num k) none) ∷ st) t
@@ -228,7 +237,8 @@ item_leaps st le s k t e =
     if_cut (NumberLeaps (m.first, st) su s) (plain_number s) k (44 ∷ t) e (number_ways (m.first, st) su deep (first_item st) s) 44 t (m.value, m.in_list (more (num k) none) ∷ st) refl refl deep
 
 -- a list's first number with the comma behind it
-pub first_leaps : (n : Mode) (st su : List Frame) → n ≡ m.first → open_of n st ≤ 64 → (s k t : List ℕ) → plain_number s ≡ Some (k, 44 ∷ t) → su ≡ m.in_list (more (num k) none) ∷ st → Passes (n, st) s (m.value, su) t
+pub first_leaps : (n : Mode) (st su : List Frame) → n ≡ m.first → open_of n st ≤ 64 → (s k t : List ℕ) →
+    plain_number s ≡ Some (k, 44 ∷ t) → su ≡ m.in_list (more (num k) none) ∷ st → Passes (n, st) s (m.value, su) t
 unfolding open_of
 first_leaps n st su e le s k t cut u =
     subst (λ o. Passes (o, st) s (m.value, su) t) (sym e) (subst (λ sv. Passes (m.first, st) s (m.value, sv) t) (sym u) (item_leaps st (subst (λ o. open_of o st ≤ 64) e le) s k t cut))
@@ -276,7 +286,8 @@ number_is_ascii (b ∷ s) part =
 first_ascii : (a : ℕ) → IfPart (λ _. a < 128) (first_part a)
 first_ascii a =
     let P : Option Part → Type 0 = IfPart (λ _. a < 128) in
-    at_byte P (λ x. x < 128) a 45 _ _ (λ to. to (omega arith)) (λ _. at_byte P (λ x. x < 128) a 48 _ _ (λ to. to (omega arith)) (λ _. by_cases P (is_between 49 57 a) _ _ (λ e. grind (arith, nat_tests)) (λ _. tt)))
+    at_byte P (λ x. x < 128) a 45 _ _ (λ to. to (omega arith))
+    (λ _. at_byte P (λ x. x < 128) a 48 _ _ (λ to. to (omega arith)) (λ _. by_cases P (is_between 49 57 a) _ _ (λ e. grind (arith, nat_tests)) (λ _. tt)))
 
 -- the bytes of a number are ASCII, its first one included
 pub number_text_ascii : (a : ℕ) (s : List ℕ) (part : Part) → first_part a ≡ Some part → IsAscii (a ∷ number_front s part)

@@ -33,7 +33,8 @@ one_step b (Some x) = then_none (step x.0 x.1 b)
 
 next_leads : (bytes : List ℕ) (at : ℕ) (x : State) → at < length bytes → reach (take at bytes) m.begin [] ≡ Some x → reach (take (at + 1) bytes) m.begin [] ≡ step x.0 x.1 (get_or bytes at 0)
 next_leads bytes at x h e =
-    ap (λ p. reach p m.begin []) (take_more bytes at 0 h) ∙ reach_append (take at bytes) (get_or bytes at 0 ∷ []) m.begin [] ∙ ap (reaches (reach (get_or bytes at 0 ∷ []))) e ∙ one_step (get_or bytes at 0) (Some x)
+    ap (λ p. reach p m.begin []) (take_more bytes at 0 h) ∙ reach_append (take at bytes) (get_or bytes at 0 ∷ []) m.begin []
+    ∙ ap (reaches (reach (get_or bytes at 0 ∷ []))) e ∙ one_step (get_or bytes at 0) (Some x)
 
 shallow_more : (bytes : List ℕ) (at : ℕ) → IsShallow bytes at → depth (take (at + 1) bytes) ≤ 64 → IsShallow bytes (at + 1)
 shallow_more bytes at h d k le = elim (cases_lt k (at + 1)) [ inl less ↦ h k (omega arith) | inr more ↦ (let e : at + 1 ≡ k = omega arith in subst (λ n. depth (take n bytes) ≤ 64) e d) ]
@@ -152,7 +153,8 @@ stops_ahead bytes rest b next x e s h =
     subst (IsNotJson bytes) (stands_at bytes rest x s).1 (stops_here bytes s.at x a.within s.reached (ap (step x.0 x.1) a.byte ∙ h))
 
 -- where the first byte of the rest opens a 65th list or map, the bytes are too deep at that place
-pub deep_ahead : (bytes rest : List ℕ) (b : ℕ) (next : List ℕ) (x y : State) → rest ≡ b ∷ next → Stands bytes rest x → step x.0 x.1 b ≡ Some y → open_of y.0 y.1 ≡ 65 → IsDeep bytes (length bytes - length rest)
+pub deep_ahead : (bytes rest : List ℕ) (b : ℕ) (next : List ℕ) (x y : State) → rest ≡ b ∷ next →
+    Stands bytes rest x → step x.0 x.1 b ≡ Some y → open_of y.0 y.1 ≡ 65 → IsDeep bytes (length bytes - length rest)
 deep_ahead bytes rest b next x y e s h d =
     let a = ahead bytes s.at b next (s.left ∙ e) in
     subst (IsDeep bytes) (stands_at bytes rest x s).1 (too_deep bytes s.at x y a.within s.reached (ap (step x.0 x.1) a.byte ∙ h) d)

@@ -13,9 +13,10 @@ use Rattle.ml_json.specs.declared.lent.Lent.{Lent}
 use Rattle.ml_json.specs.declared.lent.LentPair.{LentPair, out-LentPair, roll-LentPair, fold_out-LentPair, fold-roll-LentPair}
 
 -- the entries of one comparison
-placed : (k : List ℕ) (v : Lent) (l : List ℕ) (w : Lent) (es : List (List ℕ × Lent)) (o : Ordering) → slice_cmp nat_cmp k l ≡ o → entries_view (insert_entry (slice_cmp nat_cmp) es k v) ≡ put k (lent_of v) (entries_view es)
-    → entries_view (match_ordering o ((k, v) ∷ (l, w) ∷ es) ((l, v) ∷ es) ((l, w) ∷ insert_entry (slice_cmp nat_cmp) es k v))
-    ≡ match_ordering o (pair k (lent_of v) (pair l (lent_of w) (entries_view es))) (pair k (lent_of v) (entries_view es)) (pair l (lent_of w) (put k (lent_of v) (entries_view es)))
+placed : (k : List ℕ) (v : Lent) (l : List ℕ) (w : Lent) (es : List (List ℕ × Lent)) (o : Ordering) →
+    slice_cmp nat_cmp k l ≡ o → entries_view (insert_entry (slice_cmp nat_cmp) es k v) ≡ put k (lent_of v) (entries_view es) →
+    entries_view (match_ordering o ((k, v) ∷ (l, w) ∷ es) ((l, v) ∷ es) ((l, w) ∷ insert_entry (slice_cmp nat_cmp) es k v)) ≡ match_ordering o
+    (pair k (lent_of v) (pair l (lent_of w) (entries_view es))) (pair k (lent_of v) (entries_view es)) (pair l (lent_of w) (put k (lent_of v) (entries_view es)))
 placed k v l w es Less e h = refl
 placed k v l w es Equal e h = ap (λ x. pair x (lent_of v) (entries_view es)) (sym (exact_bytes k l e))
 placed k v l w es Greater e h = ap (pair l (lent_of w)) h

@@ -8,7 +8,8 @@ use Rattle.std.specs.Cmp.Lexicographic.{slice_cmp}
 use Rattle.ml_json.specs.Tree.{Tree, Trees, Pairs, no_pairs, pair, put, put_all}
 use Rattle.ml_json.specs.Characters.{Tail, lead, low, high, Follows, end, next}
 use Rattle.ml_json.specs.Strings.{Piece, Written, quote, plain, longer, short, code, is_plain, hex_digit, Hex, no_hex, hex}
-use Rattle.ml_json.specs.Grammar.{Blank, no_blank, blank, Value, a_null, a_true, a_false, a_number, a_string, empty_list, a_list, empty_map, a_map, Items, items, Rest, close, comma, Members, members, MoreMembers, close_map, comma_map, Document, document, Reads, unmarked, marked}
+use Rattle.ml_json.specs.Grammar.{Blank, no_blank, blank, Value, a_null, a_true, a_false, a_number, a_string, empty_list, a_list, empty_map, a_map, Items, items}
+use Rattle.ml_json.specs.Grammar.{Rest, close, comma, Members, members, MoreMembers, close_map, comma_map, Document, document, Reads, unmarked, marked}
 use Rattle.ml_json.specs.Depth.{outside, inside, Seen, see, seen}
 use Rattle.ml_json.specs.Answer.{IsText}
 use Rattle.ml_json.specs.Canonical.{nesting, items_nesting, pairs_nesting, IsOrderly, AllOrderly, AllPairsOrderly, IsWritable}

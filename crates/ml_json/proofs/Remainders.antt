@@ -91,6 +91,7 @@ Left (m.after v) st bs t = Closes v st bs t
 Left (m.text purpose p c) st bs t = Text purpose p c st bs t
 Left (m.escape purpose p c) st bs t = Text purpose p c st (92 ∷ bs) t
 Left (m.hex purpose p c n a) st bs t = (u : ℕ) × (us : List Piece) × (s : List ℕ) × (r : List ℕ) × Hex (suc n) a u bs s × Written us s r × Ended purpose (c ++ text_of p (unit u ∷ us)) st r t
-Left (m.bytes purpose p c tl got) st bs t = (cs s : List ℕ) × (us : List Piece) × (r : List ℕ) × Follows (Some tl) cs × (bs ≡ cs ++ s) × Written us s r × Ended purpose (c ++ text_of p (char (got ++ cs) ∷ us)) st r t
+Left (m.bytes purpose p c tl got) st bs t = (cs s : List ℕ) × (us : List Piece) × (r : List ℕ) × Follows (Some tl) cs
+    × (bs ≡ cs ++ s) × Written us s r × Ended purpose (c ++ text_of p (char (got ++ cs) ∷ us)) st r t
 Left (m.number part acc) st bs t = (s r : List ℕ) × (bs ≡ s ++ r) × Completes part s × Closes (num (acc ++ s)) st r t
 Left (m.word w) st bs t = (r : List ℕ) × (bs ≡ rest_of w ++ r) × Closes (worth w) st r t

@@ -1,11 +1,14 @@
 -- What the machine reads, the grammar reads.
-use Rattle.std.proofs.Common.{◌≡◌, ℕ, zero, suc, ◌+◌, ◌*◌, inl, inr, List, [], ◌∷◌, ◌++◌, Bool, true, false, cond, nat_lt, ◌==◌, Option, Some, None, refl, sym, ap, subst, arith, append_assoc, append-nil}
+use Rattle.std.proofs.Common.{◌≡◌, ℕ, zero, suc, ◌+◌, ◌*◌, inl, inr, List, [], ◌∷◌, ◌++◌, Bool, true, false, cond}
+use Rattle.std.proofs.Common.{nat_lt, ◌==◌, Option, Some, None, refl, sym, ap, subst, arith, append_assoc, append-nil}
 use Rattle.std.proofs.lemmas.Bool.Decides.{nat_tests}
 use Rattle.std.proofs.lemmas.Bool.{eqb-true}
 use Rattle.ml_json.specs.Tree.{Tree, null, flag, num, str, list, map, Trees, none, more, Pairs, no_pairs, pair, put, put_all}
 use Rattle.ml_json.specs.Machine.{snoc, Mode, Frame, State, Part, Purpose, step, finish, may_end, go_on, is_letter, is_sign}
-use Rattle.ml_json.specs.Grammar.{is_space, no_blank, blank, Value, a_null, a_true, a_false, a_number, a_string, empty_list, a_list, empty_map, a_map, items, close, comma, members, close_map, comma_map, document, Reads, unmarked, marked}
-use Rattle.ml_ratio.specs.JsonNumber.{is_digit, is_between, minus_number, plain_number, Unsigned, Tailed, exponent, no_exponent, signed, unsigned, Signed, fraction, no_fraction, whole, nought, Digits, AllDigits}
+use Rattle.ml_json.specs.Grammar.{is_space, no_blank, blank, Value, a_null, a_true, a_false, a_number, a_string, empty_list, a_list}
+use Rattle.ml_json.specs.Grammar.{empty_map, a_map, items, close, comma, members, close_map, comma_map, document, Reads, unmarked, marked}
+use Rattle.ml_ratio.specs.JsonNumber.{is_digit, is_between, minus_number, plain_number, Unsigned, Tailed, exponent, no_exponent}
+use Rattle.ml_ratio.specs.JsonNumber.{signed, unsigned, Signed, fraction, no_fraction, whole, nought, Digits, AllDigits}
 use Rattle.ml_json.specs.Characters.{Tail, lead, low, high, later, Follows, end, next}
 use Rattle.ml_json.specs.Strings.{escaped, hex_digit, is_high, is_low, replacement, single, both, lone, is_plain, Piece, char, unit, no_hex, hex, Written, quote, plain, longer, short, code, text_of}
 use Rattle.ml_json.specs.Machine as m
@@ -188,13 +191,16 @@ char_text purpose p c st x us r t en = subst (λ y. Ended purpose y st r t) (cha
 is_plain_byte : (b : ℕ) → (b == 34) ≡ false → (b == 92) ≡ false → nat_lt b 32 ≡ false → nat_lt b 128 ≡ true → is_plain b ≡ true
 is_plain_byte b h k l n = grind (arith, nat_tests)
 
-plain_text : (purpose : Purpose) (p : Option ℕ) (c : List ℕ) (st : List Frame) (b : ℕ) (bs : List ℕ) (t : Tree) → is_plain b ≡ true → Text purpose None (m.add_char p c (b ∷ [])) st bs t → Text purpose p c st (b ∷ bs) t
+plain_text : (purpose : Purpose) (p : Option ℕ) (c : List ℕ) (st : List Frame) (b : ℕ) (bs : List ℕ) (t : Tree) →
+    is_plain b ≡ true → Text purpose None (m.add_char p c (b ∷ [])) st bs t → Text purpose p c st (b ∷ bs) t
 plain_text purpose p c st b bs t h (us, r, w, en) = (char (b ∷ []) ∷ us, r, plain h w, char_text purpose p c st (b ∷ []) us r t en)
 
-long_text : (purpose : Purpose) (p : Option ℕ) (c : List ℕ) (st : List Frame) (b : ℕ) (bs : List ℕ) (t : Tree) (tl : Tail) → lead b ≡ Some tl → Left (m.bytes purpose p c tl (b ∷ [])) st bs t → Text purpose p c st (b ∷ bs) t
+long_text : (purpose : Purpose) (p : Option ℕ) (c : List ℕ) (st : List Frame) (b : ℕ) (bs : List ℕ) (t : Tree) (tl : Tail) →
+    lead b ≡ Some tl → Left (m.bytes purpose p c tl (b ∷ [])) st bs t → Text purpose p c st (b ∷ bs) t
 long_text purpose p c st b bs t tl h (cs, s, us, r, fo, e, w, en) = (char (b ∷ cs) ∷ us, r, longer h fo e w, en)
 
-lead_back : (bs : List ℕ) → Back bs → (purpose : Purpose) (p : Option ℕ) (c : List ℕ) (st : List Frame) (b : ℕ) (t : Tree) (o : Option Tail) → lead b ≡ o → Gives bs t (Text purpose p c st (b ∷ bs) t) (m.lead_step purpose p c st b o)
+lead_back : (bs : List ℕ) → Back bs → (purpose : Purpose) (p : Option ℕ) (c : List ℕ) (st : List Frame) (b : ℕ) (t : Tree) (o : Option Tail) →
+    lead b ≡ o → Gives bs t (Text purpose p c st (b ∷ bs) t) (m.lead_step purpose p c st b o)
 lead_back bs f purpose p c st b t None e h = nothing bs t _ h
 lead_back bs f purpose p c st b t (Some tl) e h = long_text purpose p c st b bs t tl e (f _ st t h)
 
@@ -208,17 +214,20 @@ text_back bs f purpose p c st b t =
     (λ j. by_cases P (nat_lt b 128) _ _ (λ k h. plain_text purpose p c st b bs t (is_plain_byte b g i j k) (f _ st t h))
     (λ k. lead_back bs f purpose p c st b t (lead b) refl))))
 
-short_text : (purpose : Purpose) (p : Option ℕ) (c : List ℕ) (st : List Frame) (b x : ℕ) (bs : List ℕ) (t : Tree) → escaped b ≡ Some x → Text purpose None (m.add_char p c (x ∷ [])) st bs t → Text purpose p c st (92 ∷ b ∷ bs) t
+short_text : (purpose : Purpose) (p : Option ℕ) (c : List ℕ) (st : List Frame) (b x : ℕ) (bs : List ℕ) (t : Tree) →
+    escaped b ≡ Some x → Text purpose None (m.add_char p c (x ∷ [])) st bs t → Text purpose p c st (92 ∷ b ∷ bs) t
 short_text purpose p c st b x bs t h (us, r, w, en) = (char (x ∷ []) ∷ us, r, short h w, char_text purpose p c st (x ∷ []) us r t en)
 
-short_back : (bs : List ℕ) → Back bs → (purpose : Purpose) (p : Option ℕ) (c : List ℕ) (st : List Frame) (b : ℕ) (t : Tree) (o : Option ℕ) → escaped b ≡ o → Gives bs t (Text purpose p c st (92 ∷ b ∷ bs) t) (m.short_step purpose p c st o)
+short_back : (bs : List ℕ) → Back bs → (purpose : Purpose) (p : Option ℕ) (c : List ℕ) (st : List Frame) (b : ℕ) (t : Tree) (o : Option ℕ) →
+    escaped b ≡ o → Gives bs t (Text purpose p c st (92 ∷ b ∷ bs) t) (m.short_step purpose p c st o)
 short_back bs f purpose p c st b t None e h = nothing bs t _ h
 short_back bs f purpose p c st b t (Some x) e h = short_text purpose p c st b x bs t e (f _ st t h)
 
 code_text : (purpose : Purpose) (p : Option ℕ) (c : List ℕ) (st : List Frame) (bs : List ℕ) (t : Tree) → Left (m.hex purpose p c 3 0) st bs t → Text purpose p c st (92 ∷ 117 ∷ bs) t
 code_text purpose p c st bs t (u, us, s, r, hx, w, en) = (unit u ∷ us, r, code hx w, en)
 
-escape_back : (bs : List ℕ) → Back bs → (purpose : Purpose) (p : Option ℕ) (c : List ℕ) (st : List Frame) (b : ℕ) (t : Tree) → Gives bs t (Text purpose p c st (92 ∷ b ∷ bs) t) (m.escape_step purpose p c st b)
+escape_back : (bs : List ℕ) → Back bs → (purpose : Purpose) (p : Option ℕ) (c : List ℕ) (st : List Frame) (b : ℕ) (t : Tree) →
+    Gives bs t (Text purpose p c st (92 ∷ b ∷ bs) t) (m.escape_step purpose p c st b)
 escape_back bs f purpose p c st b t =
     at_byte (Gives bs t (Text purpose p c st (92 ∷ b ∷ bs) t)) (λ x. Text purpose p c st (92 ∷ x ∷ bs) t) b 117 _ _
     (λ to h. to (code_text purpose p c st bs t (f _ st t h)))
@@ -235,7 +244,8 @@ pick_left : (purpose : Purpose) (c : List ℕ) (st : List Frame) (bs : List ℕ)
 pick_left purpose c st bs t true M N X Y h k l = h l
 pick_left purpose c st bs t false M N X Y h k l = k l
 
-moved : (purpose : Purpose) (q : Option ℕ) (c x : List ℕ) (st : List Frame) (bs : List ℕ) (t : Tree) → Text purpose q (c ++ x) st bs t → (us : List Piece) × (r : List ℕ) × Written us bs r × Ended purpose (c ++ (x ++ text_of q us)) st r t
+moved : (purpose : Purpose) (q : Option ℕ) (c x : List ℕ) (st : List Frame) (bs : List ℕ) (t : Tree) → Text purpose q (c ++ x) st bs t →
+    (us : List Piece) × (r : List ℕ) × Written us bs r × Ended purpose (c ++ (x ++ text_of q us)) st r t
 moved purpose q c x st bs t (us, r, w, en) = (us, r, w, subst (λ y. Ended purpose y st r t) (append_assoc c x (text_of q us)) en)
 
 unit_left : (purpose : Purpose) (p : Option ℕ) (c : List ℕ) (u : ℕ) (st : List Frame) (bs : List ℕ) (t : Tree) → Left (m.add_unit purpose p c u) st bs t → Unit_text purpose p c u st bs t
@@ -246,7 +256,8 @@ unit_left purpose (Some h) c u st bs t =
     (moved purpose (Some u) c replacement st bs t)
     (pick_left purpose c st bs t (is_low u) _ _ (λ us. both h u ++ text_of None us) (λ us. replacement ++ (single u ++ text_of None us))
     (moved purpose None c (both h u) st bs t)
-    (λ l. let q = moved purpose None c (replacement ++ single u) st bs t l in (q.0, q.1, q.2, subst (λ y. Ended purpose (c ++ y) st q.1 t) (append_assoc replacement (single u) (text_of None q.0)) q.3)))
+    (λ l. let q = moved purpose None c (replacement ++ single u) st bs t l in
+    (q.0, q.1, q.2, subst (λ y. Ended purpose (c ++ y) st q.1 t) (append_assoc replacement (single u) (text_of None q.0)) q.3)))
 
 hex_back : (bs : List ℕ) → Back bs → (purpose : Purpose) (p : Option ℕ) (c : List ℕ) (n a : ℕ) (st : List Frame) (b : ℕ) (t : Tree) (o : Option ℕ) → hex_digit b ≡ o
     → Gives bs t (Left (m.hex purpose p c n a) st (b ∷ bs) t) (m.hex_step purpose p c n a st o)
@@ -257,32 +268,52 @@ hex_back bs f purpose p c zero a st b t (Some d) e h =
 hex_back bs f purpose p c (suc n) a st b t (Some d) e h =
     let l : Left (m.hex purpose p c n (16 * a + d)) st bs t = f _ st t h in (l.0, l.1, l.2, l.3, hex e l.4, l.5, l.6)
 
-bytes_more : (bs : List ℕ) → Back bs → (purpose : Purpose) (p : Option ℕ) (c : List ℕ) (tl : Tail) (got : List ℕ) (st : List Frame) (b : ℕ) (t : Tree) (o : Option Tail) → later tl ≡ o → is_between (low tl) (high tl) b ≡ true
-    → Gives bs t (Left (m.bytes purpose p c tl got) st (b ∷ bs) t) (m.to (m.bytes_to purpose p c o (got ++ b ∷ [])) st)
+bytes_more : (bs : List ℕ) → Back bs →
+    (purpose : Purpose) (p : Option ℕ) (c : List ℕ) (tl : Tail) (got : List ℕ) (st : List Frame) (b : ℕ) (t : Tree) (o : Option Tail) → later tl ≡ o →
+    is_between (low tl) (high tl) b ≡ true → Gives bs t (Left (m.bytes purpose p c tl got) st (b ∷ bs) t) (m.to (m.bytes_to purpose p c o (got ++ b ∷ [])) st)
 bytes_more bs f purpose p c tl got st b t None e h run =
     let l : Text purpose None (m.add_char p c (got ++ b ∷ [])) st bs t = f _ st t run in
     (b ∷ [], bs, l.0, l.1, next h (subst (λ o. Follows o []) (sym e) end), refl, l.2, char_text purpose p c st (got ++ b ∷ []) l.0 l.1 t l.3)
 bytes_more bs f purpose p c tl got st b t (Some after) e h run =
-    let l : Left (m.bytes purpose p c after (got ++ b ∷ [])) st bs t = f _ st t run in
-    (b ∷ l.0, l.1, l.2, l.3, next h (subst (λ o. Follows o l.0) (sym e) l.4), ap (λ x. b ∷ x) l.5, l.6, subst (λ y. Ended purpose (c ++ text_of p (char y ∷ l.2)) st l.3 t) (append_assoc got (b ∷ []) l.0) l.7)
+    let l : Left (m.bytes purpose p c after (got ++ b ∷ [])) st bs t = f _ st t run in (
+      b ∷ l.0,
+      l.1,
+      l.2,
+      l.3,
+      next h (subst (λ o. Follows o l.0) (sym e) l.4),
+      ap (λ x. b ∷ x) l.5,
+      l.6,
+      subst (λ y. Ended purpose (c ++ text_of p (char y ∷ l.2)) st l.3 t) (append_assoc got (b ∷ []) l.0) l.7,
+    )
 
 bytes_back : (bs : List ℕ) → Back bs → (purpose : Purpose) (p : Option ℕ) (c : List ℕ) (tl : Tail) (got : List ℕ) (st : List Frame) (b : ℕ) (t : Tree)
     → Gives bs t (Left (m.bytes purpose p c tl got) st (b ∷ bs) t) (m.bytes_step purpose p c tl got st b)
 bytes_back bs f purpose p c tl got st b t =
-    by_cases (Gives bs t (Left (m.bytes purpose p c tl got) st (b ∷ bs) t)) (is_between (low tl) (high tl) b) _ _ (λ e. bytes_more bs f purpose p c tl got st b t (later tl) refl e) (λ _. nothing bs t _)
+    by_cases (Gives bs t (Left (m.bytes purpose p c tl got) st (b ∷ bs) t)) (is_between (low tl) (high tl) b) _ _
+    (λ e. bytes_more bs f purpose p c tl got st b t (later tl) refl e) (λ _. nothing bs t _)
 
 -- words
 word_back : (bs : List ℕ) → Back bs → (w : m.Word) (st : List Frame) (b : ℕ) (t : Tree) → Gives bs t (Left (m.word w) st (b ∷ bs) t) (m.word_step w st b)
-word_back bs f m.so_n st b t = at_byte (Gives bs t (Left (m.word m.so_n) st (b ∷ bs) t)) (λ x. Left (m.word m.so_n) st (x ∷ bs) t) b 117 _ _ (λ to h. to (let q : Left (m.word m.so_nu) st bs t = f _ st t h in (q.0, ap (λ x. 117 ∷ x) q.1, q.2))) (λ _. nothing bs t _)
-word_back bs f m.so_nu st b t = at_byte (Gives bs t (Left (m.word m.so_nu) st (b ∷ bs) t)) (λ x. Left (m.word m.so_nu) st (x ∷ bs) t) b 108 _ _ (λ to h. to (let q : Left (m.word m.so_nul) st bs t = f _ st t h in (q.0, ap (λ x. 108 ∷ x) q.1, q.2))) (λ _. nothing bs t _)
-word_back bs f m.so_nul st b t = at_byte (Gives bs t (Left (m.word m.so_nul) st (b ∷ bs) t)) (λ x. Left (m.word m.so_nul) st (x ∷ bs) t) b 108 _ _ (λ to h. to (bs, refl, f _ st t h)) (λ _. nothing bs t _)
-word_back bs f m.so_t st b t = at_byte (Gives bs t (Left (m.word m.so_t) st (b ∷ bs) t)) (λ x. Left (m.word m.so_t) st (x ∷ bs) t) b 114 _ _ (λ to h. to (let q : Left (m.word m.so_tr) st bs t = f _ st t h in (q.0, ap (λ x. 114 ∷ x) q.1, q.2))) (λ _. nothing bs t _)
-word_back bs f m.so_tr st b t = at_byte (Gives bs t (Left (m.word m.so_tr) st (b ∷ bs) t)) (λ x. Left (m.word m.so_tr) st (x ∷ bs) t) b 117 _ _ (λ to h. to (let q : Left (m.word m.so_tru) st bs t = f _ st t h in (q.0, ap (λ x. 117 ∷ x) q.1, q.2))) (λ _. nothing bs t _)
-word_back bs f m.so_tru st b t = at_byte (Gives bs t (Left (m.word m.so_tru) st (b ∷ bs) t)) (λ x. Left (m.word m.so_tru) st (x ∷ bs) t) b 101 _ _ (λ to h. to (bs, refl, f _ st t h)) (λ _. nothing bs t _)
-word_back bs f m.so_f st b t = at_byte (Gives bs t (Left (m.word m.so_f) st (b ∷ bs) t)) (λ x. Left (m.word m.so_f) st (x ∷ bs) t) b 97 _ _ (λ to h. to (let q : Left (m.word m.so_fa) st bs t = f _ st t h in (q.0, ap (λ x. 97 ∷ x) q.1, q.2))) (λ _. nothing bs t _)
-word_back bs f m.so_fa st b t = at_byte (Gives bs t (Left (m.word m.so_fa) st (b ∷ bs) t)) (λ x. Left (m.word m.so_fa) st (x ∷ bs) t) b 108 _ _ (λ to h. to (let q : Left (m.word m.so_fal) st bs t = f _ st t h in (q.0, ap (λ x. 108 ∷ x) q.1, q.2))) (λ _. nothing bs t _)
-word_back bs f m.so_fal st b t = at_byte (Gives bs t (Left (m.word m.so_fal) st (b ∷ bs) t)) (λ x. Left (m.word m.so_fal) st (x ∷ bs) t) b 115 _ _ (λ to h. to (let q : Left (m.word m.so_fals) st bs t = f _ st t h in (q.0, ap (λ x. 115 ∷ x) q.1, q.2))) (λ _. nothing bs t _)
-word_back bs f m.so_fals st b t = at_byte (Gives bs t (Left (m.word m.so_fals) st (b ∷ bs) t)) (λ x. Left (m.word m.so_fals) st (x ∷ bs) t) b 101 _ _ (λ to h. to (bs, refl, f _ st t h)) (λ _. nothing bs t _)
+word_back bs f m.so_n st b t = at_byte (Gives bs t (Left (m.word m.so_n) st (b ∷ bs) t)) (λ x. Left (m.word m.so_n) st (x ∷ bs) t) b 117 _ _
+    (λ to h. to (let q : Left (m.word m.so_nu) st bs t = f _ st t h in (q.0, ap (λ x. 117 ∷ x) q.1, q.2))) (λ _. nothing bs t _)
+word_back bs f m.so_nu st b t = at_byte (Gives bs t (Left (m.word m.so_nu) st (b ∷ bs) t)) (λ x. Left (m.word m.so_nu) st (x ∷ bs) t) b 108 _ _
+    (λ to h. to (let q : Left (m.word m.so_nul) st bs t = f _ st t h in (q.0, ap (λ x. 108 ∷ x) q.1, q.2))) (λ _. nothing bs t _)
+word_back bs f m.so_nul st b t = at_byte (Gives bs t (Left (m.word m.so_nul) st (b ∷ bs) t))
+    (λ x. Left (m.word m.so_nul) st (x ∷ bs) t) b 108 _ _ (λ to h. to (bs, refl, f _ st t h)) (λ _. nothing bs t _)
+word_back bs f m.so_t st b t = at_byte (Gives bs t (Left (m.word m.so_t) st (b ∷ bs) t)) (λ x. Left (m.word m.so_t) st (x ∷ bs) t) b 114 _ _
+    (λ to h. to (let q : Left (m.word m.so_tr) st bs t = f _ st t h in (q.0, ap (λ x. 114 ∷ x) q.1, q.2))) (λ _. nothing bs t _)
+word_back bs f m.so_tr st b t = at_byte (Gives bs t (Left (m.word m.so_tr) st (b ∷ bs) t)) (λ x. Left (m.word m.so_tr) st (x ∷ bs) t) b 117 _ _
+    (λ to h. to (let q : Left (m.word m.so_tru) st bs t = f _ st t h in (q.0, ap (λ x. 117 ∷ x) q.1, q.2))) (λ _. nothing bs t _)
+word_back bs f m.so_tru st b t = at_byte (Gives bs t (Left (m.word m.so_tru) st (b ∷ bs) t))
+    (λ x. Left (m.word m.so_tru) st (x ∷ bs) t) b 101 _ _ (λ to h. to (bs, refl, f _ st t h)) (λ _. nothing bs t _)
+word_back bs f m.so_f st b t = at_byte (Gives bs t (Left (m.word m.so_f) st (b ∷ bs) t)) (λ x. Left (m.word m.so_f) st (x ∷ bs) t) b 97 _ _
+    (λ to h. to (let q : Left (m.word m.so_fa) st bs t = f _ st t h in (q.0, ap (λ x. 97 ∷ x) q.1, q.2))) (λ _. nothing bs t _)
+word_back bs f m.so_fa st b t = at_byte (Gives bs t (Left (m.word m.so_fa) st (b ∷ bs) t)) (λ x. Left (m.word m.so_fa) st (x ∷ bs) t) b 108 _ _
+    (λ to h. to (let q : Left (m.word m.so_fal) st bs t = f _ st t h in (q.0, ap (λ x. 108 ∷ x) q.1, q.2))) (λ _. nothing bs t _)
+word_back bs f m.so_fal st b t = at_byte (Gives bs t (Left (m.word m.so_fal) st (b ∷ bs) t)) (λ x. Left (m.word m.so_fal) st (x ∷ bs) t) b 115 _ _
+    (λ to h. to (let q : Left (m.word m.so_fals) st bs t = f _ st t h in (q.0, ap (λ x. 115 ∷ x) q.1, q.2))) (λ _. nothing bs t _)
+word_back bs f m.so_fals st b t = at_byte (Gives bs t (Left (m.word m.so_fals) st (b ∷ bs) t))
+    (λ x. Left (m.word m.so_fals) st (x ∷ bs) t) b 101 _ _ (λ to h. to (bs, refl, f _ st t h)) (λ _. nothing bs t _)
 
 -- numbers
 abbrev Goes_on : Part → ℕ → List ℕ → Option Part → Type 0

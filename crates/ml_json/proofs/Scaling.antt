@@ -1,6 +1,8 @@
 -- A number times a power of ten by moving the cut between its digits.
-use Rattle.std.proofs.Common.{◌≡◌, ℕ, zero, suc, ◌+◌, ◌-◌, ◌*◌, ◌/◌, ◌^◌, ◌<◌, ◌≤◌, List, [], ◌∷◌, ◌++◌, length, take, drop, min, Bool, true, false, cond, refl, sym, ◌∙◌, ap, subst, arith, inl, inr, length-drop}
-use Rattle.std.proofs.Math.Nat.{min-eq_left, min-eq_right, pow-suc, one-le-pow, pow-le-pow_right, mul-le-mul_left, mul-le-mul_right, mul-lt-mul_of_pos_right, mul-div_cancel, div-eq_of_lt, div-div-eq-div-mul, mul-div-mul_left, add-mul-div_left}
+use Rattle.std.proofs.Common.{◌≡◌, ℕ, zero, suc, ◌+◌, ◌-◌, ◌*◌, ◌/◌, ◌^◌, ◌<◌, ◌≤◌, List, [], ◌∷◌, ◌++◌, length, take, drop}
+use Rattle.std.proofs.Common.{min, Bool, true, false, cond, refl, sym, ◌∙◌, ap, subst, arith, inl, inr, length-drop}
+use Rattle.std.proofs.Math.Nat.{min-eq_left, min-eq_right, pow-suc, one-le-pow, pow-le-pow_right, mul-le-mul_left, mul-le-mul_right}
+use Rattle.std.proofs.Math.Nat.{mul-lt-mul_of_pos_right, mul-div_cancel, div-eq_of_lt, div-div-eq-div-mul, mul-div-mul_left, add-mul-div_left}
 use Rattle.std.proofs.lemmas.List.{take-append-drop}
 use Rattle.std.proofs.lemmas.Nat.{div-mul-add, pow-add, le-div}
 use Rattle.std.proofs.lemmas.Int.Digits.{digits_value-lt}
@@ -49,7 +51,8 @@ cut j ds h = elim (cases_lt (length ds) j) [
       let back = drop (length ds - j) ds in
       let size : length back ≡ j = omega (arith, length-drop (length ds - j) ds) in
       let whole : digits_value 10 ds ≡ digits_value 10 front * 10 ^ j + digits_value 10 back =
-      ap (digits_value 10) (sym (take-append-drop (length ds - j) ds)) ∙ value_append 0 front back ∙ after_is (digits_value 10 front) back ∙ ap (λ n. digits_value 10 front * 10 ^ n + digits_value 10 back) size in
+      ap (digits_value 10) (sym (take-append-drop (length ds - j) ds)) ∙ value_append 0 front back
+      ∙ after_is (digits_value 10 front) back ∙ ap (λ n. digits_value 10 front * 10 ^ n + digits_value 10 back) size in
       let small : digits_value 10 back < 10 ^ j = subst (λ n. digits_value 10 back < 10 ^ n) size (digits_value-lt 10 back (digits_drop (length ds - j) ds h)) in
       ap (λ n. n / 10 ^ j) whole ∙ div-mul-add (digits_value 10 front) (10 ^ j) (digits_value 10 back) small)
 ]
@@ -64,7 +67,8 @@ take_all zero (d ∷ ds) h = absurd (omega arith)
 take_all (suc k) (d ∷ ds) h = ap (λ x. d ∷ x) (take_all k ds (omega arith))
 
 -- a power of ten up and a power of ten down
-pub moved : (ds : List ℕ) (up down : ℕ) → AllDigits 10 ds → digits_value 10 (take ((length ds + up) - down) ds) * 10 ^ (((length ds + up) - down) - length ds) ≡ digits_value 10 ds * 10 ^ up / 10 ^ down
+pub moved : (ds : List ℕ) (up down : ℕ) → AllDigits 10 ds →
+    digits_value 10 (take ((length ds + up) - down) ds) * 10 ^ (((length ds + up) - down) - length ds) ≡ digits_value 10 ds * 10 ^ up / 10 ^ down
 moved ds up down h = elim (cases_lt up down) [
   | inl less ↦ (
       let j = down - up in
@@ -224,8 +228,10 @@ rounded a b h =
 pub e7_rounded : (text : List ℕ) → (size_at 8 text + 5) / 10 ≡ e7_size text
 unfolding size_at e7_size
 e7_rounded text =
-    let power : 10 ^ (raised text + 8) ≡ 10 * 10 ^ (raised text + 7) = (let s : raised text + 8 ≡ suc (raised text + 7) = omega arith in ap (λ k. 10 ^ k) s ∙ pow-suc 10 (raised text + 7) ∙ omega arith) in
-    ap (λ x. (x / 10 ^ lowered text + 5) / 10) (ap (λ x. significand text * x) power ∙ (let e : significand text * (10 * 10 ^ (raised text + 7)) ≡ 10 * (significand text * 10 ^ (raised text + 7)) = omega arith in e))
+    let power : 10 ^ (raised text + 8) ≡ 10 * 10 ^ (raised text + 7) =
+    (let s : raised text + 8 ≡ suc (raised text + 7) = omega arith in ap (λ k. 10 ^ k) s ∙ pow-suc 10 (raised text + 7) ∙ omega arith) in
+    ap (λ x. (x / 10 ^ lowered text + 5) / 10) (ap (λ x. significand text * x) power
+    ∙ (let e : significand text * (10 * 10 ^ (raised text + 7)) ≡ 10 * (significand text * 10 ^ (raised text + 7)) = omega arith in e))
     ∙ rounded (significand text * 10 ^ (raised text + 7)) (10 ^ lowered text) (power_positive (lowered text))
 
 -- the same at the numbers of a bounded size

@@ -64,7 +64,8 @@ not_code : (e b : ℕ) → escaped e ≡ Some b → (e == 117) ≡ false
 not_code e b h = grind (arith, nat_tests)
 
 -- the machine goes over the further pieces of a string and its closing quote, and adds their text to the string's
-pub written_runs : (purpose : Purpose) (st : List Frame) {us : List Piece} {s r : List ℕ} → Written us s r → (p : Option ℕ) (c : List ℕ) → run s (m.text purpose p c) st ≡ run r (ended purpose (c ++ text_of p us)) st
+pub written_runs : (purpose : Purpose) (st : List Frame) {us : List Piece} {s r : List ℕ} → Written us s r →
+    (p : Option ℕ) (c : List ℕ) → run s (m.text purpose p c) st ≡ run r (ended purpose (c ++ text_of p us)) st
 unfolding run step
 written_runs purpose st quote p c = refl
 written_runs purpose st {r = r} (plain {b} {us} {s} h w) p c =

@@ -4,7 +4,8 @@ use Rattle.std.proofs.lemmas.Bool.Decides.{nat_tests}
 use Rattle.ml_json.specs.Tree.{Tree, num, Pairs}
 use Rattle.ml_json.specs.Machine.{snoc, Mode, Frame, State, step, finish, Part, Purpose, may_end, go_on, is_letter, is_sign}
 use Rattle.ml_json.specs.Grammar.{is_space, Blank, no_blank, blank}
-use Rattle.ml_ratio.specs.JsonNumber.{is_digit, is_between, minus_number, plain_number, IsNumber, Tailed, exponent, no_exponent, ExponentPart, signed, unsigned, Signed, fraction, no_fraction, FractionPart, whole, nought, Whole, Digits, AllDigits}
+use Rattle.ml_ratio.specs.JsonNumber.{is_digit, is_between, minus_number, plain_number, IsNumber, Tailed, exponent, no_exponent, ExponentPart}
+use Rattle.ml_ratio.specs.JsonNumber.{signed, unsigned, Signed, fraction, no_fraction, FractionPart, whole, nought, Whole, Digits, AllDigits}
 use Rattle.ml_json.specs.Machine as m
 use Rattle.ml_json.proofs.Runs.{run, goes}
 
@@ -130,18 +131,21 @@ unfolding run step
 signed_runs acc st r (unsigned {ds} all) x = letter_digits acc st ds r all x
 signed_runs acc st r (signed {b} {ds} h all) x = rw (sign_digit b h, h) (sign_digits (acc ++ b ∷ []) st ds r all x ∙ ap (λ s. run r (m.after (num s)) st) (append_assoc acc (b ∷ []) ds))
 
-exponent_runs : (part : Part) → May part → (acc : List ℕ) (st : List Frame) {s : List ℕ} (r : List ℕ) → ExponentPart s → Ends r → run (s ++ r) (m.number part acc) st ≡ run r (m.after (num (acc ++ s))) st
+exponent_runs : (part : Part) → May part → (acc : List ℕ) (st : List Frame) {s : List ℕ} (r : List ℕ) →
+    ExponentPart s → Ends r → run (s ++ r) (m.number part acc) st ≡ run r (m.after (num (acc ++ s))) st
 unfolding run step
 exponent_runs part may acc st r no_exponent x = number_ends part acc st r may.stops may.none x ∙ ap (λ s. run r (m.after (num s)) st) (sym (append-nil acc))
 exponent_runs part may acc st r (exponent {b} {s} h sg) x = rw (may.letters b h) (signed_runs (acc ++ b ∷ []) st r sg x ∙ ap (λ t. run r (m.after (num t)) st) (append_assoc acc (b ∷ []) s))
 
 -- a fraction's digits, and the exponent
-digits_runs : (acc : List ℕ) (st : List Frame) (ds : List ℕ) {e : List ℕ} (r : List ℕ) → AllDigits ds → ExponentPart e → Ends r → run (ds ++ (e ++ r)) (m.number m.digits acc) st ≡ run r (m.after (num (acc ++ (ds ++ e)))) st
+digits_runs : (acc : List ℕ) (st : List Frame) (ds : List ℕ) {e : List ℕ} (r : List ℕ) → AllDigits ds → ExponentPart e →
+    Ends r → run (ds ++ (e ++ r)) (m.number m.digits acc) st ≡ run r (m.after (num (acc ++ (ds ++ e)))) st
 unfolding run step
 digits_runs acc st [] r all ex x = exponent_runs m.digits may_digits acc st r ex x
 digits_runs acc st (d ∷ ds) {e} r all ex x = rw (all.0) (digits_runs (acc ++ d ∷ []) st ds r all.1 ex x ∙ ap (λ s. run r (m.after (num s)) st) (append_assoc acc (d ∷ []) (ds ++ e)))
 
-dot_runs : (acc : List ℕ) (st : List Frame) (ds : List ℕ) {e : List ℕ} (r : List ℕ) → Digits ds → ExponentPart e → Ends r → run (ds ++ (e ++ r)) (m.number m.dot acc) st ≡ run r (m.after (num (acc ++ (ds ++ e)))) st
+dot_runs : (acc : List ℕ) (st : List Frame) (ds : List ℕ) {e : List ℕ} (r : List ℕ) → Digits ds → ExponentPart e →
+    Ends r → run (ds ++ (e ++ r)) (m.number m.dot acc) st ≡ run r (m.after (num (acc ++ (ds ++ e)))) st
 unfolding run step
 dot_runs acc st [] r all ex x = absurd all
 dot_runs acc st (d ∷ ds) {e} r all ex x = rw (all.0) (digits_runs (acc ++ d ∷ []) st ds r all.1 ex x ∙ ap (λ s. run r (m.after (num s)) st) (append_assoc acc (d ∷ []) (ds ++ e)))
@@ -150,11 +154,14 @@ fraction_runs : (part : Part) → May part → go_on part 46 ≡ Some m.dot → 
     → run (f ++ (e ++ r)) (m.number part acc) st ≡ run r (m.after (num (acc ++ (f ++ e)))) st
 unfolding run step
 fraction_runs part may dots acc st r no_fraction ex x = exponent_runs part may acc st r ex x
-fraction_runs part may dots acc st {f} {e} r (fraction {ds} all) ex x = rw dots (dot_runs (acc ++ 46 ∷ []) st ds r all ex x ∙ ap (λ t. run r (m.after (num t)) st) (append_assoc acc (46 ∷ []) (ds ++ e)))
+fraction_runs part may dots acc st {f} {e} r (fraction {ds} all) ex x =
+    rw dots (dot_runs (acc ++ 46 ∷ []) st ds r all ex x ∙ ap (λ t. run r (m.after (num t)) st) (append_assoc acc (46 ∷ []) (ds ++ e)))
 
-tailed_runs : (part : Part) → May part → go_on part 46 ≡ Some m.dot → (acc : List ℕ) (st : List Frame) (t r : List ℕ) → Tailed t → Ends r → run (t ++ r) (m.number part acc) st ≡ run r (m.after (num (acc ++ t))) st
+tailed_runs : (part : Part) → May part → go_on part 46 ≡ Some m.dot → (acc : List ℕ) (st : List Frame) (t r : List ℕ) →
+    Tailed t → Ends r → run (t ++ r) (m.number part acc) st ≡ run r (m.after (num (acc ++ t))) st
 tailed_runs part may dots acc st t r (f, e, eq, fr, ex) x =
-    ap (λ s. run (s ++ r) (m.number part acc) st) eq ∙ ap (λ s. run s (m.number part acc) st) (append_assoc f e r) ∙ fraction_runs part may dots acc st r fr ex x ∙ ap (λ s. run r (m.after (num (acc ++ s))) st) (sym eq)
+    ap (λ s. run (s ++ r) (m.number part acc) st) eq ∙ ap (λ s. run s (m.number part acc) st) (append_assoc f e r)
+    ∙ fraction_runs part may dots acc st r fr ex x ∙ ap (λ s. run r (m.after (num (acc ++ s))) st) (sym eq)
 
 whole_runs : (acc : List ℕ) (st : List Frame) (ds t r : List ℕ) → AllDigits ds → Tailed t → Ends r → run (ds ++ (t ++ r)) (m.number m.whole acc) st ≡ run r (m.after (num (acc ++ (ds ++ t)))) st
 unfolding run step
@@ -191,4 +198,5 @@ unfolding run step
 number_runs st r (plain_number {s} (w, t, eq, wh, ta)) x =
     ap (λ s. run (s ++ r) m.value st) eq ∙ ap (λ s. run s m.value st) (append_assoc w t r) ∙ plain_runs st t r wh ta x ∙ ap (λ s. run r (m.after (num s)) st) (sym eq)
 number_runs st r (minus_number {s} (w, t, eq, wh, ta)) x =
-    ap (λ s. run (s ++ r) (m.number m.minus (45 ∷ [])) st) eq ∙ ap (λ s. run s (m.number m.minus (45 ∷ [])) st) (append_assoc w t r) ∙ minus_runs (45 ∷ []) st t r wh ta x ∙ ap (λ s. run r (m.after (num (45 ∷ s))) st) (sym eq)
+    ap (λ s. run (s ++ r) (m.number m.minus (45 ∷ [])) st) eq ∙ ap (λ s. run s (m.number m.minus (45 ∷ [])) st) (append_assoc w t r)
+    ∙ minus_runs (45 ∷ []) st t r wh ta x ∙ ap (λ s. run r (m.after (num (45 ∷ s))) st) (sym eq)

@@ -60,7 +60,8 @@ one_char c bs h e = (c ∷ [], (rw h refl, append-nil (encode c) ∙ e))
 scalar_three : (a b d : ℕ) → 224 ≤ a → a ≤ 239 → 128 ≤ b → b ≤ 191 → 128 ≤ d → d ≤ 191 → (a ≡ 237 → b ≤ 159) → scalar (of_three a b d) ≡ true
 scalar_three a b d h k l n p q r =
     let small : of_three a b d < 65536 = omega arith in
-    let out : (of_three a b d < 55296) ⊎ (57344 ≤ of_three a b d) = elim (cases_lt a 237) [ inl x ↦ inl (omega arith) | inr x ↦ elim (cases_lt a 238) [ inl y ↦ (let u : b ≤ 159 = r (omega arith) in inl (omega arith)) | inr y ↦ inr (omega arith) ] ] in
+    let out : (of_three a b d < 55296) ⊎ (57344 ≤ of_three a b d) =
+    elim (cases_lt a 237) [ inl x ↦ inl (omega arith) | inr x ↦ elim (cases_lt a 238) [ inl y ↦ (let u : b ≤ 159 = r (omega arith) in inl (omega arith)) | inr y ↦ inr (omega arith) ] ] in
     elim out [ inl x ↦ grind (arith, nat_tests) | inr x ↦ grind (arith, nat_tests) ]
 
 scalar_four : (a b d i : ℕ) → 240 ≤ a → a ≤ 244 → 128 ≤ b → b ≤ 191 → 128 ≤ d → d ≤ 191 → 128 ≤ i → i ≤ 191 → (a ≡ 240 → 144 ≤ b) → (a ≡ 244 → b ≤ 143) → scalar (of_four a b d i) ≡ true
@@ -109,19 +110,24 @@ table a two h (next {b = b} x (next {b = d} y end)) =
     one_char (of_three a b d) _ (scalar_three a b d (omega arith) l.1 p.0 p.1 q.0 q.1 (λ e. absurd (l.2 e))) (encode_three a b d (omega arith) l.1 p.0 p.1 q.0 q.1 (λ e. omega arith))
 table a after_e0 h (next {b = b} x (next {b = d} y end)) =
     let l = lead_e0 a h in let p = byte 160 191 b x in let q = byte 128 191 d y in
-    one_char (of_three a b d) _ (scalar_three a b d (omega arith) (omega arith) (omega arith) p.1 q.0 q.1 (λ e. omega arith)) (encode_three a b d (omega arith) (omega arith) (omega arith) p.1 q.0 q.1 (λ e. p.0))
+    one_char (of_three a b d) _ (scalar_three a b d (omega arith) (omega arith) (omega arith) p.1 q.0 q.1 (λ e. omega arith))
+    (encode_three a b d (omega arith) (omega arith) (omega arith) p.1 q.0 q.1 (λ e. p.0))
 table a after_ed h (next {b = b} x (next {b = d} y end)) =
     let l = lead_ed a h in let p = byte 128 159 b x in let q = byte 128 191 d y in
-    one_char (of_three a b d) _ (scalar_three a b d (omega arith) (omega arith) p.0 (omega arith) q.0 q.1 (λ e. p.1)) (encode_three a b d (omega arith) (omega arith) p.0 (omega arith) q.0 q.1 (λ e. omega arith))
+    one_char (of_three a b d) _ (scalar_three a b d (omega arith) (omega arith) p.0 (omega arith) q.0 q.1 (λ e. p.1))
+    (encode_three a b d (omega arith) (omega arith) p.0 (omega arith) q.0 q.1 (λ e. omega arith))
 table a three h (next {b = b} x (next {b = d} y (next {b = i} z end))) =
     let l = lead_three a h in let p = byte 128 191 b x in let q = byte 128 191 d y in let r = byte 128 191 i z in
-    one_char (of_four a b d i) _ (scalar_four a b d i (omega arith) (omega arith) p.0 p.1 q.0 q.1 r.0 r.1 (λ e. omega arith) (λ e. omega arith)) (encode_four a b d i (omega arith) (omega arith) p.0 p.1 q.0 q.1 r.0 r.1 (λ e. omega arith))
+    one_char (of_four a b d i) _ (scalar_four a b d i (omega arith) (omega arith) p.0 p.1 q.0 q.1 r.0 r.1 (λ e. omega arith) (λ e. omega arith))
+    (encode_four a b d i (omega arith) (omega arith) p.0 p.1 q.0 q.1 r.0 r.1 (λ e. omega arith))
 table a after_f0 h (next {b = b} x (next {b = d} y (next {b = i} z end))) =
     let l = lead_f0 a h in let p = byte 144 191 b x in let q = byte 128 191 d y in let r = byte 128 191 i z in
-    one_char (of_four a b d i) _ (scalar_four a b d i (omega arith) (omega arith) (omega arith) p.1 q.0 q.1 r.0 r.1 (λ e. p.0) (λ e. omega arith)) (encode_four a b d i (omega arith) (omega arith) (omega arith) p.1 q.0 q.1 r.0 r.1 (λ e. p.0))
+    one_char (of_four a b d i) _ (scalar_four a b d i (omega arith) (omega arith) (omega arith) p.1 q.0 q.1 r.0 r.1 (λ e. p.0) (λ e. omega arith))
+    (encode_four a b d i (omega arith) (omega arith) (omega arith) p.1 q.0 q.1 r.0 r.1 (λ e. p.0))
 table a after_f4 h (next {b = b} x (next {b = d} y (next {b = i} z end))) =
     let l = lead_f4 a h in let p = byte 128 143 b x in let q = byte 128 191 d y in let r = byte 128 191 i z in
-    one_char (of_four a b d i) _ (scalar_four a b d i (omega arith) (omega arith) p.0 (omega arith) q.0 q.1 r.0 r.1 (λ e. omega arith) (λ e. p.1)) (encode_four a b d i (omega arith) (omega arith) p.0 (omega arith) q.0 q.1 r.0 r.1 (λ e. omega arith))
+    one_char (of_four a b d i) _ (scalar_four a b d i (omega arith) (omega arith) p.0 (omega arith) q.0 q.1 r.0 r.1 (λ e. omega arith) (λ e. p.1))
+    (encode_four a b d i (omega arith) (omega arith) p.0 (omega arith) q.0 q.1 r.0 r.1 (λ e. omega arith))
 
 -- a first byte and the bytes that the table lets follow it are UTF-8
 pub table_utf8 : (a : ℕ) (t : Tail) (cs : List ℕ) → lead a ≡ Some t → Follows (Some t) cs → is_utf8 (a ∷ cs) ≡ true

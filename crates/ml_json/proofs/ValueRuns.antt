@@ -4,7 +4,8 @@ use Rattle.std.proofs.lemmas.Bool.Decides.{nat_tests, eqb_tells}
 use Rattle.ml_json.specs.Tree.{Tree, list, map, Trees, none, more, Pairs, no_pairs, put, put_all}
 use Rattle.ml_json.proofs.Runs.{snoc_all, run}
 use Rattle.ml_json.specs.Machine.{snoc, Mode, Frame, State, step, finish, Purpose}
-use Rattle.ml_json.specs.Grammar.{is_space, Blank, no_blank, blank, Value, a_null, a_true, a_false, a_number, a_string, empty_list, a_list, empty_map, a_map, Items, items, Rest, close, comma, Members, members, MoreMembers, close_map, comma_map, Document, document, Reads, unmarked, marked}
+use Rattle.ml_json.specs.Grammar.{is_space, Blank, no_blank, blank, Value, a_null, a_true, a_false, a_number, a_string, empty_list, a_list, empty_map, a_map, Items}
+use Rattle.ml_json.specs.Grammar.{items, Rest, close, comma, Members, members, MoreMembers, close_map, comma_map, Document, document, Reads, unmarked, marked}
 use Rattle.ml_ratio.specs.JsonNumber.{is_between, minus_number, plain_number, IsNumber, whole, nought, Whole}
 use Rattle.ml_json.specs.Strings.{text_of}
 use Rattle.ml_json.specs.Machine as m
@@ -124,7 +125,8 @@ mutual
       ∙ more_runs ps (text_of None us) v st rest
 
   -- so it does from behind a member's value, which is put at its key
-  pub more_runs : (ps : Pairs) (k : List ℕ) (v : Tree) (st : List Frame) {ms : Pairs} {s r : List ℕ} → MoreMembers ms s r → run s (m.after v) (m.at_key ps k ∷ st) ≡ run r (m.after (map (put_all (put k v ps) ms))) st
+  pub more_runs : (ps : Pairs) (k : List ℕ) (v : Tree) (st : List Frame) {ms : Pairs} {s r : List ℕ} →
+      MoreMembers ms s r → run s (m.after v) (m.at_key ps k ∷ st) ≡ run r (m.after (map (put_all (put k v ps) ms))) st
   more_runs ps k v st (close_map bl) = run_blank (m.after v) (m.at_key ps k ∷ st) (space_after v (m.at_key ps k ∷ st)) bl
   more_runs ps k v st (comma_map bl ms) = run_blank (m.after v) (m.at_key ps k ∷ st) (space_after v (m.at_key ps k ∷ st)) bl ∙ members_runs (put k v ps) st ms
 

@@ -111,7 +111,8 @@ pub fn after_next<'a>(
     byte: u8,
 ) -> Result<Mode<'a>, Stop>
     requires { length frames.old.items ≤ 64 }
-    ensures { Steps result frames.new.items (after_step (lent_of value.entry) (frames_of frames.old.items) byte) }
+    ensures { Steps result frames.new.items
+        (after_step (lent_of value.entry) (frames_of frames.old.items) byte) }
 {
     if is_space(byte) {
         return Ok(Mode::After(value));

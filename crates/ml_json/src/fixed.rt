@@ -42,7 +42,8 @@ fn push_last_digits(text: &mut String, number: u64) -> Result<(), AllocError>
 
 // Puts the last decimal digit behind the text.
 fn push_digit(text: &mut String, number: u64) -> Result<(), AllocError>
-    ensures { OnOk result (string_bytes text.new ≡ string_bytes text.old ++ (48 + number % 10) ∷ []) }
+    ensures { OnOk result
+        (string_bytes text.new ≡ string_bytes text.old ++ (48 + number % 10) ∷ []) }
 {
     text.push((b'0' + (number % 10) as u8) as char)
 }

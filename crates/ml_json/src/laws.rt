@@ -12,17 +12,20 @@ ghost use Rattle.ml_json.specs.declared.value.JsonFault.{JsonFault};
 
 /// A text has one tree.
 pub fn one_tree()
-    ensures { (bytes : List ℕ) (one other : Tree) → Reads bytes one → Reads bytes other → one ≡ other }
+    ensures { (bytes : List ℕ) (one other : Tree) →
+        Reads bytes one → Reads bytes other → one ≡ other }
 {}
 
 /// What is a text is refused only when memory runs out.
 pub fn text_or_fault()
-    ensures { (bytes : List ℕ) (tree : Tree) (fault : JsonFault) → IsText bytes tree → Refuses fault bytes → fault ≡ JsonFault.Memory }
+    ensures { (bytes : List ℕ) (tree : Tree) (fault : JsonFault) →
+        IsText bytes tree → Refuses fault bytes → fault ≡ JsonFault.Memory }
 {}
 
 /// One thing is wrong with bytes that are no text, unless memory runs out.
 pub fn one_fault()
-    ensures { (bytes : List ℕ) (one other : JsonFault) → one ≢ JsonFault.Memory → other ≢ JsonFault.Memory →
+    ensures { (bytes : List ℕ) (one other : JsonFault) →
+        one ≢ JsonFault.Memory → other ≢ JsonFault.Memory →
         Refuses one bytes → Refuses other bytes → one ≡ other }
 {}
 

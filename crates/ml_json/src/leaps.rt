@@ -179,7 +179,8 @@ fn close<'a>(
 ) -> Result<Mode<'a>, AllocError>
     requires shallow { length frames.old.items ≤ 64 }
     requires takes { TakesByte (frames_of frames.old.items) byte }
-    ensures { IfOk result (λ mode. GoesTo mode frames.new.items (after_step (lent_of value.entry) (frames_of frames.old.items) byte)) }
+    ensures { IfOk result (λ mode. GoesTo mode frames.new.items
+        (after_step (lent_of value.entry) (frames_of frames.old.items) byte)) }
 {
     match after_next(alloc, frames, value, byte) {
         Ok(mode) => Ok(mode),
@@ -198,7 +199,8 @@ fn leap_text<'a>(
 ) -> Result<&'a [u8], AllocError>
     requires value { mode_of mode.old ≡ value }
     requires shallow { open_of (mode_of mode.old) (frames_of frames.old.items) ≤ 64 }
-    ensures { IfOk result (λ rest. Passes (mode_of mode.old, frames_of frames.old.items) bytes.now (mode_of mode.new, frames_of frames.new.items) rest.now) }
+    ensures { IfOk result (λ rest. Passes (mode_of mode.old, frames_of frames.old.items) bytes.now
+        (mode_of mode.new, frames_of frames.new.items) rest.now) }
 {
     let [first, inner @ ..] = bytes else {
         return Ok(bytes);
@@ -226,7 +228,8 @@ fn leap_number<'a>(
 ) -> Result<&'a [u8], AllocError>
     requires value { mode_of mode.old ≡ value }
     requires shallow { open_of (mode_of mode.old) (frames_of frames.old.items) ≤ 64 }
-    ensures { IfOk result (λ rest. Passes (mode_of mode.old, frames_of frames.old.items) bytes.now (mode_of mode.new, frames_of frames.new.items) rest.now) }
+    ensures { IfOk result (λ rest. Passes (mode_of mode.old, frames_of frames.old.items) bytes.now
+        (mode_of mode.new, frames_of frames.new.items) rest.now) }
 {
     let Some((text, end)) = plain_number(bytes) else {
         return Ok(bytes);
@@ -242,7 +245,8 @@ fn leap_number<'a>(
 // Where a value is awaited: takes the opening bracket of a list or map, unless 64 are open.
 fn leap_open<'a>(frames: &Vec<Frame<'a>>, mode: &mut Mode<'a>, bytes: &'a [u8]) -> &'a [u8]
     requires { mode_of mode.old ≡ value }
-    ensures { Passes (mode_of mode.old, frames_of frames.now.items) bytes.now (mode_of mode.new, frames_of frames.now.items) result.now }
+    ensures { Passes (mode_of mode.old, frames_of frames.now.items) bytes.now
+        (mode_of mode.new, frames_of frames.now.items) result.now }
 {
     let [first, rest @ ..] = bytes else {
         return bytes;
@@ -267,7 +271,8 @@ fn leap_value<'a>(
 ) -> Result<&'a [u8], AllocError>
     requires value { mode_of mode.old ≡ value }
     requires shallow { open_of (mode_of mode.old) (frames_of frames.old.items) ≤ 64 }
-    ensures { IfOk result (λ rest. Passes (mode_of mode.old, frames_of frames.old.items) bytes.now (mode_of mode.new, frames_of frames.new.items) rest.now) }
+    ensures { IfOk result (λ rest. Passes (mode_of mode.old, frames_of frames.old.items) bytes.now
+        (mode_of mode.new, frames_of frames.new.items) rest.now) }
 {
     let bytes = skip_space(bytes);
     match bytes {
@@ -285,7 +290,8 @@ fn leap_key<'a>(
     bytes: &'a [u8],
 ) -> Result<&'a [u8], AllocError>
     requires { open_of (mode_of mode.old) (frames_of frames.old.items) ≤ 64 }
-    ensures { IfOk result (λ rest. Passes (mode_of mode.old, frames_of frames.old.items) bytes.now (mode_of mode.new, frames_of frames.new.items) rest.now) }
+    ensures { IfOk result (λ rest. Passes (mode_of mode.old, frames_of frames.old.items) bytes.now
+        (mode_of mode.new, frames_of frames.new.items) rest.now) }
 {
     let Some((text, rest)) = plain_key(bytes) else {
         return Ok(bytes);
@@ -312,7 +318,8 @@ fn leap_first<'a>(
 ) -> Result<&'a [u8], AllocError>
     requires first { mode_of mode.old ≡ first }
     requires shallow { open_of (mode_of mode.old) (frames_of frames.old.items) ≤ 64 }
-    ensures { IfOk result (λ rest. Passes (mode_of mode.old, frames_of frames.old.items) bytes.now (mode_of mode.new, frames_of frames.new.items) rest.now) }
+    ensures { IfOk result (λ rest. Passes (mode_of mode.old, frames_of frames.old.items) bytes.now
+        (mode_of mode.new, frames_of frames.new.items) rest.now) }
 {
     let Some((text, end)) = plain_number(bytes) else {
         return Ok(bytes);
@@ -341,7 +348,8 @@ pub fn leap<'a>(
     bytes: &'a [u8],
 ) -> Result<&'a [u8], AllocError>
     requires { open_of (mode_of mode.old) (frames_of frames.old.items) ≤ 64 }
-    ensures { IfOk result (λ rest. Passes (mode_of mode.old, frames_of frames.old.items) bytes.now (mode_of mode.new, frames_of frames.new.items) rest.now) }
+    ensures { IfOk result (λ rest. Passes (mode_of mode.old, frames_of frames.old.items) bytes.now
+        (mode_of mode.new, frames_of frames.new.items) rest.now) }
 {
     match mode {
         Mode::Value => leap_value(alloc, frames, mode, bytes),

@@ -20,7 +20,8 @@ pub fn advance<'a>(
     byte: u8,
 ) -> Result<(), Stop>
     requires { open_of (mode_of mode.old) (frames_of frames.old.items) ≤ 64 }
-    ensures { Advances result mode.new frames.new.items (spec_step (mode_of mode.old) (frames_of frames.old.items) byte) }
+    ensures { Advances result mode.new frames.new.items
+        (spec_step (mode_of mode.old) (frames_of frames.old.items) byte) }
 {
     if push_plain(mode, byte)? || push_number_digit(mode, byte)? {
         return Ok(());
@@ -39,7 +40,8 @@ pub fn step<'a>(
     byte: u8,
 ) -> Result<Mode<'a>, Stop>
     requires { open_of (mode_of mode) (frames_of frames.old.items) ≤ 64 }
-    ensures { Steps result frames.new.items (spec_step (mode_of mode.entry) (frames_of frames.old.items) byte) }
+    ensures { Steps result frames.new.items
+        (spec_step (mode_of mode.entry) (frames_of frames.old.items) byte) }
 {
     match mode {
         Mode::Begin => if byte == 0xEF {

@@ -58,7 +58,8 @@ pub fn colon_next<'a>(
     byte: u8,
 ) -> Result<Mode<'a>, Stop>
     requires { length frames.old.items < 64 }
-    ensures { Steps result frames.new.items (colon_step (members_view members.entry) key.entry (frames_of frames.old.items) byte) }
+    ensures { Steps result frames.new.items
+        (colon_step (members_view members.entry) key.entry (frames_of frames.old.items) byte) }
 {
     if is_space(byte) {
         return Ok(Mode::Colon(members, key));
@@ -86,7 +87,8 @@ pub fn put_member<'a>(
     key: LentText<'a>,
     value: Lent<'a>,
 ) -> Result<Members<'a>, AllocError>
-    ensures { IfOk result (λ after. members_view after ≡ put key.entry (lent_of value.entry) (members_view members.entry)) }
+    ensures { IfOk result (λ after.
+        members_view after ≡ put key.entry (lent_of value.entry) (members_view members.entry)) }
 {
     match members {
         Members::Few(few) => if few.pairs.len() < MOST_IN_LIST {

@@ -20,7 +20,8 @@ use std::alloc::{AllocError, Global};
 
 // The value, where the bytes may end here.
 fn finish<'a>(frames: Vec<Frame<'a>>, mode: Mode<'a>) -> Option<Lent<'a>>
-    ensures { option_map lent_of result ≡ spec_finish (mode_of mode.entry) (frames_of frames.entry.items) }
+    ensures { option_map lent_of result
+        ≡ spec_finish (mode_of mode.entry) (frames_of frames.entry.items) }
 {
     if !frames.is_empty() {
         return None;
@@ -49,8 +50,10 @@ pub fn read(alloc: Global, bytes: &[u8]) -> Result<Json, JsonFault>
     ensures ok { IfOk result (λ value. IsText bytes.now (tree_of value)) }
     ensures writable { IfOk result (λ value. IsWritable (tree_of value)) }
     ensures text { (tree : Tree) → IsText bytes.now tree → GivesTree tree_of result tree }
-    ensures not_json { (at : ℕ) → RefusesExactly result (JsonFault.NotJson at) JsonFault.Memory (IsNotJson bytes.now at) }
-    ensures deep { (at : ℕ) → RefusesExactly result (JsonFault.Deep at) JsonFault.Memory (IsDeep bytes.now at) }
+    ensures not_json { (at : ℕ) →
+        RefusesExactly result (JsonFault.NotJson at) JsonFault.Memory (IsNotJson bytes.now at) }
+    ensures deep { (at : ℕ) →
+        RefusesExactly result (JsonFault.Deep at) JsonFault.Memory (IsDeep bytes.now at) }
 {
     scan_and_copy(alloc, bytes)
 }
@@ -64,8 +67,10 @@ pub fn lend<'a>(alloc: Global, bytes: &'a [u8]) -> Result<Lent<'a>, JsonFault>
     ensures ok { IfOk result (λ value. IsText bytes.now (lent_of value)) }
     ensures writable { IfOk result (λ value. IsWritable (lent_of value)) }
     ensures text { (tree : Tree) → IsText bytes.now tree → GivesTree lent_of result tree }
-    ensures not_json { (at : ℕ) → RefusesExactly result (JsonFault.NotJson at) JsonFault.Memory (IsNotJson bytes.now at) }
-    ensures deep { (at : ℕ) → RefusesExactly result (JsonFault.Deep at) JsonFault.Memory (IsDeep bytes.now at) }
+    ensures not_json { (at : ℕ) →
+        RefusesExactly result (JsonFault.NotJson at) JsonFault.Memory (IsNotJson bytes.now at) }
+    ensures deep { (at : ℕ) →
+        RefusesExactly result (JsonFault.Deep at) JsonFault.Memory (IsDeep bytes.now at) }
 {
     scan(alloc, bytes)
 }

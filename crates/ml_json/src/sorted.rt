@@ -35,7 +35,8 @@ fn put_in_order<'a>(
     value: Lent<'a>,
 ) -> Result<(), AllocError>
     requires { IsAscending (lent_pairs_view pairs.old.items) }
-    ensures { OnOk result (lent_pairs_view pairs.new.items ≡ put key.entry (lent_of value.entry) (lent_pairs_view pairs.old.items)) }
+    ensures { OnOk result (lent_pairs_view pairs.new.items
+        ≡ put key.entry (lent_of value.entry) (lent_pairs_view pairs.old.items)) }
 {
     match place_of(pairs.as_slice(), &key) {
         Ok(place) => {
@@ -55,7 +56,8 @@ pub fn put_in_list<'a>(
     key: LentText<'a>,
     value: Lent<'a>,
 ) -> Result<Sorted<'a>, AllocError>
-    ensures { IfOk result (λ after. lent_pairs_view after.pairs.items ≡ put key.entry (lent_of value.entry) (lent_pairs_view list.entry.pairs.items)) }
+    ensures { IfOk result (λ after. lent_pairs_view after.pairs.items
+        ≡ put key.entry (lent_of value.entry) (lent_pairs_view list.entry.pairs.items)) }
 {
     let Sorted { mut pairs } = list;
     put_in_order(&mut pairs, key, value)?;
@@ -68,7 +70,8 @@ pub fn put_in_tree<'a>(
     key: LentText<'a>,
     value: Lent<'a>,
 ) -> Result<(), AllocError>
-    ensures { OnOk result (entries_view tree.new.entries ≡ put key.entry (lent_of value.entry) (entries_view tree.old.entries)) }
+    ensures { OnOk result (entries_view tree.new.entries
+        ≡ put key.entry (lent_of value.entry) (entries_view tree.old.entries)) }
 {
     let _replaced = tree.insert(key, value)?;
     Ok(())
@@ -79,7 +82,8 @@ pub fn tree_of_list<'a>(
     alloc: Global,
     list: Sorted<'a>,
 ) -> Result<BTreeMap<LentText<'a>, Lent<'a>>, AllocError>
-    ensures { IfOk result (λ tree. entries_view tree.entries ≡ lent_pairs_view list.entry.pairs.items) }
+    ensures { IfOk result
+        (λ tree. entries_view tree.entries ≡ lent_pairs_view list.entry.pairs.items) }
 {
     let mut tree = BTreeMap::new(alloc);
     for pair in list.pairs {

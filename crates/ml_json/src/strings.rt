@@ -13,7 +13,8 @@ use std::alloc::Global;
 
 /// The mode behind a byte that is no part of an escape or of a character that has begun.
 pub fn text_next<'a>(alloc: Global, open_text: Open<'a>, byte: u8) -> Result<Mode<'a>, Stop>
-    ensures { Goes result (λ st. text_step (owner_of open_text.entry.owner) open_text.entry.half (string_bytes open_text.entry.text) st byte) }
+    ensures { Goes result (λ st. text_step (owner_of open_text.entry.owner) open_text.entry.half
+        (string_bytes open_text.entry.text) st byte) }
 {
     match byte {
         b'"' => {
@@ -70,7 +71,8 @@ pub fn push_plain<'a>(mode: &mut Mode<'a>, byte: u8) -> Result<bool, Stop>
 
 /// The mode behind a byte of a character that has begun.
 pub fn bytes_next<'a>(open_text: Open<'a>, partial: Partial, byte: u8) -> Result<Mode<'a>, Stop>
-    ensures { Goes result (λ st. bytes_step (owner_of open_text.entry.owner) open_text.entry.half (string_bytes open_text.entry.text) (tail_of partial.tail) partial.got.items st byte) }
+    ensures { Goes result (λ st. bytes_step (owner_of open_text.entry.owner) open_text.entry.half
+        (string_bytes open_text.entry.text) (tail_of partial.tail) partial.got.items st byte) }
 {
     let Partial { tail, mut got } = partial;
     if !may_follow(tail, byte) {
@@ -99,7 +101,8 @@ pub fn bytes_next<'a>(open_text: Open<'a>, partial: Partial, byte: u8) -> Result
 
 /// The mode behind the byte after a backslash.
 pub fn escape_next<'a>(open_text: Open<'a>, byte: u8) -> Result<Mode<'a>, Stop>
-    ensures { Goes result (λ st. escape_step (owner_of open_text.entry.owner) open_text.entry.half (string_bytes open_text.entry.text) st byte) }
+    ensures { Goes result (λ st. escape_step (owner_of open_text.entry.owner) open_text.entry.half
+        (string_bytes open_text.entry.text) st byte) }
 {
     if byte == b'u' {
         return Ok(Mode::Hex(open_text, Code { left: 3, sum: 0 }));
@@ -121,7 +124,8 @@ pub fn escape_next<'a>(open_text: Open<'a>, byte: u8) -> Result<Mode<'a>, Stop>
 
 /// The mode behind one of the four digits of an escape.
 pub fn hex_next<'a>(open_text: Open<'a>, code: Code, byte: u8) -> Result<Mode<'a>, Stop>
-    ensures { Goes result (λ st. hex_step (owner_of open_text.entry.owner) open_text.entry.half (string_bytes open_text.entry.text) code.left code.sum st (spec_hex_digit byte)) }
+    ensures { Goes result (λ st. hex_step (owner_of open_text.entry.owner) open_text.entry.half
+        (string_bytes open_text.entry.text) code.left code.sum st (spec_hex_digit byte)) }
 {
     match hex_digit(byte) {
         None => Err(Stop::NotJson),

@@ -80,7 +80,8 @@ pub fn number_next<'a>(
     byte: u8,
 ) -> Result<Mode<'a>, Stop>
     requires { length frames.old.items ≤ 64 }
-    ensures { Steps result frames.new.items (number_step (part_of part) (string_bytes text) (frames_of frames.old.items) byte (spec_go_on (part_of part) byte)) }
+    ensures { Steps result frames.new.items (number_step (part_of part) (string_bytes text)
+        (frames_of frames.old.items) byte (spec_go_on (part_of part) byte)) }
 {
     match go_on(part, byte) {
         Some(next) => {

@@ -19,8 +19,10 @@ use std::alloc::{AllocError, Global};
 /// Out of memory.
 pub fn write(alloc: Global, value: &Json) -> Result<Seq<u8>, AllocError>
     ensures ok { IfOk result (λ text. text ≡ canonical (tree_of value.now)) }
-    ensures reads { IsPrintable (tree_of value.now) → IfOk result (λ text. IsText text (settled (tree_of value.now))) }
-    ensures back { IsWritable (tree_of value.now) → IfOk result (λ text. IsText text (tree_of value.now)) }
+    ensures reads { IsPrintable (tree_of value.now) →
+        IfOk result (λ text. IsText text (settled (tree_of value.now))) }
+    ensures back { IsWritable (tree_of value.now) →
+        IfOk result (λ text. IsText text (tree_of value.now)) }
 {
     let mut out = Vec::new(alloc);
     put_value(&mut out, value)?;
@@ -30,7 +32,8 @@ pub fn write(alloc: Global, value: &Json) -> Result<Seq<u8>, AllocError>
 // Puts a value's text behind what was written.
 #[cycle(writing)]
 fn put_value(out: &mut Vec<u8>, value: &Json) -> Result<(), AllocError>
-    ensures text { OnOk result ((r : List ℕ) → out.new.items ++ r ≡ out.old.items ++ tree_on (tree_of value.now) r) }
+    ensures text { OnOk result
+        ((r : List ℕ) → out.new.items ++ r ≡ out.old.items ++ tree_on (tree_of value.now) r) }
     ensures utf8 { OnOk result (HasUtf8 (tree_of value.now)) }
 {
     match value {
@@ -47,7 +50,8 @@ fn put_value(out: &mut Vec<u8>, value: &Json) -> Result<(), AllocError>
 // Puts a list behind what was written.
 #[cycle(writing)]
 fn put_items(out: &mut Vec<u8>, items: &[Json]) -> Result<(), AllocError>
-    ensures text { OnOk result ((r : List ℕ) → out.new.items ++ r ≡ out.old.items ++ 91 ∷ items_on (trees_view items.now) r) }
+    ensures text { OnOk result ((r : List ℕ) →
+        out.new.items ++ r ≡ out.old.items ++ 91 ∷ items_on (trees_view items.now) r) }
     ensures utf8 { OnOk result (AllHaveUtf8 (trees_view items.now)) }
 {
     match items {
@@ -68,7 +72,8 @@ fn put_items(out: &mut Vec<u8>, items: &[Json]) -> Result<(), AllocError>
 // Puts a map behind what was written.
 #[cycle(writing)]
 fn put_members(out: &mut Vec<u8>, pairs: &[Pair]) -> Result<(), AllocError>
-    ensures text { OnOk result ((r : List ℕ) → out.new.items ++ r ≡ out.old.items ++ 123 ∷ members_on (pairs_view pairs.now) r) }
+    ensures text { OnOk result ((r : List ℕ) →
+        out.new.items ++ r ≡ out.old.items ++ 123 ∷ members_on (pairs_view pairs.now) r) }
     ensures utf8 { OnOk result (AllPairsHaveUtf8 (pairs_view pairs.now)) }
 {
     match pairs {
@@ -89,7 +94,8 @@ fn put_members(out: &mut Vec<u8>, pairs: &[Pair]) -> Result<(), AllocError>
 // Puts a key, a colon and a value behind what was written.
 #[cycle(writing)]
 fn put_member(out: &mut Vec<u8>, pair: &Pair) -> Result<(), AllocError>
-    ensures text { OnOk result ((r : List ℕ) → out.new.items ++ r ≡ out.old.items ++ string_on (pair_of pair.now).0 (58 ∷ tree_on (pair_of pair.now).1 r)) }
+    ensures text { OnOk result ((r : List ℕ) → out.new.items ++ r
+        ≡ out.old.items ++ string_on (pair_of pair.now).0 (58 ∷ tree_on (pair_of pair.now).1 r)) }
     ensures utf8 { OnOk result (IsUtf8 (pair_of pair.now).0 × HasUtf8 (pair_of pair.now).1) }
 {
     put_string(out, &pair.key)?;
@@ -99,7 +105,8 @@ fn put_member(out: &mut Vec<u8>, pair: &Pair) -> Result<(), AllocError>
 
 // Puts a string between quotes behind what was written.
 fn put_string(out: &mut Vec<u8>, text: &Text) -> Result<(), AllocError>
-    ensures text { OnOk result ((r : List ℕ) → out.new.items ++ r ≡ out.old.items ++ string_on text.now r) }
+    ensures text { OnOk result
+        ((r : List ℕ) → out.new.items ++ r ≡ out.old.items ++ string_on text.now r) }
     ensures utf8 { IsUtf8 text.now }
 {
     let bytes = text.as_str().as_bytes();

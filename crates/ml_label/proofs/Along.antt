@@ -30,15 +30,18 @@ pub record TextLaws : Type 0 where
   pub narrow : (c : RiverClass) (run : List Pos) (x y : ℤ) (advances : List ℕ) (boxes : List BoxPx) → 0 < length advances → IsChain c run x y advances boxes → width c (sum advances) ≤ 1024
 
 -- a text that is wider than a chain may be has none
-shape_straight : (laws : TextLaws) (c : RiverClass) (run : List Pos) (x y : ℤ) (advances : List ℕ) (s : Shape) → 0 < length advances → 1025 ≤ width c (sum advances) → IsShape c run x y advances s → s ≡ Straight
+shape_straight : (laws : TextLaws) (c : RiverClass) (run : List Pos) (x y : ℤ) (advances : List ℕ) (s : Shape) →
+    0 < length advances → 1025 ≤ width c (sum advances) → IsShape c run x y advances s → s ≡ Straight
 shape_straight laws c run x y advances (Chain boxes) some wide h = absurd (let low = laws.narrow c run x y advances boxes some h in omega arith)
 shape_straight laws c run x y advances Straight some wide h = refl
 
-placed_straight : (laws : TextLaws) (c : RiverClass) (lines : List (List Pos)) (advances : List ℕ) (placed : Placed) → 0 < length advances → 1025 ≤ width c (sum advances) → IsPlaced c lines advances placed → placed.shape ≡ Straight
+placed_straight : (laws : TextLaws) (c : RiverClass) (lines : List (List Pos)) (advances : List ℕ) (placed : Placed) →
+    0 < length advances → 1025 ≤ width c (sum advances) → IsPlaced c lines advances placed → placed.shape ≡ Straight
 placed_straight laws c lines advances placed some wide (inl on) = shape_straight laws c _ placed.anchor.x placed.anchor.y advances placed.shape some wide on.on.shape_is
 placed_straight laws c lines advances placed some wide (inr start) = start.straight
 
-river_straight : (laws : TextLaws) (shape : Geometry) (c : RiverClass) (advances : List ℕ) (placed : Placed) → 0 < length advances → 1025 ≤ width c (sum advances) → IsRiver shape advances c (Some placed) → placed.shape ≡ Straight
+river_straight : (laws : TextLaws) (shape : Geometry) (c : RiverClass) (advances : List ℕ) (placed : Placed) →
+    0 < length advances → 1025 ≤ width c (sum advances) → IsRiver shape advances c (Some placed) → placed.shape ≡ Straight
 river_straight laws (Point place) c advances placed some wide h = absurd (let f : true ≡ false = h in cc)
 river_straight laws (MultiPoint places) c advances placed some wide h = absurd (let f : true ≡ false = h in cc)
 river_straight laws (LineString line) c advances placed some wide h = placed_straight laws c (line ∷ []) advances placed some wide h
@@ -76,7 +79,8 @@ module _ (laws : TextLaws) (font : Font) (class : Class) (text : List ℕ) (u : 
   lies_straight shape placed along = river_straight laws shape along.river (advances_of font text) placed some (wide_along along.river along.measured) along.placed_is
 
 -- by the kind of the class
-straight_by : (laws : TextLaws) (kind : Kind) (font : Font) (class : Class) (shape : Geometry) (text : List ℕ) → IsUtf8 text → IsTooWide (shift kind class.dx) (width_of font class.size text) → LiesStraight kind font class shape text
+straight_by : (laws : TextLaws) (kind : Kind) (font : Font) (class : Class) (shape : Geometry) (text : List ℕ) →
+    IsUtf8 text → IsTooWide (shift kind class.dx) (width_of font class.size text) → LiesStraight kind font class shape text
 straight_by laws PointKind font class shape text u h = tt
 straight_by laws LineKind font class shape text u h = lies_straight laws font class text u h shape
 straight_by laws AreaKind font class shape text u h = tt

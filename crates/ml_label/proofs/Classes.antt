@@ -27,7 +27,8 @@ one_kind AreaKind AreaKind h = refl
 -- the class of a feature with a shape
 pub kind_fits : (style : Style) (feature : Feature) (shape : Geometry) (class : Class) → feature.geometry ≡ Some shape → IsClassOf style feature class → kind_of shape ≡ class.kind
 kind_fits style feature shape class shaped is =
-    let there : position (applies (kind_of shape) feature.props) style.classes ≡ Some is.0 = ap (λ (g : Option Geometry). option_and_then (λ (s : Geometry). position (applies (kind_of s) feature.props) style.classes) g) (sym shaped) ∙ is.1 in
+    let there : position (applies (kind_of shape) feature.props) style.classes ≡ Some is.0 =
+    ap (λ (g : Option Geometry). option_and_then (λ (s : Geometry). position (applies (kind_of s) feature.props) style.classes) g) (sym shaped) ∙ is.1 in
     let found = position-Some (applies (kind_of shape) feature.props) style.classes is.0 class there in
     let same = get_or_from_slice_get style.classes is.0 class class is.2 in
     let fit : applies (kind_of shape) feature.props class ≡ true = subst (λ (x : Class). applies (kind_of shape) feature.props x ≡ true) same found.1 in

@@ -17,7 +17,8 @@ module _ (style : Style) where
   rest_of f fs a given all = (let one = all.one_each in record { one_each = omega arith; each = λ k g b h. all.each (suc k) g b (omega arith) })
 
   -- one answer more in front
-  more_of : (f : Feature) (fs : List Feature) (a : Result Label Reason) (given : List (Result Label Reason)) → IsLabelling style f a → AreLabellings style fs given → AreLabellings style (f ∷ fs) (a ∷ given)
+  more_of : (f : Feature) (fs : List Feature) (a : Result Label Reason) (given : List (Result Label Reason)) →
+      IsLabelling style f a → AreLabellings style fs given → AreLabellings style (f ∷ fs) (a ∷ given)
   more_of f fs a given is all = (let one = all.one_each in record { one_each = omega arith; each = each })
     where
       each : (k : ℕ) (g : Feature) (b : Result Label Reason) → k < length (f ∷ fs) → IsLabelling style (get_or (f ∷ fs) k g) (get_or (a ∷ given) k b)
@@ -30,7 +31,8 @@ module _ (style : Style) where
 
   -- a feature with a label in front of others
   pub labelled : (f : Feature) (fs : List Feature) (label : Label) (labels : List Label) → IsLabelling style f (Ok label) → AreUnsorted style fs labels → AreUnsorted style (f ∷ fs) (label ∷ labels)
-  labelled f fs label labels is rest = record { answers = Ok label ∷ rest.answers; answered = more_of f fs (Ok label) rest.answers is rest.answered; labels_are = ap (λ (ls : List Label). label ∷ ls) rest.labels_are }
+  labelled f fs label labels is rest =
+      record { answers = Ok label ∷ rest.answers; answered = more_of f fs (Ok label) rest.answers is rest.answered; labels_are = ap (λ (ls : List Label). label ∷ ls) rest.labels_are }
 
   -- a feature without a label in front of others
   pub unlabelled : (f : Feature) (fs : List Feature) (reason : Reason) (labels : List Label) → IsLabelling style f (Err reason) → AreUnsorted style fs labels → AreUnsorted style (f ∷ fs) labels
@@ -54,18 +56,23 @@ module _ (style : Style) where
   ids_kept P [] (a ∷ given) all h = absurd (let one = all.one_each in omega arith)
   ids_kept P (f ∷ fs) (Ok label ∷ given) all h =
       let is = all.each zero f (Ok label) (omega arith) in
-      All-cons (λ l. P l.order.id) label (labels_in given) (subst P (sym is.ordered.id_is) (h zero f (omega arith))) (ids_kept P fs given (rest_of f fs (Ok label) given all) (λ k d t. h (suc k) d (omega arith)))
+      All-cons (λ l. P l.order.id) label (labels_in given) (subst P (sym is.ordered.id_is) (h zero f (omega arith)))
+      (ids_kept P fs given (rest_of f fs (Ok label) given all) (λ k d t. h (suc k) d (omega arith)))
   ids_kept P (f ∷ fs) (Err reason ∷ given) all h = ids_kept P fs given (rest_of f fs (Err reason) given all) (λ k d t. h (suc k) d (omega arith))
 
-  ids_differ : (fs : List Feature) (given : List (Result Label Reason)) → AreLabellings style fs given → AllPairs (λ (f g : Feature). f.id ≢ g.id) fs → AllPairs (λ (a b : Label). a.order.id ≢ b.order.id) (labels_in given)
+  ids_differ : (fs : List Feature) (given : List (Result Label Reason)) → AreLabellings style fs given →
+      AllPairs (λ (f g : Feature). f.id ≢ g.id) fs → AllPairs (λ (a b : Label). a.order.id ≢ b.order.id) (labels_in given)
   ids_differ fs [] all h = λ i j d l t. absurd (omega arith)
   ids_differ [] (a ∷ given) all h = absurd (let one = all.one_each in omega arith)
   ids_differ (f ∷ fs) (Ok label ∷ given) all h =
       let is = all.each zero f (Ok label) (omega arith) in
       let others : All (λ g. label.order.id ≢ g.id) fs = λ k d t. subst (λ (id : List ℕ). id ≢ (get_or fs k d).id) (sym is.ordered.id_is) (h zero (suc k) d (omega arith) (omega arith)) in
-      AllPairs-cons (λ (a b : Label). a.order.id ≢ b.order.id) label (labels_in given) (ids_kept (λ id. label.order.id ≢ id) fs given (rest_of f fs (Ok label) given all) others) (ids_differ fs given (rest_of f fs (Ok label) given all) (λ i j d l t. h (suc i) (suc j) d (omega arith) (omega arith)))
+      AllPairs-cons (λ (a b : Label). a.order.id ≢ b.order.id) label (labels_in given)
+      (ids_kept (λ id. label.order.id ≢ id) fs given (rest_of f fs (Ok label) given all) others)
+      (ids_differ fs given (rest_of f fs (Ok label) given all) (λ i j d l t. h (suc i) (suc j) d (omega arith) (omega arith)))
   ids_differ (f ∷ fs) (Err reason ∷ given) all h = ids_differ fs given (rest_of f fs (Err reason) given all) (λ i j d l t. h (suc i) (suc j) d (omega arith) (omega arith))
 
   -- features with ids of their own have labels with ids of their own
-  pub own_ids : (features : List Feature) (labels : List Label) → AreUnsorted style features labels → AllPairs (λ (f g : Feature). f.id ≢ g.id) features → AllPairs (λ (a b : Label). a.order.id ≢ b.order.id) labels
+  pub own_ids : (features : List Feature) (labels : List Label) → AreUnsorted style features labels →
+      AllPairs (λ (f g : Feature). f.id ≢ g.id) features → AllPairs (λ (a b : Label). a.order.id ≢ b.order.id) labels
   own_ids features labels is differ = rw (sym is.labels_are) at (ids_differ features is.answers is.answered differ)

@@ -34,7 +34,8 @@ module _ (style : Style) (feature : Feature) where
       same_Some c d (sym p.2 ∙ (ap (λ (k : ℕ). slice_get style.classes k) place ∙ q.2))
 
   -- shape, class, font and name are each one: what holds of some holds of the others
-  along_names : (s t : Geometry) (c d : Class) (f g : Font) (x y : List ℕ) (P : Geometry → Class → Font → List ℕ → Type 0) → IsNamed style feature s c f x → IsNamed style feature t d g y → P t d g y → P s c f x
+  along_names : (s t : Geometry) (c d : Class) (f g : Font) (x y : List ℕ) (P : Geometry → Class → Font → List ℕ → Type 0) →
+      IsNamed style feature s c f x → IsNamed style feature t d g y → P t d g y → P s c f x
   along_names s t c d f g x y P p q holds =
       let shape = same_Some t s (sym q.shape_is ∙ p.shape_is) in
       let class = one_class d c q.class_is p.class_is in
@@ -45,7 +46,8 @@ module _ (style : Style) (feature : Feature) where
   same_label : (laws : PlaceLaws) (a b : Label) → IsFeatureLabel style feature a → IsFeatureLabel style feature b → IsSameLabel a b
   same_label laws a b p q =
       let ordered : IsOrdered style feature p.class b = along_names p.shape q.shape p.class q.class p.font q.font p.text q.text (λ s c f x. IsOrdered style feature c b) p.named q.named q.ordered in
-      let placed : IsPlacing p.font p.class p.shape p.text q.placing = along_names p.shape q.shape p.class q.class p.font q.font p.text q.text (λ s c f x. IsPlacing f c s x q.placing) p.named q.named q.placed in
+      let placed : IsPlacing p.font p.class p.shape p.text q.placing =
+      along_names p.shape q.shape p.class q.class p.font q.font p.text q.text (λ s c f x. IsPlacing f c s x q.placing) p.named q.named q.placed in
       let shaped : IsGeometry p.shape = subst IsSomeGeometry p.named.shape_is feature.shaped in
       let same = one_placing laws p.font p.class p.shape p.text p.placing q.placing shaped p.placed placed in
       record {

@@ -37,5 +37,6 @@ pub sorted_labels : {F : Type 0} {g : Mut F (Bor Label × (Bor Label × Unit {0}
     → ((f : F) (a : Bor Label × (Bor Label × Unit {0})) (r : Ordering) (f' : F) → Called g f a r f' → r ≡ order_cmp a.0.now.order a.1.0.now.order) → IsLabelList ordered
 sorted_labels {g = g} {f = f} labels ordered differ moved up calls =
     in_order ordered
-    (up (λ one other. is_lt (order_cmp one.order other.order)) (ranks_by order_total (λ label. label.order)) (answers_always g (λ a r. is_lt r ≡ is_lt (order_cmp a.0.now.order a.1.0.now.order)) f (λ f a r f' call. ap is_lt (calls f a r f' call))))
+    (up (λ one other. is_lt (order_cmp one.order other.order)) (ranks_by order_total (λ label. label.order))
+    (answers_always g (λ a r. is_lt r ≡ is_lt (order_cmp a.0.now.order a.1.0.now.order)) f (λ f a r f' call. ap is_lt (calls f a r f' call))))
     (still_differ (λ label. label.order.id) labels ordered moved differ)

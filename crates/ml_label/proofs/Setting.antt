@@ -32,14 +32,18 @@ module _ (font : Font) (class : Class) (text : List ℕ) where
   too_wide dx w dx_is w_is wide = rw dx_is at (wider dx w (width_of font class.size text) (omega arith) wide)
 
   -- the box of a text that is not too wide
-  pub in_box : (dx dy : ℤ) (w : ℕ) (box : BoxPx) → IsOffset dx → dx ≡ shift class.kind class.dx → dy ≡ shift class.kind class.dy → w ≡ min (width_of font class.size text) 18446744073709551615 → ¬ (IsTooWide dx w) → IsStraight dx dy w class.size box → IsBox box.l box.b box.r box.t → IsTextBox font class text box × ¬ (IsTooWideText font class text) × IsBox box.l box.b box.r box.t
+  pub in_box : (dx dy : ℤ) (w : ℕ) (box : BoxPx) → IsOffset dx → dx ≡ shift class.kind class.dx → dy ≡ shift class.kind class.dy →
+      w ≡ min (width_of font class.size text) 18446744073709551615 → ¬ (IsTooWide dx w) → IsStraight dx dy w class.size box →
+      IsBox box.l box.b box.r box.t → IsTextBox font class text box × ¬ (IsTooWideText font class text) × IsBox box.l box.b box.r box.t
   in_box dx dy w box moved dx_is dy_is w_is narrow straight good =
       let low = not_wide dx w moved narrow in
       let whole : w ≡ width_of font class.size text = omega arith in
       (rw (dx_is, dy_is, whole) at straight, rw (dx_is, whole) at narrow, good)
 
   -- the advances along a line of a text that is not too wide
-  pub short : (all : List Cluster) (advances : List ℕ) → class.kind ≡ LineKind → ¬ (IsTooWideText font class text) → (advance_sum font text < 18446744073709551616 → sum_by (λ (c : Cluster). c.advance) all ≡ advance_sum font text) → advances ≡ map (λ (c : Cluster). c.advance) all → sum advances < 2 ^ 48
+  pub short : (all : List Cluster) (advances : List ℕ) → class.kind ≡ LineKind → ¬ (IsTooWideText font class text) →
+      (advance_sum font text < 18446744073709551616 → sum_by (λ (c : Cluster). c.advance) all ≡ advance_sum font text) →
+      advances ≡ map (λ (c : Cluster). c.advance) all → sum advances < 2 ^ 48
   short all advances is_line narrow total are =
       let unmoved : shift class.kind class.dx ≡ pos 0 = ap (λ (k : Kind). shift k class.dx) is_line in
       let pixels = narrow_pixels (width_of font class.size text) (rw unmoved at narrow) in
@@ -49,7 +53,9 @@ module _ (font : Font) (class : Class) (text : List ℕ) where
       omega arith
 
 -- where the clusters lie along a line
-pub along_is : (font : Font) (class : Class) (shape : Geometry) (text : List ℕ) (river : RiverClass) (all : List Cluster) (advances : List ℕ) (answer : Option Placed) (placed : Placed) → IsRiverClass font class river → all ≡ clusters_of font text → advances ≡ map (λ (c : Cluster). c.advance) all → IsRiver shape advances river answer → answer ≡ Some placed → IsAlong font class shape text placed
+pub along_is : (font : Font) (class : Class) (shape : Geometry) (text : List ℕ) (river : RiverClass) (all : List Cluster)
+    (advances : List ℕ) (answer : Option Placed) (placed : Placed) → IsRiverClass font class river → all ≡ clusters_of font text →
+    advances ≡ map (λ (c : Cluster). c.advance) all → IsRiver shape advances river answer → answer ≡ Some placed → IsAlong font class shape text placed
 along_is font class shape text river all advances answer placed measured clusters are is some =
     let same : advances ≡ advances_of font text = are ∙ ap (λ (l : List Cluster). map (λ (c : Cluster). c.advance) l) clusters in
     record { river = river; measured = measured; placed_is = rw (same, some) at is }
@@ -68,11 +74,13 @@ shape_boxes c run x y advances (Chain there) boxes is same =
     rw e at these
 shape_boxes c run x y advances Straight boxes is same = absurd (cc)
 
-placed_boxes : (c : RiverClass) (lines : List (List Pos)) (advances : List ℕ) (placed : Placed) (boxes : List BoxPx) → IsPlaced c lines advances placed → placed.shape ≡ Chain boxes → AreChainBoxes advances boxes
+placed_boxes : (c : RiverClass) (lines : List (List Pos)) (advances : List ℕ) (placed : Placed) (boxes : List BoxPx) →
+    IsPlaced c lines advances placed → placed.shape ≡ Chain boxes → AreChainBoxes advances boxes
 placed_boxes c lines advances placed boxes (inl on) same = shape_boxes c _ placed.anchor.x placed.anchor.y advances placed.shape boxes on.on.shape_is same
 placed_boxes c lines advances placed boxes (inr start) same = absurd (let other = sym start.straight ∙ same in cc)
 
-river_boxes : (shape : Geometry) (c : RiverClass) (advances : List ℕ) (placed : Placed) (boxes : List BoxPx) → IsRiver shape advances c (Some placed) → placed.shape ≡ Chain boxes → AreChainBoxes advances boxes
+river_boxes : (shape : Geometry) (c : RiverClass) (advances : List ℕ) (placed : Placed) (boxes : List BoxPx) →
+    IsRiver shape advances c (Some placed) → placed.shape ≡ Chain boxes → AreChainBoxes advances boxes
 river_boxes (Point place) c advances placed boxes h same = absurd (let f : true ≡ false = h in cc)
 river_boxes (MultiPoint places) c advances placed boxes h same = absurd (let f : true ≡ false = h in cc)
 river_boxes (LineString line) c advances placed boxes h same = placed_boxes c (line ∷ []) advances placed boxes h same
@@ -82,7 +90,9 @@ river_boxes (MultiPolygon parts) c advances placed boxes h same = absurd (let f 
 
 module _ (font : Font) (class : Class) (shape : Geometry) (text : List ℕ) (placed : Placed) (along : IsAlong font class shape text placed) where
   -- the boxes of a chain with the pieces of a text
-  pub chain_fits : (boxes : List BoxPx) (all : List Cluster) (pieces : List (List ℕ)) → placed.shape ≡ Chain boxes → all ≡ clusters_of font text → 0 < length all → pieces ≡ map (λ (c : Cluster). c.text) all → (0 < length boxes) × (length boxes ≤ 64) × All (λ p. IsBox p.l p.b p.r p.t) boxes × (length pieces ≡ length boxes)
+  pub chain_fits : (boxes : List BoxPx) (all : List Cluster) (pieces : List (List ℕ)) → placed.shape ≡ Chain boxes →
+      all ≡ clusters_of font text → 0 < length all → pieces ≡ map (λ (c : Cluster). c.text) all →
+      (0 < length boxes) × (length boxes ≤ 64) × All (λ p. IsBox p.l p.b p.r p.t) boxes × (length pieces ≡ length boxes)
   chain_fits boxes all pieces same clusters some are =
       let is = river_boxes shape along.river (advances_of font text) placed boxes along.placed_is same in
       let advances : length (advances_of font text) ≡ length all = length-map (clusters_of font text) (λ (c : Cluster). c.advance) ∙ ap length (sym clusters) in
@@ -93,17 +103,21 @@ module _ (font : Font) (class : Class) (shape : Geometry) (text : List ℕ) (pla
       (some_box, is.0, is.2, one_each)
 
   -- a chain
-  pub chained : (boxes : List BoxPx) (all : List Cluster) (placing : Placing) → placed.shape ≡ Chain boxes → all ≡ clusters_of font text → placing.anchor ≡ placed.anchor → placing.boxes ≡ boxes → placing.pieces ≡ map (λ (c : Cluster). c.text) all → IsPlacedAlong font class shape text placing
+  pub chained : (boxes : List BoxPx) (all : List Cluster) (placing : Placing) → placed.shape ≡ Chain boxes → all ≡ clusters_of font text →
+      placing.anchor ≡ placed.anchor → placing.boxes ≡ boxes → placing.pieces ≡ map (λ (c : Cluster). c.text) all → IsPlacedAlong font class shape text placing
   chained boxes all placing same clusters anchor are pieces =
       let texts : placing.pieces ≡ pieces_of font text = pieces ∙ ap (λ (l : List Cluster). map (λ (c : Cluster). c.text) l) clusters in
       record { placed = placed; along = along; anchor_is = anchor; boxes = subst (λ (s : Shape). HasBoxes font class text s placing) (sym same) (are, texts) }
 
   -- one straight box
-  pub straightened : (box : BoxPx) (placing : Placing) → placed.shape ≡ Straight → IsTextBox font class text box → placing.anchor ≡ placed.anchor → IsOneBox box text placing → IsPlacedAlong font class shape text placing
+  pub straightened : (box : BoxPx) (placing : Placing) → placed.shape ≡ Straight → IsTextBox font class text box →
+      placing.anchor ≡ placed.anchor → IsOneBox box text placing → IsPlacedAlong font class shape text placing
   straightened box placing same straight anchor one =
       record { placed = placed; along = along; anchor_is = anchor; boxes = subst (λ (s : Shape). HasBoxes font class text s placing) (sym same) (box, straight, one) }
 
   -- the same of an answer
-  pub straight_answer : {E : Type 0} (box : BoxPx) (answer : Result PlacedText E) → placed.shape ≡ Straight → IsTextBox font class text box → IfOk answer (λ p. p.anchor ≡ placed.anchor) → IfOk answer (λ p. IsOneBox box text (placing_of p)) → IfOk answer (λ p. IsPlacedAlong font class shape text (placing_of p))
+  pub straight_answer : {E : Type 0} (box : BoxPx) (answer : Result PlacedText E) → placed.shape ≡ Straight →
+      IsTextBox font class text box → IfOk answer (λ p. p.anchor ≡ placed.anchor) →
+      IfOk answer (λ p. IsOneBox box text (placing_of p)) → IfOk answer (λ p. IsPlacedAlong font class shape text (placing_of p))
   straight_answer box (Ok p) same straight anchor one = straightened box (placing_of p) same straight anchor one
   straight_answer box (Err e) same straight anchor one = tt

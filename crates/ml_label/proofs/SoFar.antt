@@ -17,17 +17,20 @@ AreSoFar style features i labels = (rest : List Label) → AreUnsorted style (dr
 module _ (style : Style) (features : List Feature) (i : ℕ) (labels : List Label) where
   -- the features from a place on
   from_place : (f : Feature) → suc i ≤ length features → f ≡ get_or features i f → f ∷ drop (i + 1) features ≡ drop i features
-  from_place f there is = ap (λ (g : Feature). g ∷ drop (i + 1) features) is ∙ (ap (λ (n : ℕ). get_or features i f ∷ drop n features) (let e : i + 1 ≡ suc i = omega arith in e) ∙ sym (drop-cons features i f there))
+  from_place f there is = ap (λ (g : Feature). g ∷ drop (i + 1) features) is
+      ∙ (ap (λ (n : ℕ). get_or features i f ∷ drop n features) (let e : i + 1 ≡ suc i = omega arith in e) ∙ sym (drop-cons features i f there))
 
   -- one feature with a label more
-  pub with_label : (f : Feature) (label : Label) (more : List Label) → suc i ≤ length features → f ≡ get_or features i f → IsLabelling style f (Ok label) → more ≡ labels ++ label ∷ [] → AreSoFar style features i labels → AreSoFar style features (i + 1) more
+  pub with_label : (f : Feature) (label : Label) (more : List Label) → suc i ≤ length features → f ≡ get_or features i f →
+      IsLabelling style f (Ok label) → more ≡ labels ++ label ∷ [] → AreSoFar style features i labels → AreSoFar style features (i + 1) more
   with_label f label more there is answer grown so_far rest left =
       let here = subst (λ (fs : List Feature). AreUnsorted style fs (label ∷ rest)) (from_place f there is) (labelled style f (drop (i + 1) features) label rest answer left) in
       let same : labels ++ label ∷ rest ≡ more ++ rest = sym (append_assoc labels (label ∷ []) rest) ∙ ap (λ (ls : List Label). ls ++ rest) (sym grown) in
       subst (λ (ls : List Label). AreUnsorted style features ls) same (so_far (label ∷ rest) here)
 
   -- one feature without a label more
-  pub without_label : (f : Feature) (reason : Reason) (more : List Label) → suc i ≤ length features → f ≡ get_or features i f → IsLabelling style f (Err reason) → more ≡ labels → AreSoFar style features i labels → AreSoFar style features (i + 1) more
+  pub without_label : (f : Feature) (reason : Reason) (more : List Label) → suc i ≤ length features → f ≡ get_or features i f →
+      IsLabelling style f (Err reason) → more ≡ labels → AreSoFar style features i labels → AreSoFar style features (i + 1) more
   without_label f reason more there is answer grown so_far rest left =
       let here = subst (λ (fs : List Feature). AreUnsorted style fs rest) (from_place f there is) (unlabelled style f (drop (i + 1) features) reason rest answer left) in
       subst (λ (ls : List Label). AreUnsorted style features (ls ++ rest)) (sym grown) (so_far rest here)

@@ -18,7 +18,8 @@ other n h = grind (arith, nat_tests, h)
 several : (c first : ℕ) (others bs : List ℕ) → c ≢ 32 → first ≢ 32 → list_all is_space ((first ∷ others) ++ bs) ≡ is_space c && list_all is_space bs
 several c first others bs h k = rw (other c h, other first k) refl
 
-by_length : (x y z : Bool) (c p q r : ℕ) (s t u bs : List ℕ) → (x ≡ false → c ≢ 32) → p ≢ 32 → q ≢ 32 → r ≢ 32 → list_all is_space (cond x (c ∷ []) (cond y (p ∷ s) (cond z (q ∷ t) (r ∷ u))) ++ bs) ≡ is_space c && list_all is_space bs
+by_length : (x y z : Bool) (c p q r : ℕ) (s t u bs : List ℕ) → (x ≡ false → c ≢ 32) → p ≢ 32 → q ≢ 32 → r ≢ 32 →
+    list_all is_space (cond x (c ∷ []) (cond y (p ∷ s) (cond z (q ∷ t) (r ∷ u))) ++ bs) ≡ is_space c && list_all is_space bs
 by_length true y z c p q r s t u bs h i j k = refl
 by_length false true z c p q r s t u bs h i j k = several c p s bs (h refl) i
 by_length false false true c p q r s t u bs h i j k = several c q t bs (h refl) j

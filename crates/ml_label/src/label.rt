@@ -17,7 +17,8 @@ use std::alloc::{AllocError, Global};
 
 // The first class of the style that applies to the feature.
 fn class_for<'a>(style: &'a Style, feature: &Feature) -> Option<&'a Class>
-    ensures class { MatchOption (option_copied result) (first_match style.now feature.now ≡ None) (IsClassOf style.now feature.now) }
+    ensures class { MatchOption (option_copied result)
+        (first_match style.now feature.now ≡ None) (IsClassOf style.now feature.now) }
     ensures known { IfSome (option_copied result) (HasFont style.now.fonts) }
 {
     let place = class_of(style, feature)?;

@@ -88,7 +88,8 @@ fn is_shown_blank(name: &str) -> bool
 
 /// Whether a feature has a name for its label. It takes no memory.
 pub fn has_name(style: &Style, feature: &Feature) -> bool
-    ensures { MatchBool result (IsSome (spec_label_name style.now feature.now)) (spec_label_name style.now feature.now ≡ None) }
+    ensures { MatchBool result (IsSome (spec_label_name style.now feature.now))
+        (spec_label_name style.now feature.now ≡ None) }
 {
     let key = style.name_key();
     match name_in(property(feature.props.as_slice(), key.as_str())) {

@@ -38,7 +38,8 @@ fn shift_of(class: &Class) -> (i32, i32)
 
 // The straight box of the text; none where it would reach too far to the left or right.
 fn text_box(font: &Font, class: &Class, text: &Text) -> Option<BoxPx>
-    ensures { MatchOption result (IsTooWideText font.now class.now text.now) (IsFittingBox font.now class.now text.now) }
+    ensures { MatchOption result (IsTooWideText font.now class.now text.now)
+        (IsFittingBox font.now class.now text.now) }
 {
     let wide = width(font, class.size, text);
     let (dx, dy) = shift_of(class);
@@ -145,7 +146,8 @@ fn fitted(
     requires some { 0 < length clusters.now }
     requires narrow { ¬ (IsTooWideText font.now class.now text.now) }
     requires clusters { clusters.now ≡ clusters_of font.now text.now }
-    requires total { advance_sum font.now text.now < 2 ^ 64 → sum_by (λ c. c.advance) clusters.now ≡ advance_sum font.now text.now }
+    requires total { advance_sum font.now text.now < 2 ^ 64 →
+        sum_by (λ c. c.advance) clusters.now ≡ advance_sum font.now text.now }
     ensures { IfOk result (IsAlong font.now class.now shape.now text.now) }
 {
     let advances = advances_of(alloc, clusters)?;
@@ -176,7 +178,8 @@ fn along(
     requires narrow { ¬ (IsTooWideText font.now class.now text) }
     requires straight { IsTextBox font.now class.now text straight }
     requires good { IsBox straight.l straight.b straight.r straight.t }
-    ensures { IfOk result (λ placed. IsPlacedAlong font.now class.now shape.now text (placing_of placed)) }
+    ensures { IfOk result
+        (λ placed. IsPlacedAlong font.now class.now shape.now text (placing_of placed)) }
 {
     let clusters = clusters(alloc, font, &text)?;
     let Placed {
@@ -209,7 +212,8 @@ pub fn place(
     requires kind { kind_of shape.now ≡ class.now.kind }
     requires some { 0 < length text }
     requires utf8 { IsUtf8 text }
-    ensures { IfOk result (λ placed. MatchOption placed (HasNoPlace font.now class.now shape.now text) (λ p. IsPlacing font.now class.now shape.now text (placing_of p))) }
+    ensures { IfOk result (λ placed. MatchOption placed (HasNoPlace font.now class.now
+        shape.now text) (λ p. IsPlacing font.now class.now shape.now text (placing_of p))) }
 {
     clusters_reach();
     chains_are_narrow();

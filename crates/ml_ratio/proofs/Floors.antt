@@ -9,7 +9,8 @@ use Rattle.ml_ratio.proofs.lemmas.Rounding.{floor_bounds, plus_one, size_le, hei
 -- the product of a difference of heights and a difference of places fits 128 bits
 pub climb_fits : (u v z t : ℤ) → IsInWorld v → IsInWorld z → FitsSigned w64 u → FitsSigned w64 t → FitsSigned w128 ((z -ℤ v) *ℤ (t -ℤ u))
 climb_fits u v z t vw zw uf tf =
-    fits_signed_mul w128 (z -ℤ v) (t -ℤ u) (2 ^ 33) (2 ^ 65) (size_le (z -ℤ v) (2 ^ 33) (omega (arith, ints)) (omega (arith, ints))) (size_le (t -ℤ u) (2 ^ 65) (omega (arith, ints)) (omega (arith, ints))) (lit< tt)
+    fits_signed_mul w128 (z -ℤ v) (t -ℤ u) (2 ^ 33) (2 ^ 65) (size_le (z -ℤ v) (2 ^ 33) (omega (arith, ints)) (omega (arith, ints)))
+    (size_le (t -ℤ u) (2 ^ 65) (omega (arith, ints)) (omega (arith, ints))) (lit< tt)
 
 -- the height from its rise
 pub height_from_rise : (u v w z t r : ℤ) → r ≡ floor ((z -ℤ v) *ℤ (t -ℤ u)) (w -ℤ u) → v +ℤ r ≡ height_on u v w z t

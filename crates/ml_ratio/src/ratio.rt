@@ -105,7 +105,8 @@ impl Ratio {
 
     /// Whether the value is less than the other's.
     pub fn is_less(&self, other: &Ratio) -> bool
-        ensures { MatchBool result (IsLess (value_of self.now) (value_of other.now)) (IsAtMost (value_of other.now) (value_of self.now)) }
+        ensures { MatchBool result (IsLess (value_of self.now) (value_of other.now))
+            (IsAtMost (value_of other.now) (value_of self.now)) }
     {
         self.num * other.den < other.num * self.den
     }

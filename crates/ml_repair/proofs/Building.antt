@@ -41,18 +41,20 @@ pub own_ids : (rows : List Row) (labels : List Label) → labels_in rows ≡ lab
 own_ids rows labels are up i j d below within same =
     let many = length-map rows (λ (r : Row). r.label) in
     let long = ap length are in
-    let read : (k : ℕ) → k < length rows → get_or labels k d.label ≡ (get_or rows k d).label = (λ k lt. ap (λ ls. get_or ls k d.label) (sym are) ∙ get_or-map (λ (r : Row). r.label) rows k d d.label lt) in
+    let read : (k : ℕ) → k < length rows → get_or labels k d.label ≡ (get_or rows k d).label =
+    (λ k lt. ap (λ ls. get_or ls k d.label) (sym are) ∙ get_or-map (λ (r : Row). r.label) rows k d d.label lt) in
     (up i j d.label below (omega arith)).1 (ap (λ l. l.order.id) (read i (omega arith)) ∙ same ∙ ap (λ l. l.order.id) (sym (read j within)))
 
 -- the slots so far, after a label came in with the next one
-pub next_slots : (before after : List Row) (slots : List Slot) (slot : Slot) → length before < length slots → slot ≡ get_or slots (length before) slot → slots_in before ≡ take (length before) slots → slots_in after ≡ slots_in before ++ slot ∷ [] →
-    slots_in after ≡ take (length after) slots
+pub next_slots : (before after : List Row) (slots : List Slot) (slot : Slot) → length before < length slots → slot ≡ get_or slots (length before) slot →
+    slots_in before ≡ take (length before) slots → slots_in after ≡ slots_in before ++ slot ∷ [] → slots_in after ≡ take (length after) slots
 next_slots before after slots slot lt read so_far came =
     let one = length-map before (λ (r : Row). r.slot) in
     let more = length-map after (λ (r : Row). r.slot) in
     let long = ap length came ∙ length-append (slots_in before) (slot ∷ []) in
     let n : length after ≡ length before + 1 = omega arith in
-    came ∙ ap (λ (ss : List Slot). ss ++ slot ∷ []) so_far ∙ ap (λ (s : Slot). take (length before) slots ++ s ∷ []) read ∙ sym (take_more slots (length before) slot lt) ∙ ap (λ (k : ℕ). take k slots) (sym n)
+    came ∙ ap (λ (ss : List Slot). ss ++ slot ∷ []) so_far ∙ ap (λ (s : Slot). take (length before) slots ++ s ∷ []) read
+    ∙ sym (take_more slots (length before) slot lt) ∙ ap (λ (k : ℕ). take k slots) (sym n)
 
 -- what is left to come in
 module _ (rows : List Row) (rest : List Label) (label : Label) (labels : List Label) (coming : labels_in rows ++ reverse (rest ++ label ∷ []) ≡ labels) where
@@ -71,10 +73,12 @@ module _ (rows : List Row) (rest : List Label) (label : Label) (labels : List La
 
 -- a label has the same slot among the same rivals at the same places
 abbrev pub LikeRivals : Type 0
-LikeRivals = (low : Label) (rivals others : ℕ → Rival) (n : ℕ) → ((j : ℕ) → j < n → rivals j ≡ others j) → (slot : Slot) → IsOwnSlot rivals (λ j. j < n) low slot → IsOwnSlot others (λ j. j < n) low slot
+LikeRivals = (low : Label) (rivals others : ℕ → Rival) (n : ℕ) → ((j : ℕ) → j < n → rivals j ≡ others j) →
+    (slot : Slot) → IsOwnSlot rivals (λ j. j < n) low slot → IsOwnSlot others (λ j. j < n) low slot
 
 -- slots are the longest choice under other numbers too, where these agree at the labels' places
-pub numbered_alike : OwnLaw → LikeRivals → (one other : ℕ → ℕ) (labels : List Label) (slots : List Slot) → ((j : ℕ) → j < length labels → one j ≡ other j) → AreSlots one labels slots → AreSlots other labels slots
+pub numbered_alike : OwnLaw → LikeRivals → (one other : ℕ → ℕ) (labels : List Label) (slots : List Slot) →
+    ((j : ℕ) → j < length labels → one j ≡ other j) → AreSlots one labels slots → AreSlots other labels slots
 numbered_alike own_law like one other labels slots alike are =
     let own = (own_law one labels slots).1 are in
     (own_law other labels slots).0

@@ -32,7 +32,8 @@ pub with_row_some : (row : Row) (rows : List Row) → (p : ℕ) × (p ≤ length
 with_row_some row [] = (0, omega arith, refl)
 with_row_some row (r ∷ rows) = go (is_lt (order_cmp r.label.order row.label.order)) refl (with_row_some row rows)
   where
-    go : (b : Bool) → is_lt (order_cmp r.label.order row.label.order) ≡ b → ((p : ℕ) × (p ≤ length rows) × (with_row row rows ≡ insert rows p row)) → (p : ℕ) × (p ≤ length (r ∷ rows)) × (with_row row (r ∷ rows) ≡ insert (r ∷ rows) p row)
+    go : (b : Bool) → is_lt (order_cmp r.label.order row.label.order) ≡ b → ((p : ℕ) × (p ≤ length rows) × (with_row row rows ≡ insert rows p row)) →
+        (p : ℕ) × (p ≤ length (r ∷ rows)) × (with_row row (r ∷ rows) ≡ insert (r ∷ rows) p row)
     go true e s =
         let le : s.0 ≤ length rows = s.1 in
         (suc s.0, omega arith, ap (λ (b : Bool). if b then r ∷ with_row row rows else row ∷ (r ∷ rows)) e ∙ ap (λ rs. r ∷ rs) s.2)
@@ -57,8 +58,10 @@ id_once labels p a le up has =
     let lt : k < length labels = has.1.1 in
     let is : (get_or labels k a).order.id ≡ a.order.id = ap (λ (l : Label). l.order.id) (get_or_default labels k a has.0 lt ∙ has.1.2) ∙ has.2 in
     elim (cases_lt k p) [
-      | inl low ↦ (up k p a low (omega arith)).1 (ap (λ (l : Label). l.order.id) (get_or-insert_below labels p a a k low le) ∙ is ∙ sym (ap (λ (l : Label). l.order.id) (get_or-insert_at labels p a a le)))
-      | inr high ↦ (up p (k + 1) a (omega arith) (omega arith)).1 (ap (λ (l : Label). l.order.id) (get_or-insert_at labels p a a le) ∙ sym is ∙ sym (ap (λ (l : Label). l.order.id) (get_or-insert_above labels p a a k high le)))
+      | inl low ↦ (up k p a low (omega arith)).1 (ap (λ (l : Label). l.order.id) (get_or-insert_below labels p a a k low le)
+          ∙ is ∙ sym (ap (λ (l : Label). l.order.id) (get_or-insert_at labels p a a le)))
+      | inr high ↦ (up p (k + 1) a (omega arith) (omega arith)).1 (ap (λ (l : Label). l.order.id) (get_or-insert_at labels p a a le)
+          ∙ sym is ∙ sym (ap (λ (l : Label). l.order.id) (get_or-insert_above labels p a a k high le)))
     ]
 
 module _ (row : Row) (rows : List Row) (settled : IsSettled (with_row row rows)) where
@@ -82,15 +85,18 @@ module _ (row : Row) (rows : List Row) (settled : IsSettled (with_row row rows))
       let long = length-insert rows s.0 row s.1 in
       record {
         fresh = differ_once (numbers_in rows) s.0 row.number (omega arith) (rw (s.2, map_insert (λ (t : Row). t.number) rows s.0 row) at settled.own_numbers);
-        low = (let all : All (λ r. r.number < 32768) (insert rows s.0 row) = rw s.2 at settled.low_numbers in let h = all s.0 row (omega arith) in let e : (get_or (insert rows s.0 row) s.0 row).number ≡ row.number = ap (λ (t : Row). t.number) (get_or-insert_at rows s.0 row row s.1) in omega arith);
+        low = (let all : All (λ r. r.number < 32768) (insert rows s.0 row) = rw s.2 at settled.low_numbers in let h = all s.0 row (omega arith) in
+            let e : (get_or (insert rows s.0 row) s.0 row).number ≡ row.number = ap (λ (t : Row). t.number) (get_or-insert_at rows s.0 row row s.1) in omega arith);
         new_id = id_once (labels_in rows) s.0 row.label (omega arith) (rw (s.2, map_insert (λ (t : Row). t.label) rows s.0 row) at settled.in_order);
       }
 
 -- ---- room
 
 -- where a plan had room, its row has room once the old row is out and the new slots are set
-pub carried_room : (edit : LabelEdit) (moved : List Moved) (changes : List Change) (n : ℕ) (old mid last : Stored) → HasRoom (room_of (record { edit = edit; moved = moved; changes = changes; evaluated = n })) old →
-    mid.labels ≡ old.labels + gone_count edit → old.cells ≤ mid.cells → old.blocks ≤ mid.blocks → last.labels ≡ mid.labels → last.cells ≡ mid.cells → mid.blocks ≤ last.blocks + moved_pairs moved → HasRoomIn edit last
+pub carried_room : (edit : LabelEdit) (moved : List Moved) (changes : List Change) (n : ℕ) (old mid last : Stored) →
+    HasRoom (room_of (record { edit = edit; moved = moved; changes = changes; evaluated = n })) old →
+    mid.labels ≡ old.labels + gone_count edit → old.cells ≤ mid.cells → old.blocks ≤ mid.blocks → last.labels ≡ mid.labels →
+    last.cells ≡ mid.cells → mid.blocks ≤ last.blocks + moved_pairs moved → HasRoomIn edit last
 carried_room (Add row) moved changes n old mid last room l1 c1 b1 l2 c2 b2 =
     let l = room.labels in let c = room.cells in let b = room.blocks in
     record { labels = omega arith; cells = omega arith; blocks = omega arith }
@@ -100,7 +106,8 @@ carried_room (Replace row) moved changes n old mid last room l1 c1 b1 l2 c2 b2 =
     record { labels = omega arith; cells = omega arith; blocks = omega arith }
 
 -- where a plan had room, the pairs of its new slots have room once the old row is out
-pub moved_room : (edit : LabelEdit) (moved : List Moved) (changes : List Change) (n : ℕ) (old mid : Stored) → HasRoom (room_of (record { edit = edit; moved = moved; changes = changes; evaluated = n })) old → old.blocks ≤ mid.blocks → moved_pairs moved ≤ mid.blocks
+pub moved_room : (edit : LabelEdit) (moved : List Moved) (changes : List Change) (n : ℕ) (old mid : Stored) →
+    HasRoom (room_of (record { edit = edit; moved = moved; changes = changes; evaluated = n })) old → old.blocks ≤ mid.blocks → moved_pairs moved ≤ mid.blocks
 moved_room edit moved changes n old mid room le = let b = room.blocks in omega arith
 
 -- the rows after a plan come about in three steps: some rows stay, they get their new slots, the row comes in

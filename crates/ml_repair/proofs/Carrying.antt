@@ -47,7 +47,8 @@ JoinedLaw = (low : Label) (rivals others : ℕ → Rival) (stands stays : ℕ �
     AreJoined low (value_of slot.until) rivals others (holds stands) (holds stays) (λ j k. IsTrue (link j k)) →
     IsOwnSlot rivals (holds stands) low slot → IsOwnSlot others (holds stays) low slot
 
-module _ (P Q : ℕ → Type 0) (p q : ℕ → Bool) (is_p : (j : ℕ) → P j ↔ IsTrue (p j)) (is_q : (j : ℕ) → Q j ↔ IsTrue (q j)) (L : ℕ → ℕ → Type 0) (link : ℕ → ℕ → Bool) (is_link : (j k : ℕ) → L j k ↔ IsTrue (link j k)) where
+module _ (P Q : ℕ → Type 0) (p q : ℕ → Bool) (is_p : (j : ℕ) → P j ↔ IsTrue (p j)) (is_q : (j : ℕ) → Q j ↔ IsTrue (q j))
+    (L : ℕ → ℕ → Type 0) (link : ℕ → ℕ → Bool) (is_link : (j k : ℕ) → L j k ↔ IsTrue (link j k)) where
   -- rivals that set the same limits in the same order leave the same slot, where tests decide who stands and who is linked
   pub carried_by : CarriedLaw → (low : Label) (rivals others : ℕ → Rival) → AreCarried low rivals others P Q L → (slot : Slot) → IsOwnSlot rivals P low slot → IsOwnSlot others Q low slot
   carried_by law low rivals others c slot own =
@@ -59,7 +60,8 @@ module _ (P Q : ℕ → Type 0) (p q : ℕ → Bool) (is_p : (j : ℕ) → P j �
       }) slot (own_same rivals P (holds p) is_p low slot own))
 
   -- the slot stays as rivals join that do not set its end, where tests decide who stands and who is linked
-  pub joined_by : JoinedLaw → (low : Label) (rivals others : ℕ → Rival) (slot : Slot) → AreJoined low (value_of slot.until) rivals others P Q L → IsOwnSlot rivals P low slot → IsOwnSlot others Q low slot
+  pub joined_by : JoinedLaw → (low : Label) (rivals others : ℕ → Rival) (slot : Slot) →
+      AreJoined low (value_of slot.until) rivals others P Q L → IsOwnSlot rivals P low slot → IsOwnSlot others Q low slot
   joined_by law low rivals others slot c own =
       own_same others (holds q) Q (λ j. ((is_q j).1, (is_q j).0)) low slot
       (law low rivals others p q link slot (record {
@@ -103,7 +105,8 @@ if_same comes after false E e = (λ h. refl, λ h x. absurd (let f : false ≡ t
 
 -- a label stands before another exactly where the test for that is true
 pub is_standing : (comes after : Bool) (at i j : ℕ) → Stands comes after at i j ↔ IsTrue (stand_test comes after at i j)
-is_standing comes after at i j = both_true (nat_lt j i) (not (j == at) || same_bool comes after) (j < i) (j ≡ at → comes ≡ after) (below_test j i) (if_same comes after (j == at) (j ≡ at) (is_same j at))
+is_standing comes after at i j = both_true (nat_lt j i) (not (j == at) || same_bool comes after) (j < i)
+    (j ≡ at → comes ≡ after) (below_test j i) (if_same comes after (j == at) (j ≡ at) (is_same j at))
 
 -- two facts hold together exactly where their two tests are true
 pub both_tests : (a b : Bool) (A B : Type 0) → A ↔ IsTrue a → B ↔ IsTrue b → (A × B) ↔ IsTrue (a && b)

@@ -64,7 +64,8 @@ standing_row rows id one stands =
       (at, lt, sym s.1),
       ap (λ (a : Label). a.order.id) label ∙ stands.its_id,
       ranged_same one (ranged r) (sym label)
-          (stands.its_span ∙ ap (λ (a : Label). record { min = a.min; until = (get_or (slots_in rows) at no_slot).until }) (sym label) ∙ ap (λ (t : Slot). record { min = r.label.min; until = t.until }) (map_read (λ (t : Row). t.slot) rows at r no_slot lt s.1)),
+          (stands.its_span ∙ ap (λ (a : Label). record { min = a.min; until = (get_or (slots_in rows) at no_slot).until }) (sym label)
+          ∙ ap (λ (t : Slot). record { min = r.label.min; until = t.until }) (map_read (λ (t : Row). t.slot) rows at r no_slot lt s.1)),
     )
 
 -- where no label has an id, no row has it
@@ -82,7 +83,8 @@ is_absent rows id none k d lt e =
     let s = row_there rows k k_in in
     none s.0 (k, k_in, sym s.1) (ap (λ (a : Label). a.order.id) (sym (label_read rows k s.0 d k_in s.1)) ∙ e)
 
-state_once : (rows : List Row) (id : List ℕ) (a b : Option Ranged) → IsLabelList (labels_in rows) → IsStateOf (labels_in rows) (slots_in rows) id a → IsStateOf (labels_in rows) (slots_in rows) id b → a ≡ b
+state_once : (rows : List Row) (id : List ℕ) (a b : Option Ranged) → IsLabelList (labels_in rows) →
+    IsStateOf (labels_in rows) (slots_in rows) id a → IsStateOf (labels_in rows) (slots_in rows) id b → a ≡ b
 state_once rows id None None up p q = refl
 state_once rows id None (Some b) up p q = let s = standing_row rows id b q in absurd (no_row rows id p s.0 s.1 s.2)
 state_once rows id (Some a) None up p q = let s = standing_row rows id a p in absurd (no_row rows id q s.0 s.1 s.2)
@@ -115,7 +117,8 @@ module _ (rows after left : List Row) (moved : List Moved) (id : List ℕ) (edit
   edited_is : was ≢ is → IsChange (labels_in rows) (slots_in rows) (labels_in after) (slots_in after) (edited_change id was is)
   edited_is differ = record { was = was; is = is; state_before = state_before; state_after = state_after; differ = differ; span_before = refl; span_after = refl }
 
-  stay_is : (r : Row) → Contains left r → r.slot.until ≢ (slot_for r.number r.slot moved).until → IsChange (labels_in rows) (slots_in rows) (labels_in after) (slots_in after) (stay_change r (slot_for r.number r.slot moved))
+  stay_is : (r : Row) → Contains left r → r.slot.until ≢ (slot_for r.number r.slot moved).until →
+      IsChange (labels_in rows) (slots_in rows) (labels_in after) (slots_in after) (stay_change r (slot_for r.number r.slot moved))
   stay_is r there differ = record {
     was = Some (ranged r);
     is = Some (ranged (moved_row moved r));
@@ -150,7 +153,8 @@ module _ (rows after left : List Row) (moved : List Moved) (id : List ℕ) (edit
       let r : Row = s.0 in
       let there = edit.stays r s.1 (λ e. apart (sym s.2 ∙ e)) in
       let new : Some b ≡ Some (ranged (moved_row moved r)) =
-      state_once after c.id (Some b) (Some (ranged (moved_row moved r))) edit.up_after q (subst (λ (i : List ℕ). IsStanding (labels_in after) (slots_in after) i (ranged (moved_row moved r))) s.2 (standing after (moved_row moved r) (edit.comes_back r there))) in
+      state_once after c.id (Some b) (Some (ranged (moved_row moved r))) edit.up_after q
+      (subst (λ (i : List ℕ). IsStanding (labels_in after) (slots_in after) i (ranged (moved_row moved r))) s.2 (standing after (moved_row moved r) (edit.comes_back r there))) in
       record {
         row = r;
         there = there;
@@ -166,13 +170,17 @@ module _ (rows after left : List Row) (moved : List Moved) (id : List ℕ) (edit
           let same : c.id ≡ id = (bytes_eq-Decides c.id id).0 e in
           let a : h.was ≡ was = state_once rows c.id h.was was edit.up_before h.state_before (subst (λ (i : List ℕ). IsStateOf (labels_in rows) (slots_in rows) i was) (sym same) state_before) in
           let b : h.is ≡ is = state_once after c.id h.is is edit.up_after h.state_after (subst (λ (i : List ℕ). IsStateOf (labels_in after) (slots_in after) i is) (sym same) state_after) in
-          inr (change_same c (edited_change id was is) same (h.span_before ∙ ap (option_map (λ (x : Ranged). x.span)) a) (h.span_after ∙ ap (option_map (λ (x : Ranged). x.span)) b), λ f. h.differ (a ∙ f ∙ sym b))
+          inr (
+            change_same c (edited_change id was is) same (h.span_before ∙ ap (option_map (λ (x : Ranged). x.span)) a) (h.span_after ∙ ap (option_map (λ (x : Ranged). x.span)) b),
+            λ f. h.differ (a ∙ f ∙ sym b),
+          )
       go false e =
           inl (other c (λ same. let t = (bytes_eq-Decides c.id id).1 same in let f : true ≡ false = sym t ∙ e in cc) h.was h.is h.state_before h.state_after h.differ h.span_before h.span_after)
 
   -- sorted by id, the changes of the labels that stay, and that of the edited one if it differs, are those of the edit
   pub are_changes : (changes : List Change) → IsStrictlySortedBy (slice_cmp nat_cmp) (map (λ change. change.id) changes) →
-      ((c : Change) → Contains changes c ↔ (IsStayChange left moved c ⊎ ((c ≡ edited_change id was is) × (was ≢ is)))) → AreChanges (labels_in rows) (slots_in rows) (labels_in after) (slots_in after) changes
+      ((c : Change) → Contains changes c ↔ (IsStayChange left moved c ⊎ ((c ≡ edited_change id was is) × (was ≢ is)))) →
+      AreChanges (labels_in rows) (slots_in rows) (labels_in after) (slots_in after) changes
   are_changes changes sorted same = record {
     ascending = sorted;
     sound = λ k d lt. sound (get_or changes k d) ((same (get_or changes k d)).0 (Contains-get_or changes k d lt));

@@ -62,7 +62,8 @@ module _ (own_law : OwnLaw) (carried_law : CarriedLaw) where
         (without_remove (numbers_in rows) at (omega arith)).same j k 0 p ∙ ap (λ ns. get_or ns k 0) (sym (map_remove (λ (r : Row). r.number) rows at))
 
     -- once each label that stays has the slot that those before it leave without the one that goes, the slots are the longest choice
-    pub gone_end : AreOwn (number_at rows) (labels_in rows) (present_slots rows new) at false true → AreSlots (number_at (remove rows at)) (labels_in (remove rows at)) (present_slots (remove rows at) new)
+    pub gone_end : AreOwn (number_at rows) (labels_in rows) (present_slots rows new) at false true →
+        AreSlots (number_at (remove rows at)) (labels_in (remove rows at)) (present_slots (remove rows at) new)
     gone_end own =
         let a = length-labels rows in
         let b = length-present rows new in
@@ -81,7 +82,8 @@ module _ (own_law : OwnLaw) (carried_law : CarriedLaw) where
           before = ends (present_slots rows old);
           after = ends (present_slots rows new);
           longest_before = was.longest;
-          longest_after = longest_same (remove (labels_in rows) at) (ends (remove (present_slots rows new) at)) (left_out at (ends (present_slots rows new))) (λ k h. left_out_ends (present_slots rows new) at k l)
+          longest_after = longest_same (remove (labels_in rows) at) (ends (remove (present_slots rows new) at))
+              (left_out at (ends (present_slots rows new))) (λ k h. left_out_ends (present_slots rows new) at k l)
               (rw (map_remove (λ (r : Row). r.label) rows at, present-remove new rows at) at is.longest);
           size = size;
         }
@@ -101,24 +103,29 @@ module _ (own_law : OwnLaw) (carried_law : CarriedLaw) where
         ap (λ ns. get_or ns j 0) (map_insert (λ (t : Row). t.number) rows at r) ∙ (without_insert (numbers_in rows) at r.number (omega arith)).same j k 0 p
 
     -- before the label comes, each other label has the slot that those before it leave without the one that comes
-    pub come_start : AreSlots (number_at rows) (labels_in rows) (present_slots rows old) → AreOwn (number_at (insert rows at r)) (labels_in (insert rows at r)) (present_slots (insert rows at r) old) at true false
+    pub come_start : AreSlots (number_at rows) (labels_in rows) (present_slots rows old) →
+        AreOwn (number_at (insert rows at r)) (labels_in (insert rows at r)) (present_slots (insert rows at r) old) at true false
     come_start are =
         let a = length-labels rows in
         let b = length-present rows old in
         rw (map_insert (λ (t : Row). t.label) rows at r, present-insert old rows at r)
-        (all_longer carried_law at (number_at (insert rows at r)) (number_at rows) (insert (labels_in rows) at r.label) (labels_in rows) (insert (present_slots rows old) at (moved_row old r).slot) (present_slots rows old)
+        (all_longer carried_law at (number_at (insert rows at r)) (number_at rows) (insert (labels_in rows) at r.label)
+        (labels_in rows) (insert (present_slots rows old) at (moved_row old r).slot) (present_slots rows old)
         come_link (without_insert (labels_in rows) at r.label (omega arith)) (without_insert (present_slots rows old) at (moved_row old r).slot (omega arith)) true false (λ e. cc)
         ((own_law (number_at rows) (labels_in rows) (present_slots rows old)).1 are))
 
     -- once each label has the slot that those before it leave, the one that came among them, the slots are the longest choice
-    pub come_end : AreOwn (number_at (insert rows at r)) (labels_in (insert rows at r)) (present_slots (insert rows at r) new) at true true → AreSlots (number_at (insert rows at r)) (labels_in (insert rows at r)) (present_slots (insert rows at r) new)
+    pub come_end : AreOwn (number_at (insert rows at r)) (labels_in (insert rows at r)) (present_slots (insert rows at r) new) at true true →
+        AreSlots (number_at (insert rows at r)) (labels_in (insert rows at r)) (present_slots (insert rows at r) new)
     come_end own =
         (own_law (number_at (insert rows at r)) (labels_in (insert rows at r)) (present_slots (insert rows at r) new)).0
         (all_own_there (number_at (insert rows at r)) (labels_in (insert rows at r)) (present_slots (insert rows at r) new) at true true refl own)
 
     -- where n labels are touched between the slots before and after, the edit touches n labels as the label comes
-    pub come_cost : AreSlots (number_at rows) (labels_in rows) (present_slots rows old) → AreSlots (number_at (insert rows at r)) (labels_in (insert rows at r)) (present_slots (insert rows at r) new) →
-        (n : ℕ) → IsSize (IsTouched (labels_in (insert rows at r)) at true (ends (present_slots (insert rows at r) old)) (ends (present_slots (insert rows at r) new))) n → AreTouched (labels_in (insert rows at r)) at true n
+    pub come_cost : AreSlots (number_at rows) (labels_in rows) (present_slots rows old) →
+        AreSlots (number_at (insert rows at r)) (labels_in (insert rows at r)) (present_slots (insert rows at r) new) → (n : ℕ) →
+        IsSize (IsTouched (labels_in (insert rows at r)) at true (ends (present_slots (insert rows at r) old)) (ends (present_slots (insert rows at r) new))) n →
+        AreTouched (labels_in (insert rows at r)) at true n
     come_cost was is n size =
         let a = length-labels rows in
         let b = length-present rows old in
@@ -131,7 +138,8 @@ module _ (own_law : OwnLaw) (carried_law : CarriedLaw) where
           longest_before =
               rw (map_insert (λ (t : Row). t.label) rows at r, remove_insert (labels_in rows) at r.label (omega arith))
               (longest_same (labels_in rows) (ends (present_slots rows old)) (left_out at (ends (present_slots (insert rows at r) old)))
-              (λ k h. sym (ap (λ (xs : List Slot). ends xs k) (ap (λ (xs : List Slot). remove xs at) (present-insert old rows at r) ∙ remove_insert (present_slots rows old) at (moved_row old r).slot (omega arith))) ∙ left_out_ends (present_slots (insert rows at r) old) at k l)
+              (λ k h. sym (ap (λ (xs : List Slot). ends xs k) (ap (λ (xs : List Slot). remove xs at) (present-insert old rows at r)
+              ∙ remove_insert (present_slots rows old) at (moved_row old r).slot (omega arith))) ∙ left_out_ends (present_slots (insert rows at r) old) at k l)
               was.longest);
           longest_after = is.longest;
           size = size;
@@ -152,7 +160,8 @@ module _ (own_law : OwnLaw) (carried_law : CarriedLaw) where
         let a = without_insert (present_slots rows old) at (moved_row old s).slot (let b = length-present rows old in omega arith) in
         let b = without_insert (present_slots rows old) at (moved_row old r).slot (let b = length-present rows old in omega arith) in
         let p = place k ne in
-        ap (λ (xs : List Slot). get_or xs k no_slot) (present-insert old rows at s) ∙ a.same k p.0 no_slot p.1 ∙ sym (b.same k p.0 no_slot p.1) ∙ sym (ap (λ (xs : List Slot). get_or xs k no_slot) (present-insert old rows at r))
+        ap (λ (xs : List Slot). get_or xs k no_slot) (present-insert old rows at s) ∙ a.same k p.0 no_slot p.1
+        ∙ sym (b.same k p.0 no_slot p.1) ∙ sym (ap (λ (xs : List Slot). get_or xs k no_slot) (present-insert old rows at r))
       where
         place : (j : ℕ) → j ≢ at → (k : ℕ) × IsPlaceOf at j k
         place j ne = elim (cases_lt j at) [ inl less ↦ (j, inl (less, refl)) | inr more ↦ (j - 1, inr (omega arith, omega arith)) ]
@@ -165,16 +174,21 @@ module _ (own_law : OwnLaw) (carried_law : CarriedLaw) where
 
     -- the slot found while the one row stood there is the label's own once the row with that slot stands there
     pub come_here : (slot : Slot) → s.slot ≡ slot → ((own : Slot) → slot_for s.number own old ≡ own) →
-        ((d : Label) → IsOwnSlot (row (number_at (insert rows at r)) (labels_in (insert rows at r)) (present_slots (insert rows at r) old) d) (Stands true true at at) (get_or (labels_in (insert rows at r)) at d) slot) →
-        (d : Label) → IsOwnSlot (row (number_at (insert rows at s)) (labels_in (insert rows at s)) (present_slots (insert rows at s) old) d) (Stands true true at at) (get_or (labels_in (insert rows at s)) at d) (get_or (present_slots (insert rows at s) old) at no_slot)
+        ((d : Label) → IsOwnSlot (row (number_at (insert rows at r)) (labels_in (insert rows at r)) (present_slots (insert rows at r) old) d)
+        (Stands true true at at) (get_or (labels_in (insert rows at r)) at d) slot) → (d : Label) →
+        IsOwnSlot (row (number_at (insert rows at s)) (labels_in (insert rows at s)) (present_slots (insert rows at s) old) d)
+        (Stands true true at at) (get_or (labels_in (insert rows at s)) at d) (get_or (present_slots (insert rows at s) old) at no_slot)
     come_here slot is untouched own d =
         rw (slot_here' slot is untouched)
-        (own_before carried_law (number_at (insert rows at s)) (labels_in (insert rows at s)) (present_slots (insert rows at r) old) at true at (present_slots (insert rows at r) old) (present_slots (insert rows at s) old) others_same d at (omega arith) slot
+        (own_before carried_law (number_at (insert rows at s)) (labels_in (insert rows at s)) (present_slots (insert rows at r) old) at true at
+        (present_slots (insert rows at r) old) (present_slots (insert rows at s) old) others_same d at (omega arith) slot
         (subst (λ (ls : List Label). IsOwnSlot (row (number_at (insert rows at s)) ls (present_slots (insert rows at r) old) d) (Stands true true at at) (get_or ls at d) slot) labels_same
-        (subst (λ (ns : List ℕ). IsOwnSlot (row (λ j. get_or ns j 0) (labels_in (insert rows at r)) (present_slots (insert rows at r) old) d) (Stands true true at at) (get_or (labels_in (insert rows at r)) at d) slot) numbers_same (own d))))
+        (subst (λ (ns : List ℕ). IsOwnSlot (row (λ j. get_or ns j 0) (labels_in (insert rows at r)) (present_slots (insert rows at r) old) d)
+        (Stands true true at at) (get_or (labels_in (insert rows at r)) at d) slot) numbers_same (own d))))
 
 -- ends of labels that were there lie in their ranges
-pub come_ends : (number : ℕ → ℕ) (labels : List Label) (slots : List Slot) (at : ℕ) → at < length labels → AreOwn number labels slots at true false → (d : Label) (j : ℕ) → Stands true true at at j → IsEnd (get_or labels j d) (ends slots j)
+pub come_ends : (number : ℕ → ℕ) (labels : List Label) (slots : List Slot) (at : ℕ) → at < length labels →
+    AreOwn number labels slots at true false → (d : Label) (j : ℕ) → Stands true true at at j → IsEnd (get_or labels j d) (ends slots j)
 come_ends number labels slots at in' own d j stands = let lt : j < at = stands.0 in (own.own d j (omega arith) (λ e. absurd (omega arith))).is_end
 
 -- the number of the row that comes

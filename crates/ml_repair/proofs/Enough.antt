@@ -88,11 +88,13 @@ RivalLaw = (a b : Label) → AreRivals a b → RivalBand a b
 
 -- the law: a label that covers another from an end below the other's maximum on overlaps it in the band of that end
 abbrev pub BoundLaw : Type 0
-BoundLaw = (low high : Label) (until bound : Fraction) → IsEnd low bound → IsLess bound (value_of low.max) → IsAtMost until (value_of high.max) → CoversFrom low high until bound → BoundBand low high bound
+BoundLaw = (low high : Label) (until bound : Fraction) → IsEnd low bound → IsLess bound (value_of low.max) →
+    IsAtMost until (value_of high.max) → CoversFrom low high until bound → BoundBand low high bound
 
 -- the law: an earlier label blocks a label that ends below its maximum, where the limit that it sets is that end
 abbrev pub BlocksLaw : Type 0
-BlocksLaw = (labels : List Label) (choice : Choice) (j i : ℕ) → j < i → ((d : Label) → IsLess (choice i) (value_of (get_or labels i d).max)) → ((d : Label) → IsLimit (get_or labels i d) (get_or labels j d) (choice j) (choice i)) → Blocks labels choice j i
+BlocksLaw = (labels : List Label) (choice : Choice) (j i : ℕ) → j < i → ((d : Label) → IsLess (choice i) (value_of (get_or labels i d).max)) →
+    ((d : Label) → IsLimit (get_or labels i d) (get_or labels j d) (choice j) (choice i)) → Blocks labels choice j i
 
 -- the law: a label that allows another an end still does so where it ends earlier itself, and allows any smaller end
 abbrev pub SmallerLaw : Type 0
@@ -215,8 +217,8 @@ module _ (free_law : FreeLaw) (rival_law : RivalLaw) (bound_law : BoundLaw) (blo
   bound_low = elim are.bound_is [ inl most ↦ rw most (omega arith) | inr some ↦ (some.2 low).is_end.1 ]
 
   -- what is overlapped up to the end counts
-  counted : (d : Label) (j : ℕ) → Stands comes true at i j → (k : ℕ) → OverlapIn low (get_or (labels_in rows) j d) k → MeetsBand k (value_of low.min) (value_of slot.until) → ReachesBand k (ends (present_slots rows moved) j) →
-      Counts rows moved low are.bound places j
+  counted : (d : Label) (j : ℕ) → Stands comes true at i j → (k : ℕ) → OverlapIn low (get_or (labels_in rows) j d) k →
+      MeetsBand k (value_of low.min) (value_of slot.until) → ReachesBand k (ends (present_slots rows moved) j) → Counts rows moved low are.bound places j
   counted d j stands k found meets reaches =
       let many = length-labels rows in
       let lt : j < i = stands.0 in
@@ -230,10 +232,12 @@ module _ (free_law : FreeLaw) (rival_law : RivalLaw) (bound_law : BoundLaw) (blo
       unfound_allows free_law rival_law bound_law blocks_law low (get_or (labels_in rows) j d) slot.until (get_or (present_slots rows moved) j no_slot).until among.is_end.1 (ends_in d j stands).1
       (λ k found meets reaches. elim (counted d j stands k found meets reaches) [
         | inl there ↦ absurd (none there)
-        | inr quiet ↦ smaller_law low (get_or (labels_in rows) j d) u u (value_of slot.until) (value_of are.bound) (omega arith) under_bound (upto_law low (get_or (labels_in rows) j d) u (value_of are.bound) bound_low (quiet d))
+        | inr quiet ↦ smaller_law low (get_or (labels_in rows) j d) u u (value_of slot.until) (value_of are.bound)
+            (omega arith) under_bound (upto_law low (get_or (labels_in rows) j d) u (value_of are.bound) bound_low (quiet d))
       ])
 
-  limits_unfound : (d : Label) (j : ℕ) → Stands comes true at i j → ¬ (Contains places j) → IsLess (value_of slot.until) (value_of low.max) → ¬ (IsLimit low (others d j).label (value_of (others d j).until) (value_of slot.until))
+  limits_unfound : (d : Label) (j : ℕ) → Stands comes true at i j → ¬ (Contains places j) → IsLess (value_of slot.until) (value_of low.max) →
+      ¬ (IsLimit low (others d j).label (value_of (others d j).until) (value_of slot.until))
   unfolding others
   limits_unfound d j stands none below =
       unfound_no_limit free_law rival_law bound_law blocks_law low (get_or (labels_in rows) j d) slot.until (get_or (present_slots rows moved) j no_slot).until below (ends_in d j stands).1
@@ -281,12 +285,14 @@ module _ (free_law : FreeLaw) (rival_law : RivalLaw) (bound_law : BoundLaw) (blo
       (get_or places k 0, are.stand (get_or places k 0) (k, h, get_or_default places k (get_or places k 0) 0 h), alike d k h, (h, refl))
 
   -- what places that are enough leave the label is what all labels that stand before it leave
-  pub enough_own : (d : Label) → ((e : Label) → get_or (labels_in rows) i e ≡ low) → IsOwnSlot (row (number_at rows) (labels_in rows) (present_slots rows moved) d) (Stands comes true at i) (get_or (labels_in rows) i d) slot
+  pub enough_own : (d : Label) → ((e : Label) → get_or (labels_in rows) i e ≡ low) →
+      IsOwnSlot (row (number_at rows) (labels_in rows) (present_slots rows moved) d) (Stands comes true at i) (get_or (labels_in rows) i d) slot
   unfolding rivals others
   enough_own d is =
       rw (is d) (elim (cases_lt (slot.until.num * low.max.den) (low.max.num * slot.until.den)) [
         | inl below ↦
-            joined_by (λ k. k < length rivals) (Stands comes true at i) (λ k. nat_lt k (length rivals)) (stand_test comes true at i) (is_below (length rivals)) (is_standing comes true at i) Linked linked is_linked joined_law low (rival_at low rivals) (others d) slot
+            joined_by (λ k. k < length rivals) (Stands comes true at i) (λ k. nat_lt k (length rivals)) (stand_test comes true at i)
+            (is_below (length rivals)) (is_standing comes true at i) Linked linked is_linked joined_law low (rival_at low rivals) (others d) slot
             (record {
               forth = forward d;
               back = λ j stands. elim (contained_or_not places j) [
@@ -296,12 +302,14 @@ module _ (free_law : FreeLaw) (rival_law : RivalLaw) (bound_law : BoundLaw) (blo
               order = in_order;
             }) among
         | inr most ↦
-            carried_by (λ k. k < length rivals) (Stands comes true at i) (λ k. nat_lt k (length rivals)) (stand_test comes true at i) (is_below (length rivals)) (is_standing comes true at i) Linked linked is_linked carried_law low (rival_at low rivals) (others d)
+            carried_by (λ k. k < length rivals) (Stands comes true at i) (λ k. nat_lt k (length rivals)) (stand_test comes true at i)
+            (is_below (length rivals)) (is_standing comes true at i) Linked linked is_linked carried_law low (rival_at low rivals) (others d)
             (record {
               forth = λ k lt. inr (forward d k lt);
               back = λ j stands. elim (contained_or_not places j) [
                 | inl there ↦ inr (gathered d j there)
-                | inr none ↦ inl (smaller_law low (others d j).label (value_of (others d j).until) (value_of (others d j).until) (value_of low.max) (value_of slot.until) (omega arith) most (allows_unfound d j stands none))
+                | inr none ↦ inl (smaller_law low (others d j).label (value_of (others d j).until) (value_of (others d j).until)
+                    (value_of low.max) (value_of slot.until) (omega arith) most (allows_unfound d j stands none))
               ];
               order = in_order;
             }) slot among

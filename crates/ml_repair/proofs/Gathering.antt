@@ -62,7 +62,8 @@ band_from low high k b meets in' =
 -- ---- bounds
 
 -- a bound that some places set is still one they set as more places come in
-pub bound_more : (rows : List Row) (moved : List Moved) (low : Label) (few many : List ℕ) (bound : Ratio) → ((p : ℕ) → Contains few p → Contains many p) → IsBoundBy rows moved low few bound → IsBoundBy rows moved low many bound
+pub bound_more : (rows : List Row) (moved : List Moved) (low : Label) (few many : List ℕ) (bound : Ratio) →
+    ((p : ℕ) → Contains few p → Contains many p) → IsBoundBy rows moved low few bound → IsBoundBy rows moved low many bound
 bound_more rows moved low few many bound all h = elim h [ inl most ↦ inl most | inr some ↦ inr (some.0, all some.0 some.1, some.2) ]
 
 -- ---- the scale that is searched from
@@ -91,7 +92,8 @@ own_slot rows moved p lt unmoved =
     let many = length-map moved (λ (m : Moved). m.number) in
     let named : (k : ℕ) → k < length moved → k < length (numbers_of moved) = λ k k_in. omega arith in
     present_read rows moved p r lt s.1
-    ∙ slot_kept r.number r.slot moved (λ k k_in e. unmoved (k, named k k_in, get_or_default (numbers_of moved) k (number_at rows p) 0 (named k k_in) ∙ e ∙ sym (map_read (λ (t : Row). t.number) rows p r 0 lt s.1)))
+    ∙ slot_kept r.number r.slot moved
+    (λ k k_in e. unmoved (k, named k k_in, get_or_default (numbers_of moved) k (number_at rows p) 0 (named k k_in) ∙ e ∙ sym (map_read (λ (t : Row). t.number) rows p r 0 lt s.1)))
     ∙ sym (map_read (λ (t : Row). t.slot) rows p r no_slot lt s.1)
 
 -- so one that reaches into a band has an own slot that lasts until it
@@ -101,8 +103,10 @@ lasts_until rows moved k p scale first num den lt unmoved reaches =
     reaching_lasts k scale (ends (slots_in rows) p) first num den (subst (λ (s : Slot). ReachesBand k (value_of s.until)) (own_slot rows moved p lt unmoved) reaches)
 
 -- and lasts until a scale that is set by its end
-pub lasts_from : (rows : List Row) (moved : List Moved) (low : Label) (k p : ℕ) (scale : Ratio) → ((u : Ratio) → IsLess (value_of low.min) (value_of u) → ReachesBand k (value_of u) → IsAtMost (value_of scale) (value_of u)) →
-    p < length rows → IsUnmoved rows moved p → ReachesBand k (ends (present_slots rows moved) p) → IsLess (value_of low.min) (ends (present_slots rows moved) p) → IsAtMost (value_of scale) (ends (slots_in rows) p)
+pub lasts_from : (rows : List Row) (moved : List Moved) (low : Label) (k p : ℕ) (scale : Ratio) →
+    ((u : Ratio) → IsLess (value_of low.min) (value_of u) → ReachesBand k (value_of u) → IsAtMost (value_of scale) (value_of u)) →
+    p < length rows → IsUnmoved rows moved p → ReachesBand k (ends (present_slots rows moved) p) →
+    IsLess (value_of low.min) (ends (present_slots rows moved) p) → IsAtMost (value_of scale) (ends (slots_in rows) p)
 lasts_from rows moved low k p scale least lt unmoved reaches later =
     let same = own_slot rows moved p lt unmoved in
     let own : Slot = get_or (slots_in rows) p no_slot in
@@ -155,7 +159,8 @@ ended_before low high u bound early f limit below =
 
 module _ (rows : List Row) (moved : List Moved) (low : Label) where
   -- what counts goes on to count as more places come in and the bound goes down
-  pub counts_more : (bound next : Ratio) (few many : List ℕ) → ((p : ℕ) → Contains few p → Contains many p) → IsAtMost (value_of next) (value_of bound) → (p : ℕ) → Counts rows moved low bound few p → Counts rows moved low next many p
+  pub counts_more : (bound next : Ratio) (few many : List ℕ) → ((p : ℕ) → Contains few p → Contains many p) →
+      IsAtMost (value_of next) (value_of bound) → (p : ℕ) → Counts rows moved low bound few p → Counts rows moved low next many p
   counts_more bound next few many all upto p h =
       elim h [ inl there ↦ inl (all p there) | inr none ↦ inr (λ d f limit below. at_most_less (value_of next) (value_of bound) f upto (none d f limit below)) ]
 
@@ -167,8 +172,9 @@ new_slot moved k m differ lt read own = slot_new m.number own moved k m differ l
 pub record GatheredBands (sought : Sought) (first band : ℕ) (bound : Ratio) (places : List ℕ) : Type 0 where
   pub stand : (p : ℕ) → Contains places p → Stands sought.edited.comes true sought.edited.at sought.place p
   pub bound_is : IsBoundBy sought.roster.now sought.moves.now sought.low.now places bound
-  pub whole : (p k : ℕ) → Stands sought.edited.comes true sought.edited.at sought.place p → OverlapsAt sought.roster.now sought.low.now k p → ReachesBand k (ends (present_slots sought.roster.now sought.moves.now) p) → first ≤ k → k < band →
-      Counts sought.roster.now sought.moves.now sought.low.now bound places p
+  pub whole : (p k : ℕ) → Stands sought.edited.comes true sought.edited.at sought.place p →
+      OverlapsAt sought.roster.now sought.low.now k p → ReachesBand k (ends (present_slots sought.roster.now sought.moves.now) p) →
+      first ≤ k → k < band → Counts sought.roster.now sought.moves.now sought.low.now bound places p
 
 -- and of the labels with new slots
 pub record GatheredBelow (sought : Sought) (first band : ℕ) (bound : Ratio) (places : List ℕ) : Type 0 where
@@ -201,7 +207,8 @@ module _ (sought : Sought) where
   i = sought.place
 
   -- none of them has to come in
-  pub sifted_same : (those : ℕ → Type 0) (bound : Ratio) (places : List ℕ) → ((p : ℕ) → those p → Stands comes true at i p → Counts rows moved low bound places p) → AreSifted sought those bound bound places places
+  pub sifted_same : (those : ℕ → Type 0) (bound : Ratio) (places : List ℕ) →
+      ((p : ℕ) → those p → Stands comes true at i p → Counts rows moved low bound places p) → AreSifted sought those bound bound places places
   sifted_same those bound places count = record {
     kept = λ p h. h;
     sound = λ p h. inl h;
@@ -225,7 +232,8 @@ module _ (sought : Sought) where
   }
 
   -- fewer of them
-  pub sifted_fewer : (those fewer : ℕ → Type 0) (before after : List ℕ) (bound next : Ratio) → AreSifted sought those bound next before after → ((p : ℕ) → fewer p → those p) → AreSifted sought fewer bound next before after
+  pub sifted_fewer : (those fewer : ℕ → Type 0) (before after : List ℕ) (bound next : Ratio) →
+      AreSifted sought those bound next before after → ((p : ℕ) → fewer p → those p) → AreSifted sought fewer bound next before after
   sifted_fewer those fewer before after bound next are among = record {
     kept = are.kept;
     sound = are.sound;
@@ -244,7 +252,8 @@ module _ (sought : Sought) where
   sifted_idle place bound places none = sifted_same (λ p. p ≡ place) bound places (λ p h s. subst (Counts rows moved low bound places) (sym h) (inr none))
 
   -- a place whose label sets a limit up to the bound
-  pub sifted_limit : (place : ℕ) (bound limit : Ratio) (before after : List ℕ) → Stands comes true at i place → ((d : Label) → IsLimit low (get_or (labels_in rows) place d) (ends (present_slots rows moved) place) (value_of limit)) →
+  pub sifted_limit : (place : ℕ) (bound limit : Ratio) (before after : List ℕ) → Stands comes true at i place →
+      ((d : Label) → IsLimit low (get_or (labels_in rows) place d) (ends (present_slots rows moved) place) (value_of limit)) →
       IsAtMost (value_of limit) (value_of bound) → after ≡ before ++ place ∷ [] → AreSifted sought (λ p. p ≡ place) bound limit before after
   sifted_limit place bound limit before after stands sets upto pushed =
       let there : Contains after place = subst (λ (xs : List ℕ). Contains xs place) (sym pushed) (Contains-push before place) in
@@ -290,13 +299,15 @@ module _ (sought : Sought) where
       AreSifted sought (IsRowAt rows n) bound bound places places
   sifted_early n slot bound places is early =
       sifted_same (IsRowAt rows n) bound places
-      (λ p h s. inr (λ d. ended_before low (get_or (labels_in rows) p d) (ends (present_slots rows moved) p) (value_of bound) (subst (λ (t : Slot). IsAtMost (value_of t.until) (value_of low.min)) (sym (new_end n slot p is h)) early)))
+      (λ p h s. inr (λ d. ended_before low (get_or (labels_in rows) p d) (ends (present_slots rows moved) p) (value_of bound)
+      (subst (λ (t : Slot). IsAtMost (value_of t.until) (value_of low.min)) (sym (new_end n slot p is h)) early)))
 
   -- no row has a number
   pub sifted_absent : (n : ℕ) (bound : Ratio) (places : List ℕ) → IsFresh n rows → AreSifted sought (IsRowAt rows n) bound bound places places
   sifted_absent n bound places fresh =
       let many = length-map rows (λ (t : Row). t.number) in
-      sifted_same (IsRowAt rows n) bound places (λ p h s. absurd (fresh (p, (let lt : p < length rows = h.0 in omega arith), get_or_default (numbers_in rows) p n 0 (let lt : p < length rows = h.0 in omega arith) ∙ h.1)))
+      sifted_same (IsRowAt rows n) bound places
+      (λ p h s. absurd (fresh (p, (let lt : p < length rows = h.0 in omega arith), get_or_default (numbers_in rows) p n 0 (let lt : p < length rows = h.0 in omega arith) ∙ h.1)))
 
   -- no other row has the number, so sifting the place of its row is sifting the number
   pub sifted_number : (n place : ℕ) (before after : List ℕ) (bound next : Ratio) → HaveOwnNumbers rows → IsRowAt rows n place → AreSifted sought (λ p. p ≡ place) bound next before after →
@@ -311,7 +322,8 @@ module _ (sought : Sought) where
   moved_none bound places = sifted_same (AmongMoved rows moved 0) bound places (λ p h s. absurd (let lt : h.1.0 < 0 = h.1.1 in omega arith))
 
   -- one more label with a new slot is sifted: the one with the next number
-  pub moved_more : (before middle after : List ℕ) (bound mid next : Ratio) (k n : ℕ) → k < length moved → get_or (numbers_of moved) k 0 ≡ n → AreSifted sought (AmongMoved rows moved k) bound mid before middle →
+  pub moved_more : (before middle after : List ℕ) (bound mid next : Ratio) (k n : ℕ) → k < length moved →
+      get_or (numbers_of moved) k 0 ≡ n → AreSifted sought (AmongMoved rows moved k) bound mid before middle →
       AreSifted sought (IsRowAt rows n) mid next middle after → AreSifted sought (AmongMoved rows moved (k + 1)) bound next before after
   moved_more before middle after bound mid next k n lt is one two' =
       let many = length-map moved (λ (m : Moved). m.number) in
@@ -328,7 +340,8 @@ module _ (sought : Sought) where
   moved_all before after bound next k all are =
       let many = length-map moved (λ (m : Moved). m.number) in
       let e : take k (numbers_of moved) ≡ numbers_of moved = take_all k (numbers_of moved) (omega arith) in
-      sifted_fewer (AmongMoved rows moved k) (λ p. (p < length rows) × Contains (numbers_of moved) (number_at rows p)) before after bound next are (λ p h. (h.0, subst (λ (ns : List ℕ). Contains ns (number_at rows p)) (sym e) h.1))
+      sifted_fewer (AmongMoved rows moved k) (λ p. (p < length rows) × Contains (numbers_of moved) (number_at rows p)) before after bound next are
+      (λ p h. (h.0, subst (λ (ns : List ℕ). Contains ns (number_at rows p)) (sym e) h.1))
 
   -- ---- all bands up to that of the bound
 
@@ -341,8 +354,9 @@ module _ (sought : Sought) where
     }
 
     -- some more bands: each place in them that the earlier ones do not have counts
-    bands_over : (found : ℕ → Type 0) (band until : ℕ) (bound next : Ratio) (places more : List ℕ) → GatheredBands sought first band bound places → AreSifted sought found bound next places more →
-        ((p k : ℕ) → band ≤ k → k < until → Stands comes true at i p → OverlapsAt rows low k p → ReachesBand k (ends (present_slots rows moved) p) → Counts rows moved low next more p) → GatheredBands sought first until next more
+    bands_over : (found : ℕ → Type 0) (band until : ℕ) (bound next : Ratio) (places more : List ℕ) → GatheredBands sought first band bound places →
+        AreSifted sought found bound next places more → ((p k : ℕ) → band ≤ k → k < until → Stands comes true at i p → OverlapsAt rows low k p →
+        ReachesBand k (ends (present_slots rows moved) p) → Counts rows moved low next more p) → GatheredBands sought first until next more
     bands_over found band until bound next places more so_far are here = record {
       stand = λ p h. elim (are.sound p h) [ inl old ↦ so_far.stand p old | inr new ↦ new ];
       bound_is = are.bound_is so_far.bound_is;
@@ -353,8 +367,9 @@ module _ (sought : Sought) where
     }
 
     -- one more band
-    bands_more : (found : ℕ → Type 0) (band : ℕ) (bound next : Ratio) (places more : List ℕ) → GatheredBands sought first band bound places → AreSifted sought found bound next places more →
-        ((p : ℕ) → Stands comes true at i p → OverlapsAt rows low band p → ReachesBand band (ends (present_slots rows moved) p) → Counts rows moved low next more p) → GatheredBands sought first (band + 1) next more
+    bands_more : (found : ℕ → Type 0) (band : ℕ) (bound next : Ratio) (places more : List ℕ) → GatheredBands sought first band bound places →
+        AreSifted sought found bound next places more → ((p : ℕ) → Stands comes true at i p → OverlapsAt rows low band p →
+        ReachesBand band (ends (present_slots rows moved) p) → Counts rows moved low next more p) → GatheredBands sought first (band + 1) next more
     bands_more found band bound next places more so_far are here =
         bands_over found band (band + 1) bound next places more so_far are
         (λ p k from upto s f r.
@@ -362,7 +377,8 @@ module _ (sought : Sought) where
         here p s (subst (λ (b : ℕ). OverlapsAt rows low b p) e f) (subst (λ (b : ℕ). ReachesBand b (ends (present_slots rows moved) p)) e r))
 
     -- the labels with new slots
-    pub gathered_new : (more : List ℕ) (next : Ratio) → AreSifted sought (λ p. (p < length rows) × Contains (numbers_of moved) (number_at rows p)) low.max next [] more → GatheredBelow sought first first next more
+    pub gathered_new : (more : List ℕ) (next : Ratio) →
+        AreSifted sought (λ p. (p < length rows) × Contains (numbers_of moved) (number_at rows p)) low.max next [] more → GatheredBelow sought first first next more
     gathered_new more next are = record {
       bands = bands_none (λ p. (p < length rows) × Contains (numbers_of moved) (number_at rows p)) more next are;
       new_ones = λ p s lt m. are.whole p (lt, m) s;
@@ -384,7 +400,8 @@ module _ (sought : Sought) where
     }
 
     -- bands in which there is nothing to gather
-    pub gathered_clear : (band : ℕ) (bound : Ratio) (places : List ℕ) → GatheredBelow sought first band bound places → IsClear rows moved low i band (band + 3) → GatheredBelow sought first (band + 4) bound places
+    pub gathered_clear : (band : ℕ) (bound : Ratio) (places : List ℕ) → GatheredBelow sought first band bound places →
+        IsClear rows moved low i band (band + 3) → GatheredBelow sought first (band + 4) bound places
     gathered_clear band bound places so_far clear = record {
       bands = record {
         stand = so_far.bands.stand;
@@ -407,11 +424,12 @@ module _ (sought : Sought) where
     -- some more bands are gathered, once all labels that the label overlaps in them are sifted
     pub gathered_all : (band until : ℕ) (bound next : Ratio) (places more found : List ℕ) → GatheredBands sought first band bound places → AreMet rows low band until [] found →
         AreSifted sought (Contains found) bound next places more → GatheredBands sought first until next more
-    gathered_all band until bound next places more found so_far all are = bands_over (Contains found) band until bound next places more so_far are (λ p k from upto s f r. are.whole p (all.whole p k from upto f) s)
+    gathered_all band until bound next places more found so_far all are =
+        bands_over (Contains found) band until bound next places more so_far are (λ p k from upto s f r. are.whole p (all.whole p k from upto f) s)
 
     -- places gathered in all bands up to that of the bound are enough for the label's slot, in whatever order
-    pub gathered_enough : (band b : ℕ) (bound : Ratio) (places sorted : List ℕ) → GatheredBands sought first band bound places → IsInBand (value_of low.min) first → IsInBand (value_of bound) b → (b < band) ⊎ (28 ≤ band) →
-        ((p : ℕ) → Contains sorted p ↔ Contains places p) → AreEnoughFor sought sorted
+    pub gathered_enough : (band b : ℕ) (bound : Ratio) (places sorted : List ℕ) → GatheredBands sought first band bound places → IsInBand (value_of low.min) first →
+        IsInBand (value_of bound) b → (b < band) ⊎ (28 ≤ band) → ((p : ℕ) → Contains sorted p ↔ Contains places p) → AreEnoughFor sought sorted
     gathered_enough band b bound places sorted done starts ends' stop same = record {
       stand = λ p h. done.stand p ((same p).0 h);
       bound = bound;

@@ -68,7 +68,8 @@ is_place at j k =
     (both_tests (nat_lt at (k + 1)) (j == (k + 1)) (at ≤ k) (j ≡ k + 1) (at_most_test at k) (is_same j (k + 1)))
 
 module _ (carried_law : CarriedLaw) (at : ℕ) (number shorter_number : ℕ → ℕ) (labels shorter_labels : List Label) (slots shorter_slots : List Slot)
-    (of_numbers : (j k : ℕ) → IsPlaceOf at j k → number j ≡ shorter_number k) (of_labels : IsWithout at labels shorter_labels) (of_slots : IsWithout at slots shorter_slots) (comes after : Bool) (apart : ¬ (comes ≡ after)) where
+    (of_numbers : (j k : ℕ) → IsPlaceOf at j k → number j ≡ shorter_number k) (of_labels : IsWithout at labels shorter_labels)
+    (of_slots : IsWithout at slots shorter_slots) (comes after : Bool) (apart : ¬ (comes ≡ after)) where
   row_joined : (d : Label) (j k : ℕ) → IsPlaceOf at j k → AreSameRival (row number labels slots d j) (row shorter_number shorter_labels shorter_slots d k)
   row_joined d j k p =
       let e = of_slots.same j k no_slot p in
@@ -97,7 +98,8 @@ module _ (carried_law : CarriedLaw) (at : ℕ) (number shorter_number : ℕ → 
   back j k m p lt =
       elim (cases_lt m at) [
         | inl less ↦ (m, ((elim p [ inl b ↦ (let x = b.1 in omega arith) | inr a ↦ (let x = a.1 in omega arith) ]), λ e. absurd (let f : m ≡ at = e in omega arith)), inl (less, refl))
-        | inr more ↦ (m + 1, ((elim p [ inl b ↦ (let x = b.0 in let y = b.1 in omega arith) | inr a ↦ (let x = a.1 in omega arith) ]), λ e. absurd (let f : m + 1 ≡ at = e in omega arith)), inr (more, refl))
+        | inr more ↦
+            (m + 1, ((elim p [ inl b ↦ (let x = b.0 in let y = b.1 in omega arith) | inr a ↦ (let x = a.1 in omega arith) ]), λ e. absurd (let f : m + 1 ≡ at = e in omega arith)), inr (more, refl))
       ]
 
   order : (j k i m : ℕ) → IsPlaceOf at j k → IsPlaceOf at i m → m < k → i < j
@@ -115,7 +117,8 @@ module _ (carried_law : CarriedLaw) (at : ℕ) (number shorter_number : ℕ → 
       ]
 
   -- a slot that is left by the labels that stand in the longer list is left by those before the place in the shorter one
-  pub own_shorter : (d low : Label) (slot : Slot) (j k : ℕ) → IsPlaceOf at j k → IsOwnSlot (row number labels slots d) (Stands comes after at j) low slot → IsOwnSlot (row shorter_number shorter_labels shorter_slots d) (λ m. m < k) low slot
+  pub own_shorter : (d low : Label) (slot : Slot) (j k : ℕ) → IsPlaceOf at j k → IsOwnSlot (row number labels slots d) (Stands comes after at j) low slot →
+      IsOwnSlot (row shorter_number shorter_labels shorter_slots d) (λ m. m < k) low slot
   own_shorter d low slot j k p own =
       carried_by (Stands comes after at j) (λ m. m < k) (stand_test comes after at j) (λ m. nat_lt m k) (is_standing comes after at j) (is_below k) (IsPlaceOf at) (place_test at) (is_place at)
       carried_law low (row number labels slots d) (row shorter_number shorter_labels shorter_slots d)
@@ -126,9 +129,11 @@ module _ (carried_law : CarriedLaw) (at : ℕ) (number shorter_number : ℕ → 
       }) slot own
 
   -- a slot that is left by the labels before the place in the shorter list is left by those that stand in the longer one
-  pub own_longer : (d low : Label) (slot : Slot) (j k : ℕ) → IsPlaceOf at j k → IsOwnSlot (row shorter_number shorter_labels shorter_slots d) (λ m. m < k) low slot → IsOwnSlot (row number labels slots d) (Stands comes after at j) low slot
+  pub own_longer : (d low : Label) (slot : Slot) (j k : ℕ) → IsPlaceOf at j k →
+      IsOwnSlot (row shorter_number shorter_labels shorter_slots d) (λ m. m < k) low slot → IsOwnSlot (row number labels slots d) (Stands comes after at j) low slot
   own_longer d low slot j k p own =
-      carried_by (λ m. m < k) (Stands comes after at j) (λ m. nat_lt m k) (stand_test comes after at j) (is_below k) (is_standing comes after at j) (λ k j. IsPlaceOf at j k) (λ k j. place_test at j k) (λ k j. is_place at j k)
+      carried_by (λ m. m < k) (Stands comes after at j) (λ m. nat_lt m k) (stand_test comes after at j) (is_below k)
+      (is_standing comes after at j) (λ k j. IsPlaceOf at j k) (λ k j. place_test at j k) (λ k j. is_place at j k)
       carried_law low (row shorter_number shorter_labels shorter_slots d) (row number labels slots d)
       (record {
         forth = λ m lt. let b = back j k m p lt in inr (b.0, b.1, row_back d b.0 m b.2, b.2);
@@ -180,19 +185,23 @@ module _ (carried_law : CarriedLaw) (at : ℕ) (number shorter_number : ℕ → 
       }
 
 -- where the edited label is there, both are the same
-pub own_all_there : (number : ℕ → ℕ) (labels : List Label) (slots : List Slot) (at : ℕ) (comes after : Bool) → comes ≡ after → HaveOwnSlots number labels slots → AreOwn number labels slots at comes after
+pub own_all_there : (number : ℕ → ℕ) (labels : List Label) (slots : List Slot) (at : ℕ) (comes after : Bool) →
+    comes ≡ after → HaveOwnSlots number labels slots → AreOwn number labels slots at comes after
 own_all_there number labels slots at comes after same all =
     record {
       one_slot = all.one_slot;
-      own = λ d i in' there. own_same (row number labels slots d) (λ j. j < i) (Stands comes after at i) (λ j. (λ lt. (lt, λ e. same), λ s. s.0)) (get_or labels i d) (get_or slots i no_slot) (all.own d i in');
+      own = λ d i in' there. own_same (row number labels slots d) (λ j. j < i) (Stands comes after at i)
+          (λ j. (λ lt. (lt, λ e. same), λ s. s.0)) (get_or labels i d) (get_or slots i no_slot) (all.own d i in');
     }
 
 -- and where all labels that are there have their own slots, so has each label of the list
-pub all_own_there : (number : ℕ → ℕ) (labels : List Label) (slots : List Slot) (at : ℕ) (comes after : Bool) → comes ≡ after → AreOwn number labels slots at comes after → HaveOwnSlots number labels slots
+pub all_own_there : (number : ℕ → ℕ) (labels : List Label) (slots : List Slot) (at : ℕ) (comes after : Bool) →
+    comes ≡ after → AreOwn number labels slots at comes after → HaveOwnSlots number labels slots
 all_own_there number labels slots at comes after same are =
     record {
       one_slot = are.one_slot;
-      own = λ d i in'. own_same (row number labels slots d) (Stands comes after at i) (λ j. j < i) (λ j. (λ s. s.0, λ lt. (lt, λ e. same))) (get_or labels i d) (get_or slots i no_slot) (are.own d i in' (λ e. same));
+      own = λ d i in'. own_same (row number labels slots d) (Stands comes after at i) (λ j. j < i)
+          (λ j. (λ s. s.0, λ lt. (lt, λ e. same))) (get_or labels i d) (get_or slots i no_slot) (are.own d i in' (λ e. same));
     }
 
 -- the longest choice, read at its places alone

@@ -13,7 +13,8 @@ use Rattle.ml_ratio.proofs.lemmas.Lists.{contains_map}
 
 module _ (rows : List Row) (moved : List Moved) where
   -- with the edited label's change, if there is one, the changes are those of the labels that stay, and that change
-  pub joined_same : (edited : Option Change) (before after : List Change) → ((c : Change) → Contains before c ↔ IsStayChange rows moved c) → IsJoinedBy edited before after → (c : Change) → Contains after c ↔ (IsStayChange rows moved c ⊎ (edited ≡ Some c))
+  pub joined_same : (edited : Option Change) (before after : List Change) → ((c : Change) → Contains before c ↔ IsStayChange rows moved c) →
+      IsJoinedBy edited before after → (c : Change) → Contains after c ↔ (IsStayChange rows moved c ⊎ (edited ≡ Some c))
   joined_same None before after are joined c = rw joined (λ h. inl ((are c).0 h), λ h. elim h [ inl s ↦ (are c).1 s | inr e ↦ absurd (let f : None ≡ Some c = e in cc) ])
   joined_same (Some x) before after are joined c =
       rw joined (
@@ -25,7 +26,8 @@ module _ (rows : List Row) (moved : List Moved) where
       )
 
   -- no two of these changes have one id, as no label that stays has the id of the edited one
-  pub joined_own : (edited : Option Change) (before after : List Change) → ((c : Change) → Contains before c ↔ IsStayChange rows moved c) → HaveOwnIds before → IfSome edited (λ c. ¬ (HasId (labels_in rows) c.id)) → IsJoinedBy edited before after → HaveOwnIds after
+  pub joined_own : (edited : Option Change) (before after : List Change) → ((c : Change) → Contains before c ↔ IsStayChange rows moved c) →
+      HaveOwnIds before → IfSome edited (λ c. ¬ (HasId (labels_in rows) c.id)) → IsJoinedBy edited before after → HaveOwnIds after
   joined_own None before after are own none joined = rw joined own
   joined_own (Some x) before after are own none joined =
       rw joined (all_pairs_push (λ (a : Change) (b : Change). a.id ≢ b.id) before x own (λ k d lt e.

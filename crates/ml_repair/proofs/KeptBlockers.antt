@@ -43,7 +43,8 @@ first_alike rivals others P alike low f n first =
       first = λ k less stands limit. first.first k less stands (subst (λ (r : Rival). IsLimit low r.label (value_of r.until) f) (sym (alike k stands)) limit);
     }
 
-setter_alike : (rivals others : ℕ → Rival) (P : ℕ → Type 0) → ((j : ℕ) → P j → rivals j ≡ others j) → (low : Label) (f : Fraction) (b : Option ℕ) → IsSetter rivals P low f b → IsSetter others P low f b
+setter_alike : (rivals others : ℕ → Rival) (P : ℕ → Type 0) → ((j : ℕ) → P j → rivals j ≡ others j) →
+    (low : Label) (f : Fraction) (b : Option ℕ) → IsSetter rivals P low f b → IsSetter others P low f b
 setter_alike rivals others P alike low f None h = h
 setter_alike rivals others P alike low f (Some n) h = (h.0, first_alike rivals others P alike low f n h.1)
 
@@ -121,7 +122,8 @@ module _ (smaller_law : SmallerLaw) (same_law : SameLaw) (rows : List Row) (move
     pub first : (k : ℕ) → k < b → Stands comes false at i k → ¬ (IsLimit low (get_or (labels_in rows) k low) (ends known.was k) (value_of (present_at rows moved i).until))
     pub sets : IsLimit low (get_or (labels_in rows) b low) (ends (present_slots rows moved) b) (value_of (present_at rows moved i).until)
 
-  holds_by : (n : ℕ) → IsFirstAt (row (number_at rows) (labels_in rows) known.was low) (Stands comes false at i) low (value_of (present_at rows moved i).until) n → (b : ℕ) → IsStaying rows changed at i n b → Contains places b → Holds b
+  holds_by : (n : ℕ) → IsFirstAt (row (number_at rows) (labels_in rows) known.was low) (Stands comes false at i) low (value_of (present_at rows moved i).until) n →
+      (b : ℕ) → IsStaying rows changed at i n b → Contains places b → Holds b
   holds_by n first b staying there =
       let numbers = length-map rows (λ (r : Row). r.number) in
       let lt : first.place < i = first.is_standing.0 in
@@ -131,7 +133,8 @@ module _ (smaller_law : SmallerLaw) (same_law : SameLaw) (rows : List Row) (move
       record {
         stays = there;
         first = λ k less. first.first k (let e : first.place ≡ b = same in omega arith);
-        sets = same_law low (get_or (labels_in rows) b low) (ends known.was b) (ends (present_slots rows moved) b) (value_of (present_at rows moved i).until) (value_of (present_at rows moved i).until) end refl
+        sets = same_law low (get_or (labels_in rows) b low) (ends known.was b) (ends (present_slots rows moved) b)
+            (value_of (present_at rows moved i).until) (value_of (present_at rows moved i).until) end refl
             (subst (λ (p : ℕ). IsLimit low (get_or (labels_in rows) p low) (ends known.was p) (value_of (present_at rows moved i).until)) same first.sets);
       }
 
@@ -147,7 +150,8 @@ module _ (smaller_law : SmallerLaw) (same_law : SameLaw) (rows : List Row) (move
   not_above : IsAtMost (value_of slot.until) (value_of (present_at rows moved i).until)
   not_above =
       elim holding [
-        | inl most ↦ at_most_trans (value_of slot.until) (value_of low.max) (value_of (present_at rows moved i).until) among.is_end.1 (same_at_most (value_of low.max) (value_of (present_at rows moved i).until) most)
+        | inl most ↦ at_most_trans (value_of slot.until) (value_of low.max) (value_of (present_at rows moved i).until) among.is_end.1
+            (same_at_most (value_of low.max) (value_of (present_at rows moved i).until) most)
         | inr some ↦ some.1.sets.greatest (value_of slot.until) among.is_end (allows_there some.0 some.1.stays)
       ]
 
@@ -161,27 +165,33 @@ module _ (smaller_law : SmallerLaw) (same_law : SameLaw) (rows : List Row) (move
       ]
 
   -- before the first of the places that sets the end no other label sets it
-  none_before : (c : ℕ) → c < length places → ((m : ℕ) → m < c → ¬ (IsLimit low (get_or (labels_in rows) (get_or places m 0) low) (ends (present_slots rows moved) (get_or places m 0)) (value_of slot.until))) → IsLess (value_of slot.until) (value_of low.max) →
-      (k : ℕ) → k < get_or places c 0 → Stands comes true at i k → ¬ (Contains places k) → ¬ (IsLimit low (get_or (labels_in rows) k low) (ends (present_slots rows moved) k) (value_of slot.until))
+  none_before : (c : ℕ) → c < length places →
+      ((m : ℕ) → m < c → ¬ (IsLimit low (get_or (labels_in rows) (get_or places m 0) low) (ends (present_slots rows moved) (get_or places m 0)) (value_of slot.until))) →
+      IsLess (value_of slot.until) (value_of low.max) → (k : ℕ) → k < get_or places c 0 → Stands comes true at i k →
+      ¬ (Contains places k) → ¬ (IsLimit low (get_or (labels_in rows) k low) (ends (present_slots rows moved) k) (value_of slot.until))
   none_before c c_in first below k less stands none limit =
       let end = kept_end k stands none in
       let apart = apart_from k stands none in
-      let allowed = smaller_law low (get_or (labels_in rows) k low) (ends known.was k) (ends (present_slots rows moved) k) (value_of (present_at rows moved i).until) (value_of (present_at rows moved i).until)
+      let allowed = smaller_law low (get_or (labels_in rows) k low) (ends known.was k) (ends (present_slots rows moved) k)
+      (value_of (present_at rows moved i).until) (value_of (present_at rows moved i).until)
       (same_at_most (ends (present_slots rows moved) k) (ends known.was k) end) (omega arith) (own.allowed k (stood k stands.0 apart)) in
       let under : IsAtMost (value_of (present_at rows moved i).until) (value_of slot.until) = limit.greatest (value_of (present_at rows moved i).until) own.is_end allowed in
       let same = same_both (value_of slot.until) (value_of (present_at rows moved i).until) not_above under in
       elim holding [
-        | inl most ↦ less_is_apart (value_of (present_at rows moved i).until) (value_of low.max) (at_most_less (value_of (present_at rows moved i).until) (value_of slot.until) (value_of low.max) under below) most
+        | inl most ↦ less_is_apart (value_of (present_at rows moved i).until) (value_of low.max)
+            (at_most_less (value_of (present_at rows moved i).until) (value_of slot.until) (value_of low.max) under below) most
         | inr some ↦
             let b : ℕ = some.0 in
             let m = at_of b some.1.stays in
-            let sets = same_law low (get_or (labels_in rows) b low) (ends (present_slots rows moved) b) (ends (present_slots rows moved) b) (value_of (present_at rows moved i).until) (value_of slot.until) refl (sym same) some.1.sets in
+            let sets = same_law low (get_or (labels_in rows) b low) (ends (present_slots rows moved) b) (ends (present_slots rows moved) b)
+            (value_of (present_at rows moved i).until) (value_of slot.until) refl (sym same) some.1.sets in
             elim (cases_lt m.0 c) [
               | inl earlier_one ↦ first m.0 earlier_one (subst (λ (p : ℕ). IsLimit low (get_or (labels_in rows) p low) (ends (present_slots rows moved) p) (value_of slot.until)) (sym m.2) sets)
               | inr later ↦
                   let up_to : get_or places c 0 ≤ b = ascending_to c m.0 c_in m.1 later b m.2 in
                   some.1.first k (omega arith) (stood k stands.0 apart)
-                  (same_law low (get_or (labels_in rows) k low) (ends (present_slots rows moved) k) (ends known.was k) (value_of slot.until) (value_of (present_at rows moved i).until) (sym end) same limit)
+                  (same_law low (get_or (labels_in rows) k low) (ends (present_slots rows moved) k) (ends known.was k)
+                  (value_of slot.until) (value_of (present_at rows moved i).until) (sym end) same limit)
             ]
       ]
     where
@@ -195,7 +205,8 @@ module _ (smaller_law : SmallerLaw) (same_law : SameLaw) (rows : List Row) (move
                 omega arith
           ]
 
-  first_of : (n : ℕ) → IsLess (value_of slot.until) (value_of low.max) → IsFirstAt (rival_at low (map (rival_in rows moved low) places)) (λ k. k < length (map (rival_in rows moved low) places)) low (value_of slot.until) n →
+  first_of : (n : ℕ) → IsLess (value_of slot.until) (value_of low.max) →
+      IsFirstAt (rival_at low (map (rival_in rows moved low) places)) (λ k. k < length (map (rival_in rows moved low) places)) low (value_of slot.until) n →
       IsFirstAt (rival_in rows moved low) (Stands comes true at i) low (value_of slot.until) n
   first_of n below first =
       let e = many in
@@ -219,7 +230,8 @@ module _ (smaller_law : SmallerLaw) (same_law : SameLaw) (rows : List Row) (move
             ];
       }
 
-  setter_of : (o : Option ℕ) → IsSetter (rival_at low (map (rival_in rows moved low) places)) (λ k. k < length (map (rival_in rows moved low) places)) low (value_of slot.until) o → IsSetter (rival_in rows moved low) (Stands comes true at i) low (value_of slot.until) o
+  setter_of : (o : Option ℕ) → IsSetter (rival_at low (map (rival_in rows moved low) places)) (λ k. k < length (map (rival_in rows moved low) places)) low
+      (value_of slot.until) o → IsSetter (rival_in rows moved low) (Stands comes true at i) low (value_of slot.until) o
   setter_of None most = most
   setter_of (Some n) some = (some.0, first_of n some.0 some.1)
 
@@ -240,7 +252,8 @@ module _ (smaller_law : SmallerLaw) (same_law : SameLaw) (rows : List Row) (move
       let n = length-labels rows in
       subst (λ (a : Label). IsOwnSlot (row (number_at rows) (labels_in rows) (present_slots rows moved) d) (Stands comes true at i) a slot) (sym (its d))
       (own_alike (rival_in rows moved low) (row (number_at rows) (labels_in rows) (present_slots rows moved) d) (Stands comes true at i)
-      (λ j stands. let lt : j < i = stands.0 in ap (λ (a : Label). rival_of (number_at rows j) a (get_or (present_slots rows moved) j no_slot).until) (get_or_default (labels_in rows) j low d (omega arith)))
+      (λ j stands. let lt : j < i = stands.0 in ap (λ (a : Label). rival_of (number_at rows j) a (get_or (present_slots rows moved) j no_slot).until)
+      (get_or_default (labels_in rows) j low d (omega arith)))
       low slot own_low)
 
 -- ---- what a repair notes
@@ -255,7 +268,8 @@ module _ (at : ℕ) (comes : Bool) where
   }
 
   -- one more label is done, which has its end of before: none is noted
-  pub noted_still : (was is next : ℕ → Fraction) (i : ℕ) (changed : List ℕ) → AreChanged was is at comes i changed → ((k : ℕ) → k < i → IsSame (is k) (next k)) → IsSame (was i) (next i) → ((a b c : Fraction) → IsSame a b → IsSame b c → IsSame a c) → AreChanged was next at comes (i + 1) changed
+  pub noted_still : (was is next : ℕ → Fraction) (i : ℕ) (changed : List ℕ) → AreChanged was is at comes i changed → ((k : ℕ) → k < i → IsSame (is k) (next k)) →
+      IsSame (was i) (next i) → ((a b c : Fraction) → IsSame a b → IsSame b c → IsSame a c) → AreChanged was next at comes (i + 1) changed
   noted_still was is next i changed so_far same here trans = record {
     stand = λ p there. let h = so_far.stand p there in (let lt : p < i = h.0 in omega arith, h.1);
     edited = so_far.edited;
@@ -266,7 +280,8 @@ module _ (at : ℕ) (comes : Bool) where
   }
 
   -- several labels are passed over, which have their ends of before: none is noted
-  pub noted_skip : (was is : ℕ → Fraction) (i until : ℕ) (changed : List ℕ) → i ≤ until → AreChanged was is at comes i changed → ((j : ℕ) → i ≤ j → IsSame (was j) (is j)) → AreChanged was is at comes until changed
+  pub noted_skip : (was is : ℕ → Fraction) (i until : ℕ) (changed : List ℕ) → i ≤ until → AreChanged was is at comes i changed →
+      ((j : ℕ) → i ≤ j → IsSame (was j) (is j)) → AreChanged was is at comes until changed
   noted_skip was is i until changed le so_far same = record {
     stand = λ p there. let h = so_far.stand p there in (let lt : p < i = h.0 in omega arith, h.1);
     edited = so_far.edited;
@@ -277,7 +292,9 @@ module _ (at : ℕ) (comes : Bool) where
   }
 
   -- one more label is done, whose end may be another one: its place is noted
-  pub noted_more : (was is next : ℕ → Fraction) (i : ℕ) (changed more : List ℕ) → at < i → AreChanged was is at comes i changed → ((k : ℕ) → k < i → IsSame (is k) (next k)) → ((p : ℕ) → Contains more p ↔ (Contains changed p ⊎ (p ≡ i))) → ((a b c : Fraction) → IsSame a b → IsSame b c → IsSame a c) → AreChanged was next at comes (i + 1) more
+  pub noted_more : (was is next : ℕ → Fraction) (i : ℕ) (changed more : List ℕ) → at < i → AreChanged was is at comes i changed →
+      ((k : ℕ) → k < i → IsSame (is k) (next k)) → ((p : ℕ) → Contains more p ↔ (Contains changed p ⊎ (p ≡ i))) →
+      ((a b c : Fraction) → IsSame a b → IsSame b c → IsSame a c) → AreChanged was next at comes (i + 1) more
   noted_more was is next i changed more from so_far same just trans = record {
     stand = λ p there. elim ((just p).0 there) [
       | inl old ↦ let h = so_far.stand p old in (let lt : p < i = h.0 in omega arith, h.1)
@@ -313,14 +330,15 @@ pushed_one xs x ys is p = (
 
 -- ---- the slot that some places leave
 
-some_there : (rows : List Row) (changed places : List ℕ) (at i : ℕ) (o q : Option ℕ) → ((p : ℕ) → o ≡ Some p → Contains places p) → IfSome q (λ n. (b : ℕ) × IsStaying rows changed at i n b × (o ≡ Some b)) →
-    IfSome q (λ n. (b : ℕ) × IsStaying rows changed at i n b × Contains places b)
+some_there : (rows : List Row) (changed places : List ℕ) (at i : ℕ) (o q : Option ℕ) → ((p : ℕ) → o ≡ Some p → Contains places p) →
+    IfSome q (λ n. (b : ℕ) × IsStaying rows changed at i n b × (o ≡ Some b)) → IfSome q (λ n. (b : ℕ) × IsStaying rows changed at i n b × Contains places b)
 some_there rows changed places at i o None there h = tt
 some_there rows changed places at i o (Some n) there h = (h.0, h.1, there h.0 h.2)
 
 -- the slot that the changed labels and the blocker, if it is given, leave is what all labels that stand before leave
-pub left_own : SmallerLaw → SameLaw → (rows : List Row) (moved : List Moved) (at : ℕ) (comes : Bool) (i : ℕ) (changed : List ℕ) (o : Option ℕ) (slot : Slot) → HaveOwnNumbers rows → i < length rows → IsOwnBefore rows moved at comes changed i →
-    ((b : ℕ) → o ≡ Some b → Stands comes true at i b) → IfSome (present_at rows moved i).blocker (λ n. (b : ℕ) × IsStaying rows changed at i n b × (o ≡ Some b)) →
+pub left_own : SmallerLaw → SameLaw → (rows : List Row) (moved : List Moved) (at : ℕ) (comes : Bool) (i : ℕ) (changed : List ℕ) (o : Option ℕ) (slot : Slot) →
+    HaveOwnNumbers rows → i < length rows → IsOwnBefore rows moved at comes changed i → ((b : ℕ) → o ≡ Some b → Stands comes true at i b) →
+    IfSome (present_at rows moved i).blocker (λ n. (b : ℕ) × IsStaying rows changed at i n b × (o ≡ Some b)) →
     IsLeftBy rows moved i (λ p. Contains changed p ⊎ (o ≡ Some p)) slot → AreLeaving rows moved at comes i slot
 left_own smaller_law same_law rows moved at comes i changed o slot differ within known stays has left =
     kept_own smaller_law same_law rows moved left.low at comes i changed left.places slot differ within left.its known
@@ -333,16 +351,18 @@ left_own smaller_law same_law rows moved at comes i changed o slot differ within
     left.ascending left.among
 
 -- so it is for a label without a blocker, among the changed labels alone
-pub left_none : SmallerLaw → SameLaw → (rows : List Row) (moved : List Moved) (at : ℕ) (comes : Bool) (i : ℕ) (changed : List ℕ) (slot : Slot) → HaveOwnNumbers rows → i < length rows → IsOwnBefore rows moved at comes changed i →
-    (present_at rows moved i).blocker ≡ None → IsLeftBy rows moved i (λ p. Contains changed p ⊎ (None ≡ Some p)) slot → AreLeaving rows moved at comes i slot
+pub left_none : SmallerLaw → SameLaw → (rows : List Row) (moved : List Moved) (at : ℕ) (comes : Bool) (i : ℕ) (changed : List ℕ) (slot : Slot) →
+    HaveOwnNumbers rows → i < length rows → IsOwnBefore rows moved at comes changed i → (present_at rows moved i).blocker ≡ None →
+    IsLeftBy rows moved i (λ p. Contains changed p ⊎ (None ≡ Some p)) slot → AreLeaving rows moved at comes i slot
 left_none smaller_law same_law rows moved at comes i changed slot differ within known none left =
     left_own smaller_law same_law rows moved at comes i changed None slot differ within known
     (λ b e. absurd (let f : ◌≡◌ {A = Option ℕ} None (Some b) = e in cc))
     (subst (λ (q : Option ℕ). IfSome q (λ n. (b : ℕ) × IsStaying rows changed at i n b × (None ≡ Some b))) (sym none) tt) left
 
 -- so it is for a label whose blocker stays, among the changed labels and the blocker
-pub left_some : SmallerLaw → SameLaw → (rows : List Row) (moved : List Moved) (at : ℕ) (comes : Bool) (i : ℕ) (changed : List ℕ) (n b : ℕ) (slot : Slot) → HaveOwnNumbers rows → i < length rows → IsOwnBefore rows moved at comes changed i →
-    (present_at rows moved i).blocker ≡ Some n → IsStaying rows changed at i n b → IsLeftBy rows moved i (λ p. Contains changed p ⊎ (Some b ≡ Some p)) slot → AreLeaving rows moved at comes i slot
+pub left_some : SmallerLaw → SameLaw → (rows : List Row) (moved : List Moved) (at : ℕ) (comes : Bool) (i : ℕ) (changed : List ℕ) (n b : ℕ) (slot : Slot) →
+    HaveOwnNumbers rows → i < length rows → IsOwnBefore rows moved at comes changed i → (present_at rows moved i).blocker ≡ Some n →
+    IsStaying rows changed at i n b → IsLeftBy rows moved i (λ p. Contains changed p ⊎ (Some b ≡ Some p)) slot → AreLeaving rows moved at comes i slot
 left_some smaller_law same_law rows moved at comes i changed n b slot differ within known some staying left =
     left_own smaller_law same_law rows moved at comes i changed (Some b) slot differ within known
     (λ p e. let same : b ≡ p = cc in (let lt : b < i = staying.before in omega arith, λ f. absurd (staying.other (same ∙ f))))
@@ -369,7 +389,8 @@ given_one xs ys zs b same pushed p =
     )
 
 -- the places of changed labels and of a given blocker are places of the list
-pub given_within : (rows : List Row) (changed : List ℕ) (o : Option ℕ) (places : List ℕ) → ((p : ℕ) → Contains places p ↔ (Contains changed p ⊎ (o ≡ Some p))) → All (λ p. p < length rows) changed → IfSome o (λ b. b < length rows) → All (λ p. p < length rows) places
+pub given_within : (rows : List Row) (changed : List ℕ) (o : Option ℕ) (places : List ℕ) → ((p : ℕ) → Contains places p ↔ (Contains changed p ⊎ (o ≡ Some p))) →
+    All (λ p. p < length rows) changed → IfSome o (λ b. b < length rows) → All (λ p. p < length rows) places
 given_within rows changed o places same within blocker k d lt =
     let p : ℕ = get_or places k d in
     elim ((same p).0 (k, lt, get_or_default places k p d lt)) [
@@ -378,7 +399,8 @@ given_within rows changed o places same within blocker k d lt =
     ]
 
 -- the places of changed labels are places of the list
-pub changed_within : (rows : List Row) (moved : List Moved) (at : ℕ) (comes : Bool) (changed : List ℕ) (i : ℕ) → i < length rows → IsOwnBefore rows moved at comes changed i → All (λ p. p < length rows) changed
+pub changed_within : (rows : List Row) (moved : List Moved) (at : ℕ) (comes : Bool) (changed : List ℕ) (i : ℕ) →
+    i < length rows → IsOwnBefore rows moved at comes changed i → All (λ p. p < length rows) changed
 changed_within rows moved at comes changed i within known k d lt =
     let p : ℕ = get_or changed k d in
     let s = known.changed_are.stand p (k, lt, get_or_default changed k p d lt) in

@@ -47,7 +47,8 @@ rows_same (r ∷ rows) out moved same =
 numbers_push : (xs : List Moved) (m : Moved) → numbers_of (xs ++ m ∷ []) ≡ numbers_of xs ++ m.number ∷ []
 numbers_push xs m = map-append (λ (x : Moved). x.number) xs (m ∷ [])
 
-module _ (rows : List Row) (moved : List Moved) (k : ℕ) (m : Moved) (out : List Moved) (differ : AreDifferent (numbers_of moved)) (lt : k < length moved) (read : get_or moved k m ≡ m) (so_far : LastingOf rows moved k out) where
+module _ (rows : List Row) (moved : List Moved) (k : ℕ) (m : Moved) (out : List Moved) (differ : AreDifferent (numbers_of moved))
+    (lt : k < length moved) (read : get_or moved k m ≡ m) (so_far : LastingOf rows moved k out) where
   next : take (k + 1) moved ≡ take k moved ++ m ∷ []
   next = take_more moved k m lt ∙ ap (λ (x : Moved). take k moved ++ x ∷ []) read
 

@@ -1,5 +1,6 @@
 -- New slots by number.
-use Rattle.std.proofs.Common.{◌≡◌, ◌≢◌, ℕ, zero, suc, ◌+◌, ◌-◌, ◌<◌, ◌≤◌, List, [], ◌∷◌, ◌++◌, length, get_or, set, inl, inr, refl, sym, ap, ◌∙◌, arith, length-set, length-append, get_or-set_same, get_or-set_other, Bool, true, false}
+use Rattle.std.proofs.Common.{◌≡◌, ◌≢◌, ℕ, zero, suc, ◌+◌, ◌-◌, ◌<◌, ◌≤◌, List, [], ◌∷◌, ◌++◌, length, get_or, set, inl, inr, refl, sym}
+use Rattle.std.proofs.Common.{ap, ◌∙◌, arith, length-set, length-append, get_or-set_same, get_or-set_other, Bool, true, false}
 use Rattle.std.specs.Prelude.{All, ◌==◌, if◌then◌else◌}
 use Rattle.std.proofs.lemmas.Bool.{cases_lt, cases_eq}
 use Rattle.std.proofs.lemmas.Bool.Decides.{nat_tests}
@@ -21,7 +22,8 @@ slot_kept n own [] h = refl
 slot_kept n own (m ∷ moved) h = ap (λ s. slot_for n s moved) (if_other m.number n m.slot own (h 0 (omega arith))) ∙ slot_kept n own moved (λ k lt. h (suc k) (omega arith))
 
 -- a number with one new slot has that
-pub slot_new : (n : ℕ) (own : Slot) (moved : List Moved) (k : ℕ) (d : Moved) → AreDifferent (numbers_of moved) → k < length moved → get_or (numbers_of moved) k 0 ≡ n → slot_for n own moved ≡ (get_or moved k d).slot
+pub slot_new : (n : ℕ) (own : Slot) (moved : List Moved) (k : ℕ) (d : Moved) → AreDifferent (numbers_of moved) →
+    k < length moved → get_or (numbers_of moved) k 0 ≡ n → slot_for n own moved ≡ (get_or moved k d).slot
 slot_new n own [] k d differ lt e = absurd (omega arith)
 slot_new n own (m ∷ moved) zero d differ lt e =
     let many = length-map moved (λ (x : Moved). x.number) in
@@ -36,7 +38,8 @@ slot_push n own [] m = refl
 slot_push n own (x ∷ moved) m = slot_push n (if x.number == n then x.slot else own) moved m
 
 -- a new slot of another number does not count
-set_elsewhere : (x : ℕ) (own : Slot) (moved : List Moved) (at : ℕ) (new d : Moved) → at < length moved → new.number ≢ x → (get_or moved at d).number ≢ x → slot_for x own (set moved at new) ≡ slot_for x own moved
+set_elsewhere : (x : ℕ) (own : Slot) (moved : List Moved) (at : ℕ) (new d : Moved) → at < length moved →
+    new.number ≢ x → (get_or moved at d).number ≢ x → slot_for x own (set moved at new) ≡ slot_for x own moved
 set_elsewhere x own [] at new d lt a b = absurd (omega arith)
 set_elsewhere x own (m ∷ moved) zero new d lt a b = ap (λ s. slot_for x s moved) (if_other new.number x new.slot own a ∙ sym (if_other m.number x m.slot own b))
 set_elsewhere x own (m ∷ moved) (suc at) new d lt a b = set_elsewhere x (if m.number == x then m.slot else own) moved at new d (omega arith) a b
@@ -113,7 +116,8 @@ module _ (moved : List Moved) (n : ℕ) (slot : Slot) (none : (k : ℕ) → k < 
         found = λ x lt.
             elim (cases_eq x n) [
               | inl here ↦
-                  let new : get_or (set column n (length moved + 1)) x 0 ≡ length moved + 1 = ap (λ y. get_or (set column n (length moved + 1)) y 0) here ∙ get_or-set_same column n (length moved + 1) 0 (omega arith) in (
+                  let new : get_or (set column n (length moved + 1)) x 0 ≡ length moved + 1 =
+                  ap (λ y. get_or (set column n (length moved + 1)) y 0) here ∙ get_or-set_same column n (length moved + 1) 0 (omega arith) in (
                     omega arith,
                     (λ k in' f. elim (cases_lt k (length moved)) [
                       | inl less ↦ absurd (none k less (sym (left k less) ∙ f ∙ here))

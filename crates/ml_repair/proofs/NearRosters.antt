@@ -39,7 +39,8 @@ left_contains (Some g) rows r in' there =
     remove_has rows g s.0 r in' s.1 there
 
 -- a row of the list is the one that is to come, or one of those that were there
-pub row_from : (come : Option (Bor Row)) (at : ℕ) (gone : Option ℕ) (rows : List Row) (p : ℕ) → IfSome gone (λ g. g < length rows) → IfSome come (λ row. at ≤ length (left_rows gone rows)) → p < length (joined_rows come at (left_rows gone rows)) →
+pub row_from : (come : Option (Bor Row)) (at : ℕ) (gone : Option ℕ) (rows : List Row) (p : ℕ) → IfSome gone (λ g. g < length rows) →
+    IfSome come (λ row. at ≤ length (left_rows gone rows)) → p < length (joined_rows come at (left_rows gone rows)) →
     (IsSome come × (p ≡ at)) ⊎ ((r : Row) × Contains rows r × (r ≡ get_or (joined_rows come at (left_rows gone rows)) p r))
 row_from None at gone rows p in' le lt =
     let s = row_there (left_rows gone rows) p lt in
@@ -69,7 +70,8 @@ pub slot_read : (rows : List Row) (p : ℕ) (r : Row) (d : Slot) → p < length 
 slot_read rows p r d lt read = get_or-map (λ (t : Row). t.slot) rows p r d lt ∙ ap (λ (t : Row). t.slot) (sym read)
 
 -- a place that comes is a place of the list
-come_within : (come : Option (Bor Row)) (at : ℕ) (gone : Option ℕ) (rows : List Row) → IfSome come (λ row. at ≤ length (left_rows gone rows)) → IsSome come → at < length (joined_rows come at (left_rows gone rows))
+come_within : (come : Option (Bor Row)) (at : ℕ) (gone : Option ℕ) (rows : List Row) →
+    IfSome come (λ row. at ≤ length (left_rows gone rows)) → IsSome come → at < length (joined_rows come at (left_rows gone rows))
 come_within None at _ rows le some = absurd (false≢true some)
 come_within (Some row) at gone rows le some = let long = length-insert (left_rows gone rows) at row.now le in omega arith
 
@@ -101,8 +103,8 @@ module _ (come : Option (Bor Row)) (at : ℕ) (gone : Option ℕ) (rows : List R
 -- the places of the labels found in a band, with that of the one to come, have all that a search in the band finds
 pub near_found : (come : Option (Bor Row)) (at : ℕ) (gone : Option ℕ) (rows : List Row) (a : Label) (k : ℕ) (numbers before middle after : List ℕ) →
     IfSome gone (λ g. g < length rows) → IfSome come (λ row. at ≤ length (left_rows gone rows)) →
-    Gathers (IsNumberWith (λ r. IsFoundIn a r.label k) rows) [] numbers → PlacesCame (joined_rows come at (left_rows gone rows)) numbers before middle → Gathers (λ p. IsSome come × (p ≡ at)) middle after →
-    AreFound (joined_rows come at (left_rows gone rows)) a k before after
+    Gathers (IsNumberWith (λ r. IsFoundIn a r.label k) rows) [] numbers → PlacesCame (joined_rows come at (left_rows gone rows)) numbers before middle →
+    Gathers (λ p. IsSome come × (p ≡ at)) middle after → AreFound (joined_rows come at (left_rows gone rows)) a k before after
 near_found come at gone rows a k numbers before middle after in' le found came last =
     let all : List Row = joined_rows come at (left_rows gone rows) in
     let just : (r : Row) → Contains rows r → IsFoundIn a r.label k → Contains numbers r.number = λ r there has. (found r.number).1 (inr (r, there, refl, has)) in
@@ -123,7 +125,8 @@ overlapping_found come at gone rows a k scale numbers middle after in' le found 
     let just : (r : Row) → Contains rows r → OverlapIn a r.label k × IsAtMost (value_of scale) (value_of r.slot.until) → Contains numbers r.number = λ r there has. found r there has.0 has.1 in
     record {
       within = λ j d lt.
-          elim (place_there come at gone rows (λ r. OverlapIn a r.label k × IsAtMost (value_of scale) (value_of r.slot.until)) numbers [] middle after in' le just came last (get_or after j d) (j, lt, get_or_default after j (get_or after j d) d lt)) [
+          elim (place_there come at gone rows (λ r. OverlapIn a r.label k × IsAtMost (value_of scale) (value_of r.slot.until)) numbers
+          [] middle after in' le just came last (get_or after j d) (j, lt, get_or_default after j (get_or after j d) d lt)) [
             | inl none ↦ absurd (let no : none.0 < 0 = none.1 in omega arith)
             | inr is ↦ is
           ];
@@ -188,7 +191,8 @@ ends_from come at gone rows first in' le ends come_ends p k lt last =
       | inl one ↦ ends_here come le one come_ends last
       | inr some ↦
           let r : Row = some.0 in
-          All-contains (λ (t : Row). (m : ℕ) → IsLastBand t.label m → first ≤ m) rows r ends some.1 k (subst (λ (b : Label). IsLastBand b k) (label_read (joined_rows come at (left_rows gone rows)) p r r.label lt some.2) (last r.label))
+          All-contains (λ (t : Row). (m : ℕ) → IsLastBand t.label m → first ≤ m) rows r ends some.1 k
+          (subst (λ (b : Label). IsLastBand b k) (label_read (joined_rows come at (left_rows gone rows)) p r r.label lt some.2) (last r.label))
     ]
   where
     ends_here : (come : Option (Bor Row)) → IfSome come (λ row. at ≤ length (left_rows gone rows)) → IsSome come × (p ≡ at) → IfSome come (λ row. (j : ℕ) → IsLastBand row.now.label j → first ≤ j) →
@@ -203,7 +207,8 @@ ends_from come at gone rows first in' le ends come_ends p k lt last =
 -- ---- places of numbers, a number at a time
 
 -- the places of one more number came in
-pub places_more : (rows : List Row) (numbers before places next : List ℕ) (k : ℕ) → k < length numbers → PlacesCame rows (take k numbers) before places → Gathers (IsRowAt rows (get_or numbers k 0)) places next → PlacesCame rows (take (k + 1) numbers) before next
+pub places_more : (rows : List Row) (numbers before places next : List ℕ) (k : ℕ) → k < length numbers → PlacesCame rows (take k numbers) before places →
+    Gathers (IsRowAt rows (get_or numbers k 0)) places next → PlacesCame rows (take (k + 1) numbers) before next
 places_more rows numbers before places next k lt so_far one p =
     let n : ℕ = get_or numbers k 0 in
     let e = take_more numbers k 0 lt in (

@@ -36,7 +36,8 @@ same_ratio a b e = ratio_exact a b (same_cmp (a.num * b.den) (b.num * a.den) e)
 -- the changes of the first k moves
 pub record Noted (rows : List Row) (moved : List Moved) (k : ℕ) (out : List Change) : Type 0 where
   pub sound : (c : Change) → Contains out c → (s : IsStayChange rows moved c) × (j : ℕ) × (j < k) × (get_or (numbers_of moved) j 0 ≡ s.row.number)
-  pub whole : (r : Row) → Contains rows r → (j : ℕ) → j < k → get_or (numbers_of moved) j 0 ≡ r.number → r.slot.until ≢ (slot_for r.number r.slot moved).until → Contains out (stay_change r (slot_for r.number r.slot moved))
+  pub whole : (r : Row) → Contains rows r → (j : ℕ) → j < k → get_or (numbers_of moved) j 0 ≡ r.number →
+      r.slot.until ≢ (slot_for r.number r.slot moved).until → Contains out (stay_change r (slot_for r.number r.slot moved))
   pub own : HaveOwnIds out
 
 -- before the first move no change is noted
@@ -57,12 +58,14 @@ module _ (rows : List Row) (moved : List Moved) (k : ℕ) (out : List Change) (n
     sound = later;
     whole = λ r there j lt e differ. elim (cases_lt j k) [
       | inl less ↦ noted.whole r there j less e differ
-      | inr here ↦ let f : j ≡ k = omega arith in absurd (fresh (subst (Contains (numbers_in rows)) (sym e ∙ ap (λ i. get_or (numbers_of moved) i 0) f) (contains_map (λ (t : Row). t.number) rows r there)))
+      | inr here ↦ let f : j ≡ k = omega arith in
+          absurd (fresh (subst (Contains (numbers_in rows)) (sym e ∙ ap (λ i. get_or (numbers_of moved) i 0) f) (contains_map (λ (t : Row). t.number) rows r there)))
     ];
     own = noted.own;
   }
 
-  module _ (m : Moved) (r : Row) (after : List Change) (distinct : AreDifferent (numbers_of moved)) (k_in : k < length moved) (read : get_or moved k m ≡ m) (differ : HaveOwnNumbers rows) (up : IsLabelList (labels_in rows))
+  module _ (m : Moved) (r : Row) (after : List Change) (distinct : AreDifferent (numbers_of moved)) (k_in : k < length moved)
+      (read : get_or moved k m ≡ m) (differ : HaveOwnNumbers rows) (up : IsLabelList (labels_in rows))
       (there : Contains rows r) (number : r.number ≡ m.number) (pushed : IsPushedFor r m.slot out after) where
     number_k : get_or (numbers_of moved) k 0 ≡ r.number
     number_k = get_or-map (λ (x : Moved). x.number) moved k m 0 k_in ∙ ap (λ (x : Moved). x.number) read ∙ sym number
@@ -125,7 +128,8 @@ noted_all rows moved out k le noted c = (
             noted.whole s.row s.there there.0 (omega arith) (get_or_default (numbers_of moved) there.0 0 s.row.number there.1 ∙ there.2) s.differ
         | inr none ↦
             let many = length-map moved (λ (x : Moved). x.number) in
-            absurd (s.differ (sym (ap (λ (x : Slot). x.until) (slot_kept s.row.number s.row.slot moved (λ j lt e. none (j, omega arith, get_or_default (numbers_of moved) j s.row.number 0 (omega arith) ∙ e))))))
+            absurd (s.differ (sym (ap (λ (x : Slot). x.until)
+            (slot_kept s.row.number s.row.slot moved (λ j lt e. none (j, omega arith, get_or_default (numbers_of moved) j s.row.number 0 (omega arith) ∙ e))))))
       ]),
 )
   where

@@ -78,7 +78,8 @@ same_list (x ∷ xs) (y ∷ ys) p q to from =
     ap (λ (c : Change). c ∷ xs) e ∙ ap (λ (cs : List Change). y ∷ cs) rest
 
 -- an edit has one list of changes
-pub one_changes : (labels : List Label) (slots : List Slot) (new_labels : List Label) (new_slots : List Slot) (changes others : List Change) → AreChanges labels slots new_labels new_slots changes → AreChanges labels slots new_labels new_slots others → changes ≡ others
+pub one_changes : (labels : List Label) (slots : List Slot) (new_labels : List Label) (new_slots : List Slot) (changes others : List Change) →
+    AreChanges labels slots new_labels new_slots changes → AreChanges labels slots new_labels new_slots others → changes ≡ others
 one_changes labels slots new_labels new_slots changes others a b =
     same_list changes others a.ascending b.ascending
     (λ c there. b.whole c (subst (IsChange labels slots new_labels new_slots) there.2 (a.sound there.0 c there.1)))
@@ -117,7 +118,8 @@ module _ (law : OneLongest) (labels : List Label) (at : ℕ) (is_place : at < le
             rw p.1 (subst (λ (f : Fraction). IsSame (one (p.0 + 1)) f) (left_above at other p.0 p.2) (subst (λ (f : Fraction). IsSame f (left_out at other p.0)) (left_above at one p.0 p.2) same))
       ]
 
-  touched_so : (comes : Bool) (n m : ℕ) (s : AreTouched labels at comes n) (t : AreTouched labels at comes m) → (i : ℕ) → IsTouched labels at comes s.before s.after i → IsTouched labels at comes t.before t.after i
+  touched_so : (comes : Bool) (n m : ℕ) (s : AreTouched labels at comes n) (t : AreTouched labels at comes m) →
+      (i : ℕ) → IsTouched labels at comes s.before s.after i → IsTouched labels at comes t.before t.after i
   touched_so comes n m s t i touched = (
     touched.0,
     elim touched.1 [

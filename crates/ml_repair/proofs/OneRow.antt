@@ -20,7 +20,8 @@ module _ (rows : List Row) (r s : Row) (in_r : Contains rows r) (in_s : Contains
       let many = length-map rows (λ (t : Row). t.number) in
       let a : in_r.0 < length rows = in_r.1 in
       let b : in_s.0 < length rows = in_s.1 in
-      same_at (same_place (numbers_in rows) in_r.0 in_s.0 0 differ (omega arith) (omega arith) (map_read (λ (t : Row). t.number) rows in_r.0 r 0 in_r.1 (sym in_r.2) ∙ e ∙ sym (map_read (λ (t : Row). t.number) rows in_s.0 s 0 in_s.1 (sym in_s.2))))
+      same_at (same_place (numbers_in rows) in_r.0 in_s.0 0 differ (omega arith) (omega arith)
+      (map_read (λ (t : Row). t.number) rows in_r.0 r 0 in_r.1 (sym in_r.2) ∙ e ∙ sym (map_read (λ (t : Row). t.number) rows in_s.0 s 0 in_s.1 (sym in_s.2))))
 
   -- two rows with one id are one row, where the labels are in priority order
   pub one_id : IsLabelList (labels_in rows) → r.label.order.id ≡ s.label.order.id → r ≡ s

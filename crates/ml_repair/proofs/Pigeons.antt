@@ -20,7 +20,8 @@ no_more (x ∷ xs) ys differ all =
     let at = all x (0, omega arith, refl) in
     let lt : at.0 < length ys = at.1 in
     let n = length-remove ys at.0 lt in
-    let rest = no_more xs (remove ys at.0) (different_tail x xs differ) (λ y there. elim (remove_only ys at.0 x y lt (sym at.2) (all y (suc there.0, (let h : there.0 < length xs = there.1 in omega arith), there.2))) [
+    let rest = no_more xs (remove ys at.0) (different_tail x xs differ)
+    (λ y there. elim (remove_only ys at.0 x y lt (sym at.2) (all y (suc there.0, (let h : there.0 < length xs = there.1 in omega arith), there.2))) [
       | inl same ↦ absurd (head_apart x y xs differ there same)
       | inr left ↦ left
     ]) in

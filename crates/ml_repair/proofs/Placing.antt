@@ -138,8 +138,8 @@ keep_all id (r ∷ rows) h =
     differ true e = absurd (h 0 r (omega arith) ((bytes_eq-Decides r.label.order.id id).0 (sym e)))
 
 -- the plan's list without an id is the one from which the only row with that id is removed
-pub without_is : (id : List ℕ) (rows : List Row) (at : ℕ) → at < length rows → ((d : Row) → (get_or rows at d).label.order.id ≡ id) → ((k : ℕ) (d : Row) → k < length rows → k ≢ at → (get_or rows k d).label.order.id ≢ id) →
-    without_id id rows ≡ remove rows at
+pub without_is : (id : List ℕ) (rows : List Row) (at : ℕ) → at < length rows → ((d : Row) → (get_or rows at d).label.order.id ≡ id) →
+    ((k : ℕ) (d : Row) → k < length rows → k ≢ at → (get_or rows k d).label.order.id ≢ id) → without_id id rows ≡ remove rows at
 without_is id [] at lt here others = absurd (omega arith)
 without_is id (r ∷ rows) zero lt here others =
     ap (λ (b : Bool). if not b then r ∷ without_id id rows else without_id id rows) ((bytes_eq-Decides r.label.order.id id).1 (here r))
@@ -153,7 +153,8 @@ without_is id (r ∷ rows) (suc at) lt here others =
     differ true e = absurd (others 0 r (omega arith) (λ e. omega arith) ((bytes_eq-Decides r.label.order.id id).0 (sym e)))
 
 -- of labels in order, only one has an id
-pub only_id : (rows : List Row) (id : List ℕ) (at k : ℕ) (d : Row) → IsLabelList (labels_in rows) → at < length rows → k < length rows → (get_or rows at d).label.order.id ≡ id → k ≢ at → (get_or rows k d).label.order.id ≢ id
+pub only_id : (rows : List Row) (id : List ℕ) (at k : ℕ) (d : Row) → IsLabelList (labels_in rows) → at < length rows →
+    k < length rows → (get_or rows at d).label.order.id ≡ id → k ≢ at → (get_or rows k d).label.order.id ≢ id
 only_id rows id at k d up at_in k_in is ne same =
     let many = length-labels rows in
     let a : get_or (labels_in rows) at d.label ≡ (get_or rows at d).label = get_or-map (λ (t : Row). t.label) rows at d d.label at_in in

@@ -34,7 +34,8 @@ use Rattle.ml_repair.proofs.Present.{labels-moved, length-labels, low_number}
 use Rattle.std.proofs.lemmas.List.{length-map}
 use Rattle.std.proofs.lemmas.List.Elements.{Contains-get_or}
 use Rattle.ml_repair.proofs.OneRow.{one_id}
-use Rattle.ml_repair.proofs.Shapes.{AreLeft, AreJoinedBy, label_of, edit_is, edited_is, settled_after, left_remove, left_all, left_no_id, without_remove_is, joined_none, joined_some, come_is, place_of_id, no_id, low_of_rows, numbered}
+use Rattle.ml_repair.proofs.Shapes.{AreLeft, AreJoinedBy, label_of, edit_is, edited_is, settled_after, left_remove, left_all, left_no_id}
+use Rattle.ml_repair.proofs.Shapes.{without_remove_is, joined_none, joined_some, come_is, place_of_id, no_id, low_of_rows, numbered}
 use Rattle.ml_ratio.proofs.lemmas.Lists.{contains_map, map_contains, map_insert, map_remove, removed_gone, map_read, insert_there}
 
 -- new slots of these rows that make the same of them as others, each of them a new one
@@ -46,7 +47,8 @@ planned_is : (plan : Planned) (rows : List Row) → planned_rows plan rows ≡ r
 unfolding planned_rows
 planned_is plan rows = refl
 
-module _ (rows left all : List Row) (moved : List Moved) (id : List ℕ) (come : Option Row) (are : AreLeft rows left id) (joined : AreJoinedBy left all id come) (edit : LabelEdit) (changes : List Change) (n : ℕ)
+module _ (rows left all : List Row) (moved : List Moved) (id : List ℕ) (come : Option Row) (are : AreLeft rows left id)
+    (joined : AreJoinedBy left all id come) (edit : LabelEdit) (changes : List Change) (n : ℕ)
     (settled : IsSettled rows) (numbered_all : AreNumbered all) (up_all : IsLabelList (labels_in all)) (slots : AreSettled all moved)
     (made : rows_with edit (moved_rows moved (kept_rows edit rows)) ≡ moved_rows moved all) (last : List Moved) (lasting : IsLastOf last moved (kept_rows edit rows)) where
   -- the plan, with the lasting new slots alone, makes the same rows as the edit with all new slots
@@ -64,10 +66,12 @@ module _ (rows left all : List Row) (moved : List Moved) (id : List ℕ) (come :
       ]
 
   -- the edit with its lasting new slots, its changes and its cost is the plan for these rows
-  pub made_plan : (was is : Option Ranged) (own : List ℕ) (label : Option Label) (steps after : ℕ) → CanBeMade edit rows → edited_id edit ≡ id → ((r s : Row) → come ≡ Some s → Contains rows r → r.label.order.id ≡ id → r.number ≡ s.number) →
+  pub made_plan : (was is : Option Ranged) (own : List ℕ) (label : Option Label) (steps after : ℕ) → CanBeMade edit rows →
+      edited_id edit ≡ id → ((r s : Row) → come ≡ Some s → Contains rows r → r.label.order.id ≡ id → r.number ≡ s.number) →
       IsStateOf (labels_in rows) (slots_in rows) id was → IsStateOf (labels_in (moved_rows moved all)) (slots_in (moved_rows moved all)) id is →
       IsStrictlySortedBy (slice_cmp nat_cmp) (map (λ change. change.id) changes) → ((c : Change) → Contains changes c ↔ (IsStayChange left moved c ⊎ ((c ≡ edited_change id was is) × (was ≢ is)))) →
-      IsCost (labels_in rows) (labels_in all) id n → id ≡ own → label_of come ≡ label → after ≡ steps + n → IsPlanFor (record { edit = edit; moved = last; changes = changes; evaluated = n }) rows own label steps after
+      IsCost (labels_in rows) (labels_in all) id n → id ≡ own → label_of come ≡ label → after ≡ steps + n →
+      IsPlanFor (record { edit = edit; moved = last; changes = changes; evaluated = n }) rows own label steps after
   made_plan was is own label steps after possible its numbers state_before state_after sorted same cost is_own is_label spent =
       let plan : Planned = record { edit = edit; moved = last; changes = changes; evaluated = n } in
       let new = planned_rows plan rows in
@@ -124,7 +128,8 @@ state_come left at row moved kept =
 -- ---- the change of the edited label
 
 -- where the label with the id differs before and after, the change that is given is the one change of it
-pub some_edited : (edited : Change) (id : List ℕ) (was is : Option Ranged) → edited ≡ edited_change id was is → was ≢ is → (c : Change) → (Some edited ≡ Some c) ↔ ((c ≡ edited_change id was is) × (was ≢ is))
+pub some_edited : (edited : Change) (id : List ℕ) (was is : Option Ranged) → edited ≡ edited_change id was is →
+    was ≢ is → (c : Change) → (Some edited ≡ Some c) ↔ ((c ≡ edited_change id was is) × (was ≢ is))
 some_edited edited id was is same differ c = (λ e. (let f : edited ≡ c = cc in sym f ∙ same, differ), λ h. ap (λ (x : Change). Some x) (same ∙ sym h.0))
 
 -- where a row comes in place of another, the change between them is that of the edited label; if they agree there is none
@@ -140,14 +145,16 @@ between_edited old new id (Some edited) is h c =
 
 -- what changes there are, once it is known which is that of the edited label
 pub both_same : (left : List Row) (moved : List Moved) (changes : List Change) (edited : Option Change) (E : Change → Type 0) →
-    ((c : Change) → Contains changes c ↔ (IsStayChange left moved c ⊎ (edited ≡ Some c))) → ((c : Change) → (edited ≡ Some c) ↔ E c) → (c : Change) → Contains changes c ↔ (IsStayChange left moved c ⊎ E c)
+    ((c : Change) → Contains changes c ↔ (IsStayChange left moved c ⊎ (edited ≡ Some c))) →
+    ((c : Change) → (edited ≡ Some c) ↔ E c) → (c : Change) → Contains changes c ↔ (IsStayChange left moved c ⊎ E c)
 both_same left moved changes edited E are is c =
     (λ h. elim ((are c).0 h) [ inl s ↦ inl s | inr e ↦ inr ((is c).0 e) ], λ h. elim h [ inl s ↦ (are c).1 (inl s) | inr e ↦ (are c).1 (inr ((is c).1 e)) ])
 
 -- ---- costs
 
 -- where a label goes, the cost is the number of labels that are touched as it goes
-pub cost_out : (rows : List Row) (at : ℕ) (id : List ℕ) (n : ℕ) → at < length rows → ((d : Row) → (get_or rows at d).label.order.id ≡ id) → ¬ (HasId (labels_in (remove rows at)) id) → AreTouched (labels_in rows) at false n → IsCost (labels_in rows) (labels_in (remove rows at)) id n
+pub cost_out : (rows : List Row) (at : ℕ) (id : List ℕ) (n : ℕ) → at < length rows → ((d : Row) → (get_or rows at d).label.order.id ≡ id) →
+    ¬ (HasId (labels_in (remove rows at)) id) → AreTouched (labels_in rows) at false n → IsCost (labels_in rows) (labels_in (remove rows at)) id n
 cost_out rows at id n lt here none touched = record {
   gone = n;
   come = 0;
@@ -160,7 +167,8 @@ come_in : (rows : List Row) (at : ℕ) (row : Row) → at ≤ length rows → at
 come_in rows at row le = let n = length-insert rows at row le in omega arith
 
 -- where a label comes, the cost is the number of labels that are touched as it comes
-pub cost_in : (rows : List Row) (at : ℕ) (row : Row) (n : ℕ) → at ≤ length rows → ¬ (HasId (labels_in rows) row.label.order.id) → AreTouched (labels_in (insert rows at row)) at true n → IsCost (labels_in rows) (labels_in (insert rows at row)) row.label.order.id n
+pub cost_in : (rows : List Row) (at : ℕ) (row : Row) (n : ℕ) → at ≤ length rows → ¬ (HasId (labels_in rows) row.label.order.id) →
+    AreTouched (labels_in (insert rows at row)) at true n → IsCost (labels_in rows) (labels_in (insert rows at row)) row.label.order.id n
 cost_in rows at row n le new touched = record {
   gone = 0;
   come = n;
@@ -170,13 +178,18 @@ cost_in rows at row n le new touched = record {
 }
 
 -- where a label comes in place of another, the cost is the sum of what is touched as the one goes and the other comes
-pub cost_both : (rows : List Row) (at : ℕ) (to : ℕ) (row : Row) (n m : ℕ) → at < length rows → ((d : Row) → (get_or rows at d).label.order.id ≡ row.label.order.id) → to ≤ length (remove rows at) →
-    AreTouched (labels_in rows) at false n → AreTouched (labels_in (insert (remove rows at) to row)) to true m → IsCost (labels_in rows) (labels_in (insert (remove rows at) to row)) row.label.order.id (n + m)
+pub cost_both : (rows : List Row) (at : ℕ) (to : ℕ) (row : Row) (n m : ℕ) → at < length rows → ((d : Row) → (get_or rows at d).label.order.id ≡ row.label.order.id) →
+    to ≤ length (remove rows at) → AreTouched (labels_in rows) at false n → AreTouched (labels_in (insert (remove rows at) to row)) to true m →
+    IsCost (labels_in rows) (labels_in (insert (remove rows at) to row)) row.label.order.id (n + m)
 cost_both rows at to row n m lt here le gone come = record {
   gone = n;
   come = m;
   touched_gone = inl (at, place_of_id rows at row.label.order.id lt here, gone);
-  touched_come = inl (to, place_of_id (insert (remove rows at) to row) to row.label.order.id (come_in (remove rows at) to row le) (λ d. ap (λ (t : Row). t.label.order.id) (get_or-insert_at (remove rows at) to row d le)), come);
+  touched_come = inl (
+    to,
+    place_of_id (insert (remove rows at) to row) to row.label.order.id (come_in (remove rows at) to row le) (λ d. ap (λ (t : Row). t.label.order.id) (get_or-insert_at (remove rows at) to row d le)),
+    come,
+  );
   both = refl;
 }
 
@@ -192,7 +205,8 @@ start_settled rows moved none settled = rw (none, moved_none rows) settled.slots
 
 -- ---- a label comes
 
-module _ (rows : List Row) (at : ℕ) (row : Row) (boxed : Box Row Global) (moved : List Moved) (changes : List Change) (n : ℕ) (settled : IsSettled rows) (new : ¬ (HasId (labels_in rows) row.label.order.id))
+module _ (rows : List Row) (at : ℕ) (row : Row) (boxed : Box Row Global) (moved : List Moved)
+    (changes : List Change) (n : ℕ) (settled : IsSettled rows) (new : ¬ (HasId (labels_in rows) row.label.order.id))
     (few : length rows < 32768) (fresh : IsFresh row.number rows) (low : row.number < 32768) (place : IsPlaceFor (labels_in rows) row.label.order at) (slots : AreSettled (insert rows at row) moved)
     (kept : (own : Slot) → slot_for row.number own moved ≡ own) (is_row : boxed.value ≡ row) where
   at_most : at ≤ length rows
@@ -208,11 +222,13 @@ module _ (rows : List Row) (at : ℕ) (row : Row) (boxed : Box Row Global) (move
   made_in = ap (λ (r : Row). with_row r (moved_rows moved rows)) is_row ∙ come_is rows at row moved place kept
 
   -- the new slots and changes found for a label that comes, with the number of labels touched, are the plan that adds it
-  pub in_plan : (last : List Moved) → IsLastOf last moved rows → (edited : Change) (label : Label) (steps after : ℕ) → edited ≡ edited_change row.label.order.id None (Some (ranged row)) → IsStrictlySortedBy (slice_cmp nat_cmp) (map (λ change. change.id) changes) →
+  pub in_plan : (last : List Moved) → IsLastOf last moved rows → (edited : Change) (label : Label) (steps after : ℕ) →
+      edited ≡ edited_change row.label.order.id None (Some (ranged row)) → IsStrictlySortedBy (slice_cmp nat_cmp) (map (λ change. change.id) changes) →
       ((c : Change) → Contains changes c ↔ (IsStayChange rows moved c ⊎ (Some edited ≡ Some c))) → AreTouched (labels_in (insert rows at row)) at true n → row.label ≡ label → after ≡ steps + n →
       IsPlanFor (record { edit = Add boxed; moved = last; changes = changes; evaluated = n }) rows label.order.id (Some label) steps after
   in_plan last lasting edited label steps after is sorted same touched is_label spent =
-      made_plan rows rows (insert rows at row) moved row.label.order.id (Some row) (left_all rows row.label.order.id new) (joined_some rows at row) (Add boxed) changes n settled numbered_in up_in slots made_in last lasting
+      made_plan rows rows (insert rows at row) moved row.label.order.id (Some row) (left_all rows row.label.order.id new)
+      (joined_some rows at row) (Add boxed) changes n settled numbered_in up_in slots made_in last lasting
       None (Some (ranged row)) label.order.id (Some label) steps after (rw is_row new) (ap (λ (r : Row). r.label.order.id) is_row)
       (λ r s e there id. absurd (new (r.label, contains_map (λ (t : Row). t.label) rows r there, id)))
       (state_new rows row.label.order.id new) (state_come rows at row moved kept) sorted
@@ -222,7 +238,8 @@ module _ (rows : List Row) (at : ℕ) (row : Row) (boxed : Box Row Global) (move
 
 -- ---- a label goes
 
-module _ (rows : List Row) (at : ℕ) (id : List ℕ) (moved : List Moved) (changes : List Change) (n : ℕ) (settled : IsSettled rows) (lt : at < length rows) (here : (d : Row) → (get_or rows at d).label.order.id ≡ id)
+module _ (rows : List Row) (at : ℕ) (id : List ℕ) (moved : List Moved) (changes : List Change) (n : ℕ)
+    (settled : IsSettled rows) (lt : at < length rows) (here : (d : Row) → (get_or rows at d).label.order.id ≡ id)
     (has : HasId (labels_in rows) id) (slots : AreSettled (remove rows at) moved) where
   numbered_out : AreNumbered (remove rows at)
   numbered_out = numbered_removed rows at (numbered rows settled) lt
@@ -241,11 +258,13 @@ module _ (rows : List Row) (at : ℕ) (id : List ℕ) (moved : List Moved) (chan
   are_out = left_remove rows at id settled.in_order lt here
 
   -- the new slots and changes found for a label that goes, with the number of labels touched, are the plan that removes it
-  pub out_plan : (last : List Moved) → IsLastOf last moved (remove rows at) → (r : Row) (edited : Change) (own : List ℕ) (steps after : ℕ) → Contains rows r → r.label.order.id ≡ id → edited ≡ edited_change id (Some (ranged r)) None → IsStrictlySortedBy (slice_cmp nat_cmp) (map (λ change. change.id) changes) →
+  pub out_plan : (last : List Moved) → IsLastOf last moved (remove rows at) → (r : Row) (edited : Change) (own : List ℕ) (steps after : ℕ) → Contains rows r →
+      r.label.order.id ≡ id → edited ≡ edited_change id (Some (ranged r)) None → IsStrictlySortedBy (slice_cmp nat_cmp) (map (λ change. change.id) changes) →
       ((c : Change) → Contains changes c ↔ (IsStayChange (remove rows at) moved c ⊎ (Some edited ≡ Some c))) → AreTouched (labels_in rows) at false n → id ≡ own → after ≡ steps + n →
       IsPlanFor (record { edit = Remove id; moved = last; changes = changes; evaluated = n }) rows own None steps after
   out_plan last lasting r edited own steps after there same_id is sorted same touched is_own spent =
-      made_plan rows (remove rows at) (remove rows at) moved id None are_out (joined_none (remove rows at) id) (Remove id) changes n settled numbered_out up_out slots made_out last (last_out last lasting)
+      made_plan rows (remove rows at) (remove rows at) moved id None are_out (joined_none (remove rows at) id)
+      (Remove id) changes n settled numbered_out up_out slots made_out last (last_out last lasting)
       (Some (ranged r)) None own None steps after has refl
       (λ s t e one two. absurd (let f : ◌≡◌ {A = Option Row} None (Some t) = e in cc))
       (state_there rows r id there same_id) (state_gone rows (remove rows at) moved id are_out) sorted
@@ -255,8 +274,10 @@ module _ (rows : List Row) (at : ℕ) (id : List ℕ) (moved : List Moved) (chan
 
 -- ---- a label comes in place of another
 
-module _ (rows : List Row) (at to : ℕ) (row : Row) (boxed : Box Row Global) (moved : List Moved) (changes : List Change) (n m : ℕ) (settled : IsSettled rows) (lt : at < length rows) (here : (d : Row) → (get_or rows at d).label.order.id ≡ row.label.order.id)
-    (has : HasId (labels_in rows) row.label.order.id) (few : length (remove rows at) < 32768) (fresh : IsFresh row.number (remove rows at)) (low : row.number < 32768) (place : IsPlaceFor (labels_in (remove rows at)) row.label.order to)
+module _ (rows : List Row) (at to : ℕ) (row : Row) (boxed : Box Row Global) (moved : List Moved) (changes : List Change) (n m : ℕ)
+    (settled : IsSettled rows) (lt : at < length rows) (here : (d : Row) → (get_or rows at d).label.order.id ≡ row.label.order.id)
+    (has : HasId (labels_in rows) row.label.order.id) (few : length (remove rows at) < 32768) (fresh : IsFresh row.number (remove rows at))
+    (low : row.number < 32768) (place : IsPlaceFor (labels_in (remove rows at)) row.label.order to)
     (slots : AreSettled (insert (remove rows at) to row) moved) (kept : (own : Slot) → slot_for row.number own moved ≡ own) (is_row : boxed.value ≡ row) where
   to_most : to ≤ length (remove rows at)
   to_most = let many = length-labels (remove rows at) in let le = place.within in omega arith
@@ -293,12 +314,14 @@ module _ (rows : List Row) (at to : ℕ) (row : Row) (boxed : Box Row Global) (m
       ap (λ (t : Row). t.number) one ∙ number r ∙ ap (λ (t : Row). t.number) same
 
   -- the new slots and changes found where a label takes another's place, with the number of labels touched, are the plan for that
-  pub instead_plan : (last : List Moved) → IsLastOf last moved (remove rows at) → (r : Row) (edited : Option Change) (label : Label) (steps after : ℕ) → Contains rows r → r.label.order.id ≡ row.label.order.id → ((d : Row) → (get_or rows at d).number ≡ row.number) → IsChangeBetween r row edited →
+  pub instead_plan : (last : List Moved) → IsLastOf last moved (remove rows at) → (r : Row) (edited : Option Change) (label : Label) (steps after : ℕ) →
+      Contains rows r → r.label.order.id ≡ row.label.order.id → ((d : Row) → (get_or rows at d).number ≡ row.number) → IsChangeBetween r row edited →
       IsStrictlySortedBy (slice_cmp nat_cmp) (map (λ change. change.id) changes) → ((c : Change) → Contains changes c ↔ (IsStayChange (remove rows at) moved c ⊎ (edited ≡ Some c))) →
       AreTouched (labels_in rows) at false n → AreTouched (labels_in (insert (remove rows at) to row)) to true m → row.label ≡ label → after ≡ steps + (n + m) →
       IsPlanFor (record { edit = Replace boxed; moved = last; changes = changes; evaluated = n + m }) rows label.order.id (Some label) steps after
   instead_plan last lasting r edited label steps after there same_id number between sorted same gone come is_label spent =
-      made_plan rows (remove rows at) (insert (remove rows at) to row) moved row.label.order.id (Some row) are_instead (joined_some (remove rows at) to row) (Replace boxed) changes (n + m) settled numbered_instead up_instead slots made_instead last (last_instead last lasting)
+      made_plan rows (remove rows at) (insert (remove rows at) to row) moved row.label.order.id (Some row) are_instead (joined_some (remove rows at) to row)
+      (Replace boxed) changes (n + m) settled numbered_instead up_instead slots made_instead last (last_instead last lasting)
       (Some (ranged r)) (Some (ranged row)) label.order.id (Some label) steps after (rw is_row has) (ap (λ (t : Row). t.label.order.id) is_row) (own_number number)
       (state_there rows r row.label.order.id there same_id) (state_come (remove rows at) to row moved kept) sorted
       (both_same (remove rows at) moved changes edited (λ c. (c ≡ edited_change row.label.order.id (Some (ranged r)) (Some (ranged row))) × (Some (ranged r) ≢ Some (ranged row))) same

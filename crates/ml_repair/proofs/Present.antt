@@ -48,7 +48,8 @@ low_number rows p r low lt read =
     omega arith
 
 -- what is chosen at a place
-pub chosen_is : (rows : List Row) (moved : List Moved) (low : Label) (places : List ℕ) (k : ℕ) (d : Rival) → k < length places → get_or (map (rival_in rows moved low) places) k d ≡ rival_in rows moved low (get_or places k 0)
+pub chosen_is : (rows : List Row) (moved : List Moved) (low : Label) (places : List ℕ) (k : ℕ) (d : Rival) →
+    k < length places → get_or (map (rival_in rows moved low) places) k d ≡ rival_in rows moved low (get_or places k 0)
 chosen_is rows moved low places k d lt = get_or-map (rival_in rows moved low) places k 0 d lt
 
 -- past the end
@@ -67,7 +68,8 @@ moved_at rows i r slot before after differ lt read put = record {
         let s = row_there rows k k_in in
         let t : Row = s.0 in
         let many = length-map rows (λ (x : Row). x.number) in
-        let apart : t.number ≢ r.number = (λ e. ne (same_place (numbers_in rows) k i 0 differ (omega arith) (omega arith) (map_read (λ (t : Row). t.number) rows k t 0 k_in s.1 ∙ e ∙ sym (map_read (λ (t : Row). t.number) rows i r 0 lt read)))) in
+        let apart : t.number ≢ r.number = (λ e. ne (same_place (numbers_in rows) k i 0 differ (omega arith) (omega arith)
+        (map_read (λ (t : Row). t.number) rows k t 0 k_in s.1 ∙ e ∙ sym (map_read (λ (t : Row). t.number) rows i r 0 lt read)))) in
         present_read rows after k t k_in s.1 ∙ put t.number t.slot ∙ if_other t.number r.number slot (slot_for t.number t.slot before) apart ∙ sym (present_read rows before k t k_in s.1)
     | inr past ↦
         let a = length-present rows after in

@@ -10,7 +10,8 @@ use Rattle.ml_store.specs.declared.moved.Moved.{Moved}
 use Rattle.ml_ratio.proofs.lemmas.Lists.{map_contains, map_read}
 
 -- one number more
-pub number_more : (rows : List Row) (k : ℕ) (r : Row) (numbers next : List ℕ) → k < length rows → r ≡ get_or rows k r → numbers ≡ take k (numbers_in rows) → next ≡ numbers ++ r.number ∷ [] → next ≡ take (k + 1) (numbers_in rows)
+pub number_more : (rows : List Row) (k : ℕ) (r : Row) (numbers next : List ℕ) → k < length rows → r ≡ get_or rows k r →
+    numbers ≡ take k (numbers_in rows) → next ≡ numbers ++ r.number ∷ [] → next ≡ take (k + 1) (numbers_in rows)
 number_more rows k r numbers next lt read so_far e =
     let many = length-map rows (λ (t : Row). t.number) in
     e ∙ ap (λ ns. ns ++ r.number ∷ []) so_far ∙ sym (take_more (numbers_in rows) k 0 (omega arith) ∙ ap (λ n. take k (numbers_in rows) ++ n ∷ []) (map_read (λ (t : Row). t.number) rows k r 0 lt read))
@@ -20,7 +21,8 @@ pub place_more : (rows : List Row) (places : List ℕ) (k : ℕ) (r : Row) (numb
     numbers ≡ map (number_at rows) (take k places) → next ≡ numbers ++ r.number ∷ [] → next ≡ map (number_at rows) (take (k + 1) places)
 place_more rows places k r numbers next lt p_in read so_far e =
     e ∙ ap (λ ns. ns ++ r.number ∷ []) so_far
-    ∙ sym (ap (map (number_at rows)) (take_more places k 0 lt) ∙ map-append (number_at rows) (take k places) (get_or places k 0 ∷ []) ∙ ap (λ n. map (number_at rows) (take k places) ++ n ∷ []) (map_read (λ (t : Row). t.number) rows (get_or places k 0) r 0 p_in read))
+    ∙ sym (ap (map (number_at rows)) (take_more places k 0 lt) ∙ map-append (number_at rows) (take k places) (get_or places k 0 ∷ [])
+    ∙ ap (λ n. map (number_at rows) (take k places) ++ n ∷ []) (map_read (λ (t : Row). t.number) rows (get_or places k 0) r 0 p_in read))
 
 -- numbers of rows are live
 pub live_number : (rows : List Row) (n : ℕ) → Contains (numbers_in rows) n → IsLive rows n

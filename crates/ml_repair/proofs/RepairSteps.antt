@@ -20,7 +20,8 @@ abbrev pub first_count : Bool → ℕ
 first_count true = 1
 first_count false = 0
 
-module _ (free_law : FreeLaw) (smaller_law : SmallerLaw) (carried_law : CarriedLaw) (number : ℕ → ℕ) (labels : List Label) (old : List Slot) (at : ℕ) (comes : Bool) (in' : at < length labels) (was : AreOwn number labels old at comes false) where
+module _ (free_law : FreeLaw) (smaller_law : SmallerLaw) (carried_law : CarriedLaw) (number : ℕ → ℕ) (labels : List Label)
+    (old : List Slot) (at : ℕ) (comes : Bool) (in' : at < length labels) (was : AreOwn number labels old at comes false) where
   abbrev Nothing : ℕ → Type 0
   Nothing k = IsTaken labels at comes (ends old) (ends old) (at + 1) k
 
@@ -87,7 +88,8 @@ module _ (free_law : FreeLaw) (smaller_law : SmallerLaw) (carried_law : CarriedL
         let w = so_far.waiting i i_in (omega arith) in
         let unhit : ¬ (IsHitBelow labels at (ends old) (ends slots) i i) = (λ h. idle (w.1 h)) in
         let kept : get_or slots i no_slot ≡ get_or old i no_slot = so_far.rest i (omega arith) in
-        let no_more : (k : ℕ) → ¬ (IsHitBy labels at (ends old) (ends slots) i k) = (λ (k : ℕ) (h : IsHitBy labels at (ends old) (ends slots) i k). elim h.1 [ inl e ↦ ne e | inr differ ↦ differ (rw kept refl) ]) in
+        let no_more : (k : ℕ) → ¬ (IsHitBy labels at (ends old) (ends slots) i k) =
+        (λ (k : ℕ) (h : IsHitBy labels at (ends old) (ends slots) i k). elim h.1 [ inl e ↦ ne e | inr differ ↦ differ (rw kept refl) ]) in
         repairing_more carried_law number labels old at comes i slots slots (λ k h. refl) waits waits n n i_in so_far.one_slot so_far
         (own_unhit free_law smaller_law carried_law number labels at comes i slots old i_in (repairing_ends i_in) was kept ne unhit)
         (λ k k_in lt. let v = so_far.waiting k k_in (omega arith) in (λ t. inl (v.0 t), λ h. elim h [ inl hit ↦ v.1 hit | inr by ↦ absurd (no_more k by) ]))
@@ -105,7 +107,8 @@ module _ (free_law : FreeLaw) (smaller_law : SmallerLaw) (carried_law : CarriedL
 
       size_next : IsSize (λ k. IsTaken labels at comes (ends old) (ends slots) i k ⊎ ((k ≡ i) × IsHitBelow labels at (ends old) (ends slots) i i)) (n + 1)
       size_next =
-          size_same (λ k. IsTaken labels at comes (ends old) (ends slots) i k ⊎ (k ≡ i)) (λ k. IsTaken labels at comes (ends old) (ends slots) i k ⊎ ((k ≡ i) × IsHitBelow labels at (ends old) (ends slots) i i)) (n + 1)
+          size_same (λ k. IsTaken labels at comes (ends old) (ends slots) i k ⊎ (k ≡ i))
+          (λ k. IsTaken labels at comes (ends old) (ends slots) i k ⊎ ((k ≡ i) × IsHitBelow labels at (ends old) (ends slots) i i)) (n + 1)
           (λ k. (λ h. elim h [ inl t ↦ inl t | inr e ↦ inr (e, hit) ], λ h. elim h [ inl t ↦ inl t | inr here ↦ inr here.0 ]))
           (size_more (IsTaken labels at comes (ends old) (ends slots) i) i n (λ t. let lt = taken_below i t in omega arith) so_far.size)
 
@@ -116,7 +119,8 @@ module _ (free_law : FreeLaw) (smaller_law : SmallerLaw) (carried_law : CarriedL
       was_here = so_far.rest i (omega arith)
 
       -- its end changed: its later rivals wait too
-      pub repairing_moved : (woken : ℕ → Type 0) → ¬ (IsSame (ends slots i) (ends next i)) → ((k : ℕ) → k < length labels → i < k → woken k ↔ (waits k ⊎ IsRivalBefore labels i k)) → Repairing number labels old at comes (i + 1) next woken (n + 1)
+      pub repairing_moved : (woken : ℕ → Type 0) → ¬ (IsSame (ends slots i) (ends next i)) →
+          ((k : ℕ) → k < length labels → i < k → woken k ↔ (waits k ⊎ IsRivalBefore labels i k)) → Repairing number labels old at comes (i + 1) next woken (n + 1)
       repairing_moved woken differ made =
           let apart : ¬ (IsSame (ends old i) (ends next i)) = rw was_here at differ in
           repairing_more carried_law number labels old at comes i slots next others waits woken n (n + 1) i_in len so_far own_next
@@ -145,7 +149,8 @@ module _ (free_law : FreeLaw) (smaller_law : SmallerLaw) (carried_law : CarriedL
           size_next
 
   -- labels that do not wait are passed over
-  pub repairing_skip : (m i : ℕ) (slots : List Slot) (waits : ℕ → Type 0) (n : ℕ) → i + m ≤ length labels → ((k : ℕ) → i ≤ k → k < i + m → ¬ (waits k)) → Repairing number labels old at comes i slots waits n → Repairing number labels old at comes (i + m) slots waits n
+  pub repairing_skip : (m i : ℕ) (slots : List Slot) (waits : ℕ → Type 0) (n : ℕ) → i + m ≤ length labels → ((k : ℕ) → i ≤ k → k < i + m → ¬ (waits k)) →
+      Repairing number labels old at comes i slots waits n → Repairing number labels old at comes (i + m) slots waits n
   repairing_skip zero i slots waits n le idle so_far = let e : i ≡ i + 0 = omega arith in subst (λ (j : ℕ). Repairing number labels old at comes j slots waits n) e so_far
   repairing_skip (suc m) i slots waits n le idle so_far =
       let e : i + 1 + m ≡ i + suc m = omega arith in
@@ -162,7 +167,8 @@ module _ (free_law : FreeLaw) (smaller_law : SmallerLaw) (carried_law : CarriedL
   }
 
   -- as many labels were evaluated as the edit touches
-  pub repaired_size : (slots : List Slot) (waits : ℕ → Type 0) (n : ℕ) → Repairing number labels old at comes (length labels) slots waits n → IsSize (IsTouched labels at comes (ends old) (ends slots)) n
+  pub repaired_size : (slots : List Slot) (waits : ℕ → Type 0) (n : ℕ) →
+      Repairing number labels old at comes (length labels) slots waits n → IsSize (IsTouched labels at comes (ends old) (ends slots)) n
   repaired_size slots waits n done =
       size_same (IsTaken labels at comes (ends old) (ends slots) (length labels)) (IsTouched labels at comes (ends old) (ends slots)) n
       (λ k. (

@@ -33,7 +33,8 @@ pub record Repairing (number : ℕ → ℕ) (labels : List Label) (old : List Sl
 abbrev pub IsHitBy : List Label → ℕ → Choice → Choice → ℕ → ℕ → Type 0
 IsHitBy labels at b c i k = IsRivalBefore labels i k × ((i ≡ at) ⊎ (¬ (IsSame (b i) (c i))))
 
-module _ (carried_law : CarriedLaw) (number : ℕ → ℕ) (labels : List Label) (old : List Slot) (at : ℕ) (comes : Bool) (i : ℕ) (slots next : List Slot) (others : (k : ℕ) → k ≢ i → get_or next k no_slot ≡ get_or slots k no_slot) where
+module _ (carried_law : CarriedLaw) (number : ℕ → ℕ) (labels : List Label) (old : List Slot) (at : ℕ) (comes : Bool)
+    (i : ℕ) (slots next : List Slot) (others : (k : ℕ) → k ≢ i → get_or next k no_slot ≡ get_or slots k no_slot) where
   end_same : (k : ℕ) → k < i → ends next k ≡ ends slots k
   end_same k lt = let ne : k ≢ i = (λ e. omega arith) in ap (λ (s : Slot). value_of s.until) (others k ne)
 
@@ -56,9 +57,11 @@ module _ (carried_law : CarriedLaw) (number : ℕ → ℕ) (labels : List Label)
   )
 
   -- own slots of labels before i know nothing of the place i
-  pub own_before : (d : Label) (k : ℕ) → k ≤ i → (slot : Slot) → IsOwnSlot (row number labels slots d) (Stands comes true at k) (get_or labels k d) slot → IsOwnSlot (row number labels next d) (Stands comes true at k) (get_or labels k d) slot
+  pub own_before : (d : Label) (k : ℕ) → k ≤ i → (slot : Slot) → IsOwnSlot (row number labels slots d) (Stands comes true at k) (get_or labels k d) slot →
+      IsOwnSlot (row number labels next d) (Stands comes true at k) (get_or labels k d) slot
   own_before d k le slot own =
-      carried_by (Stands comes true at k) (Stands comes true at k) (stand_test comes true at k) (stand_test comes true at k) (is_standing comes true at k) (is_standing comes true at k) (λ j m. j ≡ m) (λ j m. j == m) is_same
+      carried_by (Stands comes true at k) (Stands comes true at k) (stand_test comes true at k) (stand_test comes true at k)
+      (is_standing comes true at k) (is_standing comes true at k) (λ j m. j ≡ m) (λ j m. j == m) is_same
       carried_law (get_or labels k d) (row number labels slots d) (row number labels next d)
       (record {
         forth = λ j stands. inr (j, stands, alike d j (let lt : j < k = stands.0 in omega arith), refl);
@@ -93,13 +96,15 @@ module _ (carried_law : CarriedLaw) (number : ℕ → ℕ) (labels : List Label)
         before = λ k le. let ne : k ≢ i = (λ e. omega arith) in others k ne ∙ so_far.before k le;
         rest = λ k le. let ne : k ≢ i = (λ e. omega arith) in others k ne ∙ so_far.rest k (omega arith);
         waiting = λ k k_in le. let s = hit_step k in let h = hits k k_in (omega arith) in (λ t. s.1 (h.0 t), λ t. h.1 (s.0 t));
-        size = size_same (λ k. IsTaken labels at comes (ends old) (ends slots) i k ⊎ ((k ≡ i) × IsHitBelow labels at (ends old) (ends slots) i i)) (IsTaken labels at comes (ends old) (ends next) (i + 1)) m (λ k. taken from k) size;
+        size = size_same (λ k. IsTaken labels at comes (ends old) (ends slots) i k ⊎ ((k ≡ i) × IsHitBelow labels at (ends old) (ends slots) i i))
+            (IsTaken labels at comes (ends old) (ends next) (i + 1)) m (λ k. taken from k) size;
       }
     where
       no_hit : (k : ℕ) → k ≤ i → ¬ (IsHitBy labels at (ends old) (ends next) i k)
       no_hit k le by = let lt : i < k = by.0.0 in omega arith
 
-      taken : at < i → (k : ℕ) → (IsTaken labels at comes (ends old) (ends slots) i k ⊎ ((k ≡ i) × IsHitBelow labels at (ends old) (ends slots) i i)) ↔ IsTaken labels at comes (ends old) (ends next) (i + 1) k
+      taken : at < i → (k : ℕ) → (IsTaken labels at comes (ends old) (ends slots) i k ⊎ ((k ≡ i) × IsHitBelow labels at (ends old) (ends slots) i i))
+          ↔ IsTaken labels at comes (ends old) (ends next) (i + 1) k
       taken from k = (
         λ h.
             elim h [

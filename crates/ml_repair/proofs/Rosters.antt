@@ -73,8 +73,10 @@ joined_found row at rows n (Some p) (Some q) le apart was h =
           (omega arith, ap (λ ns. get_or ns q 0) numbers ∙ get_or-insert_below (numbers_in rows) at row.number 0 q below.0 (omega arith) ∙ ap (λ i. number_at rows i) f ∙ was.1)
       | inr past ↦
           let f : q ≡ p + 1 = (let x : q ≡ h.0 + 1 = past.1 in omega arith) in
-          let g : at ≤ p = (let x : at ≤ h.0 = past.0 in omega arith) in
-          (omega arith, ap (λ ns. get_or ns q 0) numbers ∙ ap (λ i. get_or (insert (numbers_in rows) at row.number) i 0) f ∙ get_or-insert_above (numbers_in rows) at row.number 0 p g (omega arith) ∙ was.1)
+          let g : at ≤ p = (let x : at ≤ h.0 = past.0 in omega arith) in (
+            omega arith,
+            ap (λ ns. get_or ns q 0) numbers ∙ ap (λ i. get_or (insert (numbers_in rows) at row.number) i 0) f ∙ get_or-insert_above (numbers_in rows) at row.number 0 p g (omega arith) ∙ was.1,
+          )
     ]
 
 -- the row that comes stands at its place, with its number

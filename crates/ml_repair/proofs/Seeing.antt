@@ -1,5 +1,6 @@
 -- What a view shows of the rows.
-use Rattle.std.proofs.Common.{◌≡◌, ◌≢◌, ℕ, zero, suc, ◌+◌, ◌<◌, List, [], ◌∷◌, ◌++◌, length, get_or, map, take, Contains, ◌⊎◌, inl, inr, refl, sym, ap, ◌∙◌, subst, arith, Bool, true, false, Option, Some, None}
+use Rattle.std.proofs.Common.{◌≡◌, ◌≢◌, ℕ, zero, suc, ◌+◌, ◌<◌, List, [], ◌∷◌, ◌++◌, length, get_or, map, take, Contains}
+use Rattle.std.proofs.Common.{◌⊎◌, inl, inr, refl, sym, ap, ◌∙◌, subst, arith, Bool, true, false, Option, Some, None}
 use Rattle.std.specs.Prelude.{All, IfSome, ◌↔◌, ◌==◌, if◌then◌else◌}
 use Rattle.std.proofs.lemmas.Bool.Decides.{nat_tests}
 use Rattle.std.specs.List.Sorted.{IsStrictlyIncreasing}
@@ -32,7 +33,8 @@ use Rattle.ml_ratio.proofs.lemmas.Lists.{contains_map, map_contains, same_place,
 -- ---- rows that are shown
 
 -- the row at a place is shown exactly where its label is active at the view's scale and lies in the view
-pub shown_is : (rows : List Row) (view : View) (p : ℕ) (r : Row) → p < length rows → r ≡ get_or rows p r → IsShownIn rows view p ↔ (ActiveUntil r.label (value_of r.slot.until) (value_of view.scale) × IsInView r.label view)
+pub shown_is : (rows : List Row) (view : View) (p : ℕ) (r : Row) → p < length rows → r ≡ get_or rows p r →
+    IsShownIn rows view p ↔ (ActiveUntil r.label (value_of r.slot.until) (value_of view.scale) × IsInView r.label view)
 shown_is rows view p r lt read =
     let many = length-labels rows in
     let end : ends (slots_in rows) p ≡ value_of r.slot.until = ap (λ (s : Slot). value_of s.until) (map_read (λ (t : Row). t.slot) rows p r no_slot lt read) in (
@@ -42,8 +44,9 @@ shown_is rows view p r lt read =
     )
 
 -- where the label with the number is shown, its place is what came in
-pub push_here : (rows : List Row) (view : View) (n p : ℕ) (r : Row) (before after : List ℕ) → HaveOwnNumbers rows → IsRowAt rows n p → r ≡ get_or rows p r → ActiveUntil r.label (value_of r.slot.until) (value_of view.scale) × IsInView r.label view → after ≡ before ++ p ∷ [] →
-    (q : ℕ) → Contains after q ↔ (Contains before q ⊎ (IsRowAt rows n q × IsShownIn rows view q))
+pub push_here : (rows : List Row) (view : View) (n p : ℕ) (r : Row) (before after : List ℕ) → HaveOwnNumbers rows → IsRowAt rows n p →
+    r ≡ get_or rows p r → ActiveUntil r.label (value_of r.slot.until) (value_of view.scale) × IsInView r.label view →
+    after ≡ before ++ p ∷ [] → (q : ℕ) → Contains after q ↔ (Contains before q ⊎ (IsRowAt rows n q × IsShownIn rows view q))
 push_here rows view n p r before after differ here read shown e q =
     rw e (
       λ h. elim (Contains-push_cases before p q h) [
@@ -62,7 +65,8 @@ push_here rows view n p r before after differ here read shown e q =
     )
 
 -- where the label with the number is not shown, nothing has to come in
-pub push_hidden : (rows : List Row) (view : View) (n p : ℕ) (r : Row) (before : List ℕ) → HaveOwnNumbers rows → IsRowAt rows n p → r ≡ get_or rows p r → ¬ (ActiveUntil r.label (value_of r.slot.until) (value_of view.scale) × IsInView r.label view) →
+pub push_hidden : (rows : List Row) (view : View) (n p : ℕ) (r : Row) (before : List ℕ) → HaveOwnNumbers rows → IsRowAt rows n p →
+    r ≡ get_or rows p r → ¬ (ActiveUntil r.label (value_of r.slot.until) (value_of view.scale) × IsInView r.label view) →
     (q : ℕ) → Contains before q ↔ (Contains before q ⊎ (IsRowAt rows n q × IsShownIn rows view q))
 push_hidden rows view n p r before differ here read hidden q = (
   λ h. inl h,
@@ -78,7 +82,8 @@ push_hidden rows view n p r before differ here read hidden q = (
 )
 
 -- where no row has the number, nothing has to come in
-pub push_none : (rows : List Row) (view : View) (n : ℕ) (before : List ℕ) → ¬ (Contains (numbers_in rows) n) → (q : ℕ) → Contains before q ↔ (Contains before q ⊎ (IsRowAt rows n q × IsShownIn rows view q))
+pub push_none : (rows : List Row) (view : View) (n : ℕ) (before : List ℕ) → ¬ (Contains (numbers_in rows) n) →
+    (q : ℕ) → Contains before q ↔ (Contains before q ⊎ (IsRowAt rows n q × IsShownIn rows view q))
 push_none rows view n before fresh q = (
   λ h. inl h,
   λ h. elim h [
@@ -150,7 +155,8 @@ module _ (rows : List Row) (view : View) (settled : IsSettled rows) (near places
   }
 
   -- the row with one of the numbers is shown
-  shown_row : (numbers : List ℕ) → numbers ≡ map (number_at rows) sorted → (r : Row) → Contains rows r → Contains numbers r.number → (p : ℕ) × (p < length rows) × (r ≡ get_or rows p r) × IsShownIn rows view p
+  shown_row : (numbers : List ℕ) → numbers ≡ map (number_at rows) sorted → (r : Row) → Contains rows r →
+      Contains numbers r.number → (p : ℕ) × (p < length rows) × (r ≡ get_or rows p r) × IsShownIn rows view p
   shown_row numbers e r there in' =
       let s = map_contains (number_at rows) sorted r.number (rw e at in') in
       let p : ℕ = s.0 in
@@ -163,8 +169,8 @@ module _ (rows : List Row) (view : View) (settled : IsSettled rows) (near places
       (p, lt, subst (λ (x : Row). x ≡ get_or rows p x) f t.1, shown)
 
   -- two labels that are active at a scale do not overlap there
-  free_at : (i j : ℕ) (r s : Row) → j < i → i < length rows → r ≡ get_or rows i r → s ≡ get_or rows j s → ActiveUntil r.label (value_of r.slot.until) (value_of view.scale) → ActiveUntil s.label (value_of s.slot.until) (value_of view.scale) →
-      ¬ (Overlap r.label s.label (value_of view.scale))
+  free_at : (i j : ℕ) (r s : Row) → j < i → i < length rows → r ≡ get_or rows i r → s ≡ get_or rows j s → ActiveUntil r.label (value_of r.slot.until)
+      (value_of view.scale) → ActiveUntil s.label (value_of s.slot.until) (value_of view.scale) → ¬ (Overlap r.label s.label (value_of view.scale))
   unfolding Allows
   free_at i j r s less lt read_r read_s one other over =
       let many = length-labels rows in
@@ -269,7 +275,8 @@ module _ (rows : List Row) (view : View) (numbers : List ℕ) (differ : HaveOwnN
           let l : place_in (numbers_in rows) n < length (numbers_in rows) = q.0 in
           let lt : p < length rows = omega arith in
           let t = row_there rows p lt in
-          let e : t.0 ≡ r = one_number rows t.0 r (p, lt, sym t.1) some.1 differ (sym (map_read (λ (t : Row). t.number) rows p t.0 0 lt t.1) ∙ ap (λ k. get_or (numbers_in rows) k 0) (sym is) ∙ q.1 ∙ sym some.2) in
+          let e : t.0 ≡ r = one_number rows t.0 r (p, lt, sym t.1) some.1 differ
+          (sym (map_read (λ (t : Row). t.number) rows p t.0 0 lt t.1) ∙ ap (λ k. get_or (numbers_in rows) k 0) (sym is) ∙ q.1 ∙ sym some.2) in
           (near_is p r lt (subst (λ (x : Row). x ≡ get_or rows p x) e t.1)).1 some.3,
       λ h.
           let many = length-labels rows in
@@ -281,7 +288,8 @@ module _ (rows : List Row) (view : View) (numbers : List ℕ) (differ : HaveOwnN
           let there : Contains numbers r.number = (near.near r.number).1 (r, (p, lt, sym t.1), refl, (near_is p r lt t.1).0 h) in
           let q = placed_in (numbers_in rows) r.number (live_near r.number there) in
           let l' : place_in (numbers_in rows) r.number < length (numbers_in rows) = q.0 in
-          let e : place_in (numbers_in rows) r.number ≡ p = same_place (numbers_in rows) (place_in (numbers_in rows) r.number) p 0 differ l' (omega arith) (q.1 ∙ sym (map_read (λ (t : Row). t.number) rows p r 0 lt t.1)) in
+          let e : place_in (numbers_in rows) r.number ≡ p = same_place (numbers_in rows) (place_in (numbers_in rows) r.number) p 0 differ l'
+          (omega arith) (q.1 ∙ sym (map_read (λ (t : Row). t.number) rows p r 0 lt t.1)) in
           subst (Contains (map (place_in (numbers_in rows)) numbers)) e (contains_map (place_in (numbers_in rows)) numbers r.number there),
     );
     many = length-map numbers (place_in (numbers_in rows));
@@ -315,7 +323,8 @@ blocker_live rows r settled there =
     let lt : p < length rows = there.1 in
     let many = length-labels rows in
     let h = settled.slots.blockers p (omega arith) in
-    go r.slot.blocker (subst (λ (b : Option ℕ). IsBlockerBy (number_at rows) (labels_in rows) (ends (slots_in rows)) p b) (ap (λ (s : Slot). s.blocker) (map_read (λ (t : Row). t.slot) rows p r no_slot lt (sym there.2))) h)
+    go r.slot.blocker (subst (λ (b : Option ℕ). IsBlockerBy (number_at rows) (labels_in rows) (ends (slots_in rows)) p b)
+    (ap (λ (s : Slot). s.blocker) (map_read (λ (t : Row). t.slot) rows p r no_slot lt (sym there.2))) h)
   where
     go : (b : Option ℕ) → IsBlockerBy (number_at rows) (labels_in rows) (ends (slots_in rows)) there.0 b → IfSome b (IsLive rows)
     go None h = tt

@@ -161,7 +161,8 @@ module _ (rows left all : List Row) (moved : List Moved) (id : List ℕ) (come :
         λ h.
             let s = map_contains (λ (t : Row). t.label) all label h in
             elim (joined.only s.0 s.1) [
-              | inl old ↦ let b = are.stayed s.0 old in inl (subst (Contains (labels_in rows)) s.2 (contains_map (λ (t : Row). t.label) rows s.0 b.0), λ e. b.1 (ap (λ (a : Label). a.order.id) s.2 ∙ e))
+              | inl old ↦ let b = are.stayed s.0 old in
+                  inl (subst (Contains (labels_in rows)) s.2 (contains_map (λ (t : Row). t.label) rows s.0 b.0), λ e. b.1 (ap (λ (a : Label). a.order.id) s.2 ∙ e))
               | inr new ↦ inr (ap label_of new ∙ ap (λ (a : Label). Some a) s.2)
             ],
         λ h.
@@ -181,7 +182,8 @@ module _ (rows left all : List Row) (moved : List Moved) (id : List ℕ) (come :
           subst (Contains (labels_in all)) l (contains_map (λ (t : Row). t.label) all r (joined.here r e).0)
 
 -- the row that comes has the slot that it has
-pub come_is : (left : List Row) (at : ℕ) (row : Row) (moved : List Moved) → IsPlaceFor (labels_in left) row.label.order at → ((own : Slot) → slot_for row.number own moved ≡ own) → with_row row (moved_rows moved left) ≡ moved_rows moved (insert left at row)
+pub come_is : (left : List Row) (at : ℕ) (row : Row) (moved : List Moved) → IsPlaceFor (labels_in left) row.label.order at →
+    ((own : Slot) → slot_for row.number own moved ≡ own) → with_row row (moved_rows moved left) ≡ moved_rows moved (insert left at row)
 come_is left at row moved place kept =
     with_row_is (moved_rows moved left) row at (rw (labels-moved left moved) place)
     ∙ sym (moved-insert moved left at row ∙ ap (λ (r : Row). insert (moved_rows moved left) at r) (ap (λ (s : Slot). record row { slot = s }) (kept row.slot)))

@@ -93,23 +93,29 @@ alike r q never = elim (same_or_not a_label.the_row.coded q.label r.label) [
 ]
 
 -- a row before the edit, if its id has no change, stands after it too, with the same label and end
-pub stays_after : (before after : List Row) (changes : List Change) (row : Row) → AreChanges (labels_in before) (slots_in before) (labels_in after) (slots_in after) changes → Contains before row → ¬ (IsChanged changes row.label.order.id) → StandsAmong after row
+pub stays_after : (before after : List Row) (changes : List Change) (row : Row) → AreChanges (labels_in before) (slots_in before)
+    (labels_in after) (slots_in after) changes → Contains before row → ¬ (IsChanged changes row.label.order.id) → StandsAmong after row
 stays_after before after changes row are there same = elim (find after row.label.order.id) [
   | inl other ↦ (
-      let never = not_different before after changes are row.label.order.id same (Some (ranged row)) (Some (ranged other.0)) (standing before row there) (state_found after row.label.order.id (inl other)) in
+      let never = not_different before after changes are row.label.order.id same (Some (ranged row))
+      (Some (ranged other.0)) (standing before row there) (state_found after row.label.order.id (inl other)) in
       let parts = alike row other.0 never in
       (other.0, other.1, parts.0, parts.1))
-  | inr none ↦ absurd (not_different before after changes are row.label.order.id same (Some (ranged row)) None (standing before row there) (is_absent after row.label.order.id none) (none_is (ranged row)))
+  | inr none ↦ absurd (not_different before after changes are row.label.order.id same (Some (ranged row)) None
+      (standing before row there) (is_absent after row.label.order.id none) (none_is (ranged row)))
 ]
 
 -- a row after the edit, if its id has no change, stood before it too, with the same label and end
-pub stays_before : (before after : List Row) (changes : List Change) (row : Row) → AreChanges (labels_in before) (slots_in before) (labels_in after) (slots_in after) changes → Contains after row → ¬ (IsChanged changes row.label.order.id) → StandsAmong before row
+pub stays_before : (before after : List Row) (changes : List Change) (row : Row) → AreChanges (labels_in before) (slots_in before)
+    (labels_in after) (slots_in after) changes → Contains after row → ¬ (IsChanged changes row.label.order.id) → StandsAmong before row
 stays_before before after changes row are there same = elim (find before row.label.order.id) [
   | inl other ↦ (
-      let never = not_different before after changes are row.label.order.id same (Some (ranged other.0)) (Some (ranged row)) (state_found before row.label.order.id (inl other)) (standing after row there) in
+      let never = not_different before after changes are row.label.order.id same (Some (ranged other.0))
+      (Some (ranged row)) (state_found before row.label.order.id (inl other)) (standing after row there) in
       let parts = alike other.0 row never in
       (other.0, other.1, sym parts.0, sym parts.1))
-  | inr none ↦ absurd (not_different before after changes are row.label.order.id same None (Some (ranged row)) (is_absent before row.label.order.id none) (standing after row there) (is_none (ranged row)))
+  | inr none ↦ absurd (not_different before after changes are row.label.order.id same None (Some (ranged row))
+      (is_absent before row.label.order.id none) (standing after row there) (is_none (ranged row)))
 ]
 
 told_by : (rows : List Row) (id : List ℕ) (state : Option Ranged) → IsStateOf (labels_in rows) (slots_in rows) id state → IsTold rows id (option_map (λ one. one.span) state)

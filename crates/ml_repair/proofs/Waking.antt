@@ -36,7 +36,8 @@ suspects_none rows a first = record {
 }
 
 -- one more band is done, once the places came in that a search in it finds
-pub suspects_more : (rows : List Row) (a : Label) (first band : ℕ) (places more : List ℕ) → SuspectsBelow rows a first band places → AreFound rows a band places more → SuspectsBelow rows a first (band + 1) more
+pub suspects_more : (rows : List Row) (a : Label) (first band : ℕ) (places more : List ℕ) →
+    SuspectsBelow rows a first band places → AreFound rows a band places more → SuspectsBelow rows a first (band + 1) more
 suspects_more rows a first band places more so_far are = record {
   within = λ p h. elim (are.sound p h) [ inl old ↦ so_far.within p old | inr new ↦ new ];
   whole = λ p k f from to. elim (cases_lt k band) [
@@ -50,8 +51,8 @@ abbrev pub ShareLaw : Type 0
 ShareLaw = (a b : Label) → AreRivals a b → LastCell a b
 
 -- the bands from the first in which a range ends up to the label's last one are enough
-pub suspects_all : ShareLaw → (rows : List Row) (a : Label) (first band last ends begins : ℕ) (places : List ℕ) → SuspectsBelow rows a first band places → IsInBand (value_of a.min) begins → IsLastBand a last →
-    EndsFrom ends rows → first ≡ max (min ends last) begins → last < band → AreSuspects rows a places
+pub suspects_all : ShareLaw → (rows : List Row) (a : Label) (first band last ends begins : ℕ) (places : List ℕ) → SuspectsBelow rows a first band places →
+    IsInBand (value_of a.min) begins → IsLastBand a last → EndsFrom ends rows → first ≡ max (min ends last) begins → last < band → AreSuspects rows a places
 suspects_all law rows a first band last ends begins places done starts is from least stop = record {
   within = λ k d lt. done.within (get_or places k d) (k, lt, get_or_default places k (get_or places k d) d lt);
   whole = λ p p_in rivals.
@@ -99,7 +100,8 @@ meeting_none rows a first = record {
 }
 
 -- some more bands are done, once the places of all labels came in that the label overlaps in them
-pub meeting_more : (rows : List Row) (a : Label) (first band next : ℕ) (places more : List ℕ) → MeetingBelow rows a first band places → AreMet rows a band next places more → MeetingBelow rows a first next more
+pub meeting_more : (rows : List Row) (a : Label) (first band next : ℕ) (places more : List ℕ) →
+    MeetingBelow rows a first band places → AreMet rows a band next places more → MeetingBelow rows a first next more
 meeting_more rows a first band next places more so_far are = record {
   within = λ p h. elim (are.sound p h) [ inl old ↦ so_far.within p old | inr new ↦ new ];
   whole = λ p k f from to. elim (cases_lt k band) [
@@ -113,7 +115,8 @@ abbrev pub OverlapLaw : Type 0
 OverlapLaw = (a b : Label) → AreRivals a b → RivalBand a b
 
 -- all bands of the label's range are enough
-pub meeting_all : OverlapLaw → (rows : List Row) (a : Label) (band last begins : ℕ) (places : List ℕ) → MeetingBelow rows a begins band places → IsInBand (value_of a.min) begins → IsLastBand a last → last < band → AreSuspects rows a places
+pub meeting_all : OverlapLaw → (rows : List Row) (a : Label) (band last begins : ℕ) (places : List ℕ) →
+    MeetingBelow rows a begins band places → IsInBand (value_of a.min) begins → IsLastBand a last → last < band → AreSuspects rows a places
 meeting_all law rows a band last begins places done starts is stop = record {
   within = λ k d lt. done.within (get_or places k d) (k, lt, get_or_default places k (get_or places k d) d lt);
   whole = λ p p_in rivals.
@@ -134,8 +137,9 @@ module _ (labels : List Label) (i : ℕ) (before : List Bool) where
   woken_none those none k k_in = (λ w. inl w, λ h. elim h [ inl w ↦ w | inr r ↦ absurd (none k r.0 r.1) ])
 
   -- one more
-  pub woken_more : (those next : ℕ → Type 0) (k : ℕ) (mid after : List Bool) → IsWokenBy labels i those before mid → (IsTrue (get_or after k false) ↔ (IsTrue (get_or mid k false) ⊎ IsRivalBefore labels i k)) →
-      ((m : ℕ) → m ≢ k → get_or after m false ≡ get_or mid m false) → ((m : ℕ) → next m → those m ⊎ (m ≡ k)) → ((m : ℕ) → those m → next m) → next k → IsWokenBy labels i next before after
+  pub woken_more : (those next : ℕ → Type 0) (k : ℕ) (mid after : List Bool) → IsWokenBy labels i those before mid →
+      (IsTrue (get_or after k false) ↔ (IsTrue (get_or mid k false) ⊎ IsRivalBefore labels i k)) → ((m : ℕ) → m ≢ k → get_or after m false ≡ get_or mid m false) →
+      ((m : ℕ) → next m → those m ⊎ (m ≡ k)) → ((m : ℕ) → those m → next m) → next k → IsWokenBy labels i next before after
   woken_more those next k mid after so_far here others cases old_ones new_one m m_in =
       let s = so_far m m_in in
       elim (cases_eq m k) [
@@ -170,7 +174,8 @@ among_more labels i before mid after places t lt so_far here others =
     (λ m h. rw e (Contains-append_left (take t places) (k ∷ []) m h)) (rw e (Contains-push (take t places) k))
 
 -- one more label behind the first k
-pub idle_more : (labels : List Label) (i : ℕ) (before mid after : List Bool) (k : ℕ) → IsWokenBy labels i (λ m. m < k) before mid → (IsTrue (get_or after k false) ↔ (IsTrue (get_or mid k false) ⊎ IsRivalBefore labels i k)) →
+pub idle_more : (labels : List Label) (i : ℕ) (before mid after : List Bool) (k : ℕ) → IsWokenBy labels i (λ m. m < k) before mid →
+    (IsTrue (get_or after k false) ↔ (IsTrue (get_or mid k false) ⊎ IsRivalBefore labels i k)) →
     ((m : ℕ) → m ≢ k → get_or after m false ≡ get_or mid m false) → IsWokenBy labels i (λ m. m < k + 1) before after
 idle_more labels i before mid after k so_far here others =
     woken_more labels i before (λ m. m < k) (λ m. m < k + 1) k mid after so_far here others
@@ -186,7 +191,8 @@ woken_all rows i k before after all woken m m_in =
     )
 
 -- once all suspects are gone through, the later rivals of the label wait
-pub woken_suspects : (rows : List Row) (i : ℕ) (high : Label) (places : List ℕ) (before after : List Bool) → ((d : Label) → get_or (labels_in rows) i d ≡ high) → AreSuspects rows high places → IsWokenBy (labels_in rows) i (Contains places) before after → AreWoken rows i before after
+pub woken_suspects : (rows : List Row) (i : ℕ) (high : Label) (places : List ℕ) (before after : List Bool) → ((d : Label) → get_or (labels_in rows) i d ≡ high) →
+    AreSuspects rows high places → IsWokenBy (labels_in rows) i (Contains places) before after → AreWoken rows i before after
 woken_suspects rows i high places before after is are woken m m_in =
     let labels = labels_in rows in
     let many = length-labels rows in

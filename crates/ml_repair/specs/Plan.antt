@@ -77,7 +77,8 @@ pub record AreNewIn (rows : List Row) (moved : List Moved) : Type 0 where
   pub once : AreDifferent (numbers_of moved)
   pub new : (m : Moved) → Contains moved m → IsNewIn rows m
 
--- the plan is of these rows: its edit can be made; its new slots are those of labels that stay and get another one; its slots are those of the labels after it, which keep their numbers; and it tells just what that changes and costs
+-- the plan is of these rows: its edit can be made; its new slots are those of labels that stay and get another one; its slots
+-- are those of the labels after it, which keep their numbers; and it tells just what that changes and costs
 pub record IsPlanOf (plan : Planned) (rows : List Row) : Type 0 where
   pub possible : CanBeMade plan.edit rows
   pub moved : AreNewIn (kept_rows plan.edit rows) plan.moved

@@ -61,7 +61,8 @@ IsUnmoved rows moved p = ¬ (Contains (numbers_of moved) (number_at rows p))
 -- places of the list, among them each of a label without a new slot that the label overlaps in band k, and whose active range reaches into the band and ends above the label's minimum
 pub record AreReaching (rows : List Row) (moved : List Moved) (low : Label) (k : ℕ) (places : List ℕ) : Type 0 where
   pub within : All (λ p. p < length rows) places
-  pub whole : (p : ℕ) → OverlapsAt rows low k p → IsUnmoved rows moved p → ReachesBand k (ends (present_slots rows moved) p) → IsLess (value_of low.min) (ends (present_slots rows moved) p) → Contains places p
+  pub whole : (p : ℕ) → OverlapsAt rows low k p → IsUnmoved rows moved p → ReachesBand k (ends (present_slots rows moved) p) →
+      IsLess (value_of low.min) (ends (present_slots rows moved) p) → Contains places p
 
 -- of the labels without a new slot before place i that the label overlaps in any of the bands from k to m none has an active range that reaches into that band
 abbrev pub IsClear : List Row → List Moved → Label → ℕ → ℕ → ℕ → Type 0

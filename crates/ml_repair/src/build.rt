@@ -38,8 +38,10 @@ fn push_row(
 ) -> Result<(), AllocError>
     requires few { length rows.old.items < most_labels }
     requires in_turn { AreInTurn (unboxed rows.old.items) }
-    ensures labels { OnOk result (labels_in (unboxed rows.new.items) ≡ labels_in (unboxed rows.old.items) ++ label ∷ []) }
-    ensures slots { OnOk result (slots_in (unboxed rows.new.items) ≡ slots_in (unboxed rows.old.items) ++ slot ∷ []) }
+    ensures labels { OnOk result
+        (labels_in (unboxed rows.new.items) ≡ labels_in (unboxed rows.old.items) ++ label ∷ []) }
+    ensures slots { OnOk result
+        (slots_in (unboxed rows.new.items) ≡ slots_in (unboxed rows.old.items) ++ slot ∷ []) }
     ensures in_turn { OnOk result (AreInTurn (unboxed rows.new.items)) }
 {
     let row = Row {
@@ -91,7 +93,8 @@ fn settle_all(alloc: Global, labels: Vec<Label>) -> Result<Store, AllocError>
 pub fn build_store(alloc: Global, labels: Seq<Label>) -> Result<Store, AllocError>
     requires differ { AllPairs (λ one other. one.order.id ≢ other.order.id) labels }
     requires few { length labels ≤ most_labels }
-    ensures labels { IfOk result (λ store. (label : Label) → Contains (labels_in store.rows) label ↔ Contains labels label) }
+    ensures labels { IfOk result
+        (λ store. (label : Label) → Contains (labels_in store.rows) label ↔ Contains labels label) }
     ensures settled { IfOk result (λ store. IsSettled store.rows) }
 {
     let ordered = in_priority_order(labels);

@@ -47,7 +47,8 @@ fn stay_changes(
     moves: &Moves,
 ) -> Result<Vec<Change>, AllocError>
     requires { IsLabelList (labels_in roster.now) }
-    ensures are { IfOk result (λ changes. (c : Change) → Contains changes.items c ↔ IsStayChange roster.now moves.now c) }
+    ensures are { IfOk result
+        (λ changes. (c : Change) → Contains changes.items c ↔ IsStayChange roster.now moves.now c) }
     ensures own { IfOk result (λ changes. HaveOwnIds changes.items) }
 {
     let moved = moves.as_slice();
@@ -87,8 +88,10 @@ pub fn edit_changes(
 ) -> Result<Seq<Change>, AllocError>
     requires up { IsLabelList (labels_in roster.now) }
     requires own { IfSome edited (λ change. ¬ (HasId (labels_in roster.now) change.id)) }
-    ensures same { IfOk result (λ changes. (c : Change) → Contains changes c ↔ (IsStayChange roster.now moves.now c ⊎ (edited ≡ Some c))) }
-    ensures ascending { IfOk result (λ changes. IsStrictlySortedBy (slice_cmp nat_cmp) (map (λ change. change.id) changes)) }
+    ensures same { IfOk result (λ changes. (c : Change) →
+        Contains changes c ↔ (IsStayChange roster.now moves.now c ⊎ (edited ≡ Some c))) }
+    ensures ascending { IfOk result
+        (λ changes. IsStrictlySortedBy (slice_cmp nat_cmp) (map (λ change. change.id) changes)) }
 {
     let mut changes = stay_changes(alloc, roster, moves)?;
     push_edited(edited, &mut changes)?;

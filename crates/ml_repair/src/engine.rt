@@ -53,7 +53,8 @@ impl Engine {
     pub fn build(alloc: Global, labels: Seq<Label>) -> Result<Engine, AllocError>
         requires differ { AllPairs (λ one other. one.order.id ≢ other.order.id) labels }
         requires few { length labels ≤ most_labels }
-        ensures labels { IfOk result (λ engine. (label : Label) → Contains (labels_in engine.rows) label ↔ Contains labels label) }
+        ensures labels { IfOk result (λ engine.
+            (label : Label) → Contains (labels_in engine.rows) label ↔ Contains labels label) }
         ensures settled { IfOk result (λ engine. IsSettled engine.rows) }
     {
         let store = build_store(alloc, labels)?;
@@ -77,7 +78,8 @@ impl Engine {
 
     /// The number of the label with this id; none where no label has it.
     pub fn number_of(&self, id: &Text) -> Option<u32>
-        ensures { MatchOption result (¬ (HasId (labels_in self.now.rows) id.now)) (IsNumberOf self.now.rows id.now) }
+        ensures { MatchOption result (¬ (HasId (labels_in self.now.rows) id.now))
+            (IsNumberOf self.now.rows id.now) }
     {
         self.store.number_of(id)
     }
@@ -123,7 +125,8 @@ impl Engine {
     ) -> Result<Plan, AllocError>
         requires new_id { ¬ (HasId (labels_in self.now.rows) label.order.id) }
         requires few { length self.now.rows < most_labels }
-        ensures { IfOk result (λ plan. IsPlanFor plan self.now.rows label.order.id (Some label) steps.old steps.new) }
+        ensures { IfOk result
+            (λ plan. IsPlanFor plan self.now.rows label.order.id (Some label) steps.old steps.new) }
     {
         plan_in(alloc, &self.store, label, steps)
     }
@@ -140,7 +143,8 @@ impl Engine {
         steps: &mut Steps<L>,
     ) -> Result<Plan, AllocError>
         requires live { HasId (labels_in self.now.rows) id.now }
-        ensures { IfOk result (λ plan. IsPlanFor plan self.now.rows id.now None steps.old steps.new) }
+        ensures { IfOk result
+            (λ plan. IsPlanFor plan self.now.rows id.now None steps.old steps.new) }
     {
         plan_out(alloc, &self.store, id, steps)
     }
@@ -158,7 +162,8 @@ impl Engine {
         steps: &mut Steps<L>,
     ) -> Result<Plan, AllocError>
         requires live { HasId (labels_in self.now.rows) label.order.id }
-        ensures { IfOk result (λ plan. IsPlanFor plan self.now.rows label.order.id (Some label) steps.old steps.new) }
+        ensures { IfOk result
+            (λ plan. IsPlanFor plan self.now.rows label.order.id (Some label) steps.old steps.new) }
     {
         plan_instead(alloc, &self.store, label, steps)
     }
@@ -215,7 +220,8 @@ impl Engine {
         ensures shown { IfOk result (AreShownNumbers self.now.rows view.now) }
         ensures live { IfOk result (λ numbers. All (IsLive self.now.rows) numbers) }
         ensures apart { IfOk result (AreApart self.now.rows view.now) }
-        ensures looks { IfOk result (λ _. (n : ℕ) × AreNear (labels_in self.now.rows) (slots_in self.now.rows) view.now n × (looks.new ≡ looks.old + n)) }
+        ensures looks { IfOk result (λ _. (n : ℕ) × AreNear (labels_in self.now.rows)
+            (slots_in self.now.rows) view.now n × (looks.new ≡ looks.old + n)) }
     {
         shown_numbers(alloc, &self.store, view, looks)
     }

@@ -64,7 +64,8 @@ fn next_scale(whole: u64) -> Ratio
 // are never shown end where they begin, so they are passed over in the band of their minimum, if that is whole.
 fn least_end(low: &Label, band: u8) -> Ratio
     requires { band ≤ 27 }
-    ensures { (u : Ratio) → IsLess (value_of low.now.min) (value_of u) → ReachesBand band (value_of u) → IsAtMost (value_of result) (value_of u) }
+    ensures { (u : Ratio) → IsLess (value_of low.now.min) (value_of u) →
+        ReachesBand band (value_of u) → IsAtMost (value_of result) (value_of u) }
 {
     let min = low.min();
     if min.den() == 1 && min.num() < 65536 && min.band() == band {
@@ -78,7 +79,8 @@ fn least_end(low: &Label, band: u8) -> Ratio
 // and that end above the label's minimum: their own slots last until a scale that is known.
 fn search(alloc: Global, sought: &Sought<'_>, band: u8) -> Result<Seq<u32>, AllocError>
     requires { band ≤ 27 }
-    ensures { IfOk result (AreReaching sought.now.roster.now sought.now.moves.now sought.now.low.now band) }
+    ensures { IfOk result
+        (AreReaching sought.now.roster.now sought.now.moves.now sought.now.low.now band) }
 {
     let scale = least_end(sought.low, band);
     sought.roster.overlapping(alloc, sought.low, band, &scale)
@@ -88,7 +90,8 @@ fn search(alloc: Global, sought: &Sought<'_>, band: u8) -> Result<Seq<u32>, Allo
 // from `band` on reaches into that band.
 fn is_clear(sought: &Sought<'_>, band: u8) -> bool
     requires { band ≤ 27 }
-    ensures { IsTrue result → IsClear sought.now.roster.now sought.now.moves.now sought.now.low.now sought.now.place band (band + 3) }
+    ensures { IsTrue result → IsClear sought.now.roster.now sought.now.moves.now
+        sought.now.low.now sought.now.place band (band + 3) }
 {
     let scale = start_of(band);
     sought
@@ -105,7 +108,8 @@ fn sift_one(
     out: &mut Seq<u32>,
 ) -> Result<Ratio, AllocError>
     requires { place < length sought.now.roster.now }
-    ensures { IfOk result (λ next. AreSifted sought.now (λ p. p ≡ place) bound next out.old out.new) }
+    ensures { IfOk result
+        (λ next. AreSifted sought.now (λ p. p ≡ place) bound next out.old out.new) }
 {
     if stands(sought.edited, sought.place, place as usize) {
         let row = sought.roster.row(place as usize);
@@ -130,7 +134,8 @@ fn sift(
     out: &mut Seq<u32>,
 ) -> Result<Ratio, AllocError>
     requires { All (λ p. p < length sought.now.roster.now) found.now }
-    ensures { IfOk result (λ next. AreSifted sought.now (Contains found.now) bound next out.old out.new) }
+    ensures { IfOk result
+        (λ next. AreSifted sought.now (Contains found.now) bound next out.old out.new) }
 {
     let mut next = bound;
     for place in found {
@@ -148,7 +153,8 @@ fn sift_moved_one(
     out: &mut Seq<u32>,
 ) -> Result<Ratio, AllocError>
     requires { (own : Slot) → slot_for moved.now.number own sought.now.moves.now ≡ moved.now.slot }
-    ensures { IfOk result (λ next. AreSifted sought.now (IsRowAt sought.now.roster.now moved.now.number) bound next out.old out.new) }
+    ensures { IfOk result (λ next. AreSifted sought.now
+        (IsRowAt sought.now.roster.now moved.now.number) bound next out.old out.new) }
 {
     if !sought.low.min().is_less(&moved.slot.until) {
         return Ok(bound);
@@ -161,7 +167,9 @@ fn sift_moved_one(
 
 // Those of the labels with new slots come in that stand before the label and may set its end.
 fn sift_moved(sought: &Sought<'_>, bound: Ratio, out: &mut Seq<u32>) -> Result<Ratio, AllocError>
-    ensures { IfOk result (λ next. AreSifted sought.now (λ p. (p < length sought.now.roster.now) × Contains (numbers_of sought.now.moves.now) (number_at sought.now.roster.now p)) bound next out.old out.new) }
+    ensures { IfOk result (λ next. AreSifted sought.now
+        (λ p. (p < length sought.now.roster.now) × Contains (numbers_of sought.now.moves.now)
+        (number_at sought.now.roster.now p)) bound next out.old out.new) }
 {
     let mut next = bound;
     let all = sought.moves.as_slice();

@@ -66,7 +66,8 @@ fn given_places(
     blocker: Option<usize>,
 ) -> Result<Vec<u32>, AllocError>
     requires { IfSome blocker (λ b. b < most_labels) }
-    ensures { IfOk result (λ places. (p : ℕ) → Contains places.items p ↔ (Contains changed.now p ⊎ (blocker ≡ Some p))) }
+    ensures { IfOk result (λ places.
+        (p : ℕ) → Contains places.items p ↔ (Contains changed.now p ⊎ (blocker ≡ Some p))) }
 {
     let mut places = changed.to_vec(alloc)?;
     match blocker {
@@ -86,7 +87,8 @@ fn places_with(
 ) -> Result<Vec<u32>, AllocError>
     requires { IfSome blocker (λ b. b < most_labels) }
     ensures ascending { IfOk result (λ places. IsStrictlyIncreasing places.items) }
-    ensures same { IfOk result (λ places. (p : ℕ) → Contains places.items p ↔ (Contains changed.now p ⊎ (blocker ≡ Some p))) }
+    ensures same { IfOk result (λ places.
+        (p : ℕ) → Contains places.items p ↔ (Contains changed.now p ⊎ (blocker ≡ Some p))) }
 {
     let places = given_places(alloc, changed, blocker)?;
     Ok(ascending(Seq::of_vec(places)))
@@ -105,7 +107,8 @@ fn settle_among<L: Ledger>(
     requires is_place { i < length roster.now }
     requires within { All (λ p. p < length roster.now) changed.now }
     requires blocker { IfSome blocker (λ b. b < length roster.now) }
-    ensures left { IfOk result (IsLeftBy roster.now moves.now i (λ p. Contains changed.now p ⊎ (blocker ≡ Some p))) }
+    ensures left { IfOk result
+        (IsLeftBy roster.now moves.now i (λ p. Contains changed.now p ⊎ (blocker ≡ Some p))) }
     ensures spent { IfOk result (λ _. steps.new ≡ steps.old + 1) }
 {
     let row = roster.row(i);
@@ -136,7 +139,8 @@ pub fn settle_again<L: Ledger>(
     steps: &mut Steps<L>,
 ) -> Result<Slot, AllocError>
     requires is_place { i < length roster.now }
-    requires ends { (d : Label) (j : ℕ) → Stands edited.comes true edited.at i j → IsEnd (slice_index_or (labels_in roster.now) j d) (ends (present_slots roster.now moves.now) j) }
+    requires ends { (d : Label) (j : ℕ) → Stands edited.comes true edited.at i j → IsEnd
+        (slice_index_or (labels_in roster.now) j d) (ends (present_slots roster.now moves.now) j) }
     requires known { IsOwnBefore roster.now moves.now edited.at edited.comes changed.now i }
     ensures own { IfOk result (AreLeaving roster.now moves.now edited.at edited.comes i) }
     ensures spent { IfOk result (λ _. steps.new ≡ steps.old + 1) }

@@ -14,7 +14,8 @@ use std::alloc::{AllocError, Global};
 
 // Whether the slot is another one than that of the label with its number.
 fn is_new(roster: &Roster<'_>, m: &Moved) -> bool
-    ensures { MatchBool result (IsNewIn roster.now m.now) ((r : Row) → Contains roster.now r → r.number ≡ m.now.number → r.slot ≡ m.now.slot) }
+    ensures { MatchBool result (IsNewIn roster.now m.now)
+        ((r : Row) → Contains roster.now r → r.number ≡ m.now.number → r.slot ≡ m.now.slot) }
 {
     match roster.place_of(m.number) {
         Some(at) => !same_slots(&roster.row(at).slot, &m.slot),
@@ -31,7 +32,8 @@ pub fn lasting_slots(
     roster: &Roster<'_>,
     moves: &Moves,
 ) -> Result<Vec<Moved>, AllocError>
-    ensures rows { IfOk result (λ moved. moved_rows moved.items roster.now ≡ moved_rows moves.now roster.now) }
+    ensures rows { IfOk result
+        (λ moved. moved_rows moved.items roster.now ≡ moved_rows moves.now roster.now) }
     ensures new { IfOk result (λ moved. AreNewIn roster.now moved.items) }
     ensures few { IfOk result (λ moved. length moved.items ≤ most_labels) }
 {

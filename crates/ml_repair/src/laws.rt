@@ -37,25 +37,30 @@ pub fn changes_tell()
 
 /// No two live labels have one id.
 pub fn one_label_an_id()
-    ensures { (rows : List Row) (one other : Row) → IsSettled rows → Contains rows one → Contains rows other →
+    ensures { (rows : List Row) (one other : Row) →
+        IsSettled rows → Contains rows one → Contains rows other →
         one.label.order.id ≡ other.label.order.id → one ≡ other }
 {}
 
 /// No two live labels have one number.
 pub fn one_label_a_number()
-    ensures { (rows : List Row) (one other : Row) → HaveOwnNumbers rows → Contains rows one → Contains rows other →
+    ensures { (rows : List Row) (one other : Row) →
+        HaveOwnNumbers rows → Contains rows one → Contains rows other →
         one.number ≡ other.number → one ≡ other }
 {}
 
 /// The changes between some rows and others are one list.
 pub fn one_changes()
-    ensures { (labels : List Label) (slots : List Slot) (new_labels : List Label) (new_slots : List Slot) (changes others : List Change) →
-        AreChanges labels slots new_labels new_slots changes → AreChanges labels slots new_labels new_slots others → changes ≡ others }
+    ensures { (labels : List Label) (slots : List Slot) (new_labels : List Label)
+        (new_slots : List Slot) (changes others : List Change) →
+        AreChanges labels slots new_labels new_slots changes →
+        AreChanges labels slots new_labels new_slots others → changes ≡ others }
 {}
 
 /// The cost of an edit between two label lists is one number.
 pub fn one_cost()
-    ensures { (before after : List Label) (id : List ℕ) (cost other : ℕ) → IsLabelList before → IsLabelList after →
+    ensures { (before after : List Label) (id : List ℕ) (cost other : ℕ) →
+        IsLabelList before → IsLabelList after →
         IsCost before after id cost → IsCost before after id other → cost ≡ other }
 {
     l0();

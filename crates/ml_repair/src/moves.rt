@@ -114,7 +114,8 @@ impl Moves {
     /// Out of memory.
     pub fn put(&mut self, number: u32, slot: Slot) -> Result<(), AllocError>
         requires { number < most_labels }
-        ensures { IfOk result (λ _. (n : ℕ) (own : Slot) → slot_for n own self.new ≡ (if n == number then slot else slot_for n own self.old)) }
+        ensures { IfOk result (λ _. (n : ℕ) (own : Slot) →
+            slot_for n own self.new ≡ (if n == number then slot else slot_for n own self.old)) }
     {
         let at = self.find(number);
         if at > 0 {

@@ -37,7 +37,8 @@ pub fn pass_out<L: Ledger>(
     requires before { AreSettled store.now.rows moves.old }
     ensures after { IfOk result (λ _. AreSettled (remove store.now.rows at) moves.new) }
     ensures touched { IfOk result (AreTouched (labels_in store.now.rows) at false) }
-    ensures kept { IfOk result (λ _. (own : Slot) → slot_for (number_at store.now.rows at) own moves.new ≡ slot_for (number_at store.now.rows at) own moves.old) }
+    ensures kept { IfOk result (λ _. (own : Slot) → slot_for (number_at store.now.rows at)
+        own moves.new ≡ slot_for (number_at store.now.rows at) own moves.old) }
     ensures few { IfOk result (λ n. n ≤ most_labels) }
     ensures spent { IfOk result (λ n. steps.new ≡ steps.old + n) }
 {
@@ -69,7 +70,8 @@ pub fn settle_coming<L: Ledger>(
     requires kept { (own : Slot) → slot_for row.old.number own moves.now ≡ own }
     ensures number { row.new.number ≡ row.old.number }
     ensures label { row.new.label ≡ row.old.label }
-    ensures own { IfOk result (λ _. IsSettledAt (insert (left_rows gone store.now.rows) at row.new) moves.now at) }
+    ensures own { IfOk result
+        (λ _. IsSettledAt (insert (left_rows gone store.now.rows) at row.new) moves.now at) }
     ensures spent { IfOk result (λ _. steps.new ≡ steps.old + 1) }
 {
     own_slots();
@@ -104,8 +106,10 @@ pub fn pass_in<L: Ledger>(
     requires kept { (own : Slot) → slot_for row.old.number own moves.old ≡ own }
     ensures number { row.new.number ≡ row.old.number }
     ensures label { row.new.label ≡ row.old.label }
-    ensures after { IfOk result (λ _. AreSettled (insert (left_rows gone store.now.rows) at row.new) moves.new) }
-    ensures touched { IfOk result (AreTouched (labels_in (insert (left_rows gone store.now.rows) at row.new)) at true) }
+    ensures after { IfOk result
+        (λ _. AreSettled (insert (left_rows gone store.now.rows) at row.new) moves.new) }
+    ensures touched { IfOk result
+        (AreTouched (labels_in (insert (left_rows gone store.now.rows) at row.new)) at true) }
     ensures kept { IfOk result (λ _. (own : Slot) → slot_for row.new.number own moves.new ≡ own) }
     ensures few { IfOk result (λ n. n ≤ most_labels) }
     ensures spent { IfOk result (λ n. steps.new ≡ steps.old + n) }

@@ -14,7 +14,8 @@ use std::cmp::Ordering;
 // Whether the label at a place stands before the order.
 fn is_before(roster: &Roster<'_>, place: usize, order: &Order) -> bool
     requires { place < length roster.now }
-    ensures { (d : Label) → IsTrue result ↔ (order_cmp (slice_index_or (labels_in roster.now) place d).order order.now ≡ Less) }
+    ensures { (d : Label) → IsTrue result
+        ↔ (order_cmp (slice_index_or (labels_in roster.now) place d).order order.now ≡ Less) }
 {
     match roster.row(place).label.order().cmp(order) {
         Ordering::Less => true,

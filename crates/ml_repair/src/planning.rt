@@ -95,7 +95,8 @@ pub fn plan_in<L: Ledger>(
     requires settled { IsSettled store.now.rows }
     requires new_id { ¬ (HasId (labels_in store.now.rows) label.order.id) }
     requires few { length store.now.rows < most_labels }
-    ensures { IfOk result (λ plan. IsPlanFor plan store.now.rows label.order.id (Some label) steps.old steps.new) }
+    ensures { IfOk result
+        (λ plan. IsPlanFor plan store.now.rows label.order.id (Some label) steps.old steps.new) }
 {
     let number = store.free();
     let roster = Roster::left(store, None);
@@ -165,7 +166,8 @@ pub fn plan_instead<L: Ledger>(
 ) -> Result<Plan, AllocError>
     requires settled { IsSettled store.now.rows }
     requires live { HasId (labels_in store.now.rows) label.order.id }
-    ensures { IfOk result (λ plan. IsPlanFor plan store.now.rows label.order.id (Some label) steps.old steps.new) }
+    ensures { IfOk result
+        (λ plan. IsPlanFor plan store.now.rows label.order.id (Some label) steps.old steps.new) }
 {
     let at = place_of_id(store, label.id());
     let mut moves = Moves::new(alloc);

@@ -29,7 +29,8 @@ use std::sync::ledger::Ledger;
 
 /// Whether two ends differ.
 pub fn differs(a: Ratio, b: Ratio) -> bool
-    ensures { MatchBool result (¬ (IsSame (value_of a) (value_of b))) (IsSame (value_of a) (value_of b)) }
+    ensures { MatchBool result (¬ (IsSame (value_of a) (value_of b)))
+        (IsSame (value_of a) (value_of b)) }
 {
     a.num() * b.den() != b.num() * a.den()
 }
@@ -55,14 +56,20 @@ fn renew<L: Ledger>(
     steps: &mut Steps<L>,
 ) -> Result<bool, AllocError>
     requires is_place { i < length roster.now }
-    requires ends { (d : Label) (j : ℕ) → Stands edited.comes true edited.at i j → IsEnd (slice_index_or (labels_in roster.now) j d) (ends (present_slots roster.now moves.old) j) }
+    requires ends { (d : Label) (j : ℕ) → Stands edited.comes true edited.at i j → IsEnd
+        (slice_index_or (labels_in roster.now) j d) (ends (present_slots roster.now moves.old) j) }
     requires known { IsOwnBefore roster.now moves.old edited.at edited.comes changed.now i }
-    ensures own { IfOk result (λ _. AreLeaving roster.now moves.old edited.at edited.comes i (present_at roster.now moves.new i)) }
-    ensures others { IfOk result (λ _. (k : ℕ) → k ≢ i → present_at roster.now moves.new k ≡ present_at roster.now moves.old k) }
-    ensures same { IfOk result (λ _. (n : ℕ) (own : Slot) → n ≢ number_at roster.now i → slot_for n own moves.new ≡ slot_for n own moves.old) }
+    ensures own { IfOk result (λ _. AreLeaving roster.now moves.old edited.at edited.comes i
+        (present_at roster.now moves.new i)) }
+    ensures others { IfOk result (λ _.
+        (k : ℕ) → k ≢ i → present_at roster.now moves.new k ≡ present_at roster.now moves.old k) }
+    ensures same { IfOk result (λ _. (n : ℕ) (own : Slot) → n ≢ number_at roster.now i →
+        slot_for n own moves.new ≡ slot_for n own moves.old) }
     ensures moved { IfOk result (λ moved. MatchBool moved
-        (¬ (IsSame (ends (present_slots roster.now moves.old) i) (ends (present_slots roster.now moves.new) i)))
-        (IsSame (ends (present_slots roster.now moves.old) i) (ends (present_slots roster.now moves.new) i))) }
+        (¬ (IsSame (ends (present_slots roster.now moves.old) i)
+        (ends (present_slots roster.now moves.new) i)))
+        (IsSame (ends (present_slots roster.now moves.old) i)
+        (ends (present_slots roster.now moves.new) i))) }
     ensures spent { IfOk result (λ _. steps.new ≡ steps.old + 1) }
 {
     let old = present_slot(roster, moves, i);
@@ -78,7 +85,8 @@ fn renew<L: Ledger>(
 // The places whose labels have other ends before any is evaluated: that of the edited label, where it comes.
 fn first_changed(alloc: Global, at: usize, comes: bool) -> Result<Vec<u32>, AllocError>
     requires { at < most_labels }
-    ensures { IfOk result (λ places. (p : ℕ) → Contains places.items p ↔ ((p ≡ at) × (comes ≡ true))) }
+    ensures { IfOk result
+        (λ places. (p : ℕ) → Contains places.items p ↔ ((p ≡ at) × (comes ≡ true))) }
 {
     let mut places = Vec::new(alloc);
     if comes {
@@ -103,7 +111,8 @@ fn note(
     requires low { i < most_labels }
     ensures one_each { IfOk result (λ _. length waits.new.items ≡ length roster.now) }
     ensures woken { IfOk result (λ _. (k : ℕ) → k < length roster.now →
-        IsTrue (slice_index_or waits.new.items k false) ↔ (IsTrue (slice_index_or waits.old.items k false) ⊎ IsRivalBefore (labels_in roster.now) i k)) }
+        IsTrue (slice_index_or waits.new.items k false) ↔ (IsTrue
+        (slice_index_or waits.old.items k false) ⊎ IsRivalBefore (labels_in roster.now) i k)) }
     ensures noted { IfOk result (λ _. changed.new.items ≡ changed.old.items ++ i ∷ []) }
 {
     wake_more(alloc, roster, changed.len() > FEW_WOKE, i, waits)?;
@@ -125,11 +134,16 @@ pub fn repair<L: Ledger>(
     steps: &mut Steps<L>,
 ) -> Result<u32, AllocError>
     requires is_place { at < length roster.now }
-    requires was { AreOwn (number_at roster.now) (labels_in roster.now) (present_slots roster.now moves.old) at comes false }
-    requires here { comes ≡ true → AreLeaving roster.now moves.old at comes at (present_at roster.now moves.old at) }
-    ensures own { IfOk result (λ _. AreOwn (number_at roster.now) (labels_in roster.now) (present_slots roster.now moves.new) at comes true) }
-    ensures kept { IfOk result (λ _. (own : Slot) → slot_for (number_at roster.now at) own moves.new ≡ slot_for (number_at roster.now at) own moves.old) }
-    ensures touched { IfOk result (IsSize (IsTouched (labels_in roster.now) at comes (ends (present_slots roster.now moves.old)) (ends (present_slots roster.now moves.new)))) }
+    requires was { AreOwn (number_at roster.now) (labels_in roster.now)
+        (present_slots roster.now moves.old) at comes false }
+    requires here { comes ≡ true →
+        AreLeaving roster.now moves.old at comes at (present_at roster.now moves.old at) }
+    ensures own { IfOk result (λ _. AreOwn (number_at roster.now)
+        (labels_in roster.now) (present_slots roster.now moves.new) at comes true) }
+    ensures kept { IfOk result (λ _. (own : Slot) → slot_for (number_at roster.now at) own moves.new
+        ≡ slot_for (number_at roster.now at) own moves.old) }
+    ensures touched { IfOk result (IsSize (IsTouched (labels_in roster.now) at comes
+        (ends (present_slots roster.now moves.old)) (ends (present_slots roster.now moves.new)))) }
     ensures few { IfOk result (λ n. n ≤ length roster.now) }
     ensures spent { IfOk result (λ n. steps.new + (if comes then 1 else 0) ≡ steps.old + n) }
 {

@@ -102,7 +102,8 @@ fn place_without(gone: Option<usize>, at: usize) -> Option<usize>
 // The place with one more at `at` in the list.
 fn place_with(at: usize, place: Option<usize>) -> Option<usize>
     requires { IfSome place (λ p. p < most_labels) }
-    ensures { MatchOption result (place ≡ None) (λ q. (p : ℕ) × (place ≡ Some p) × IsPlaceWithout (Some at) q p) }
+    ensures { MatchOption result (place ≡ None)
+        (λ q. (p : ℕ) × (place ≡ Some p) × IsPlaceWithout (Some at) q p) }
 {
     match place {
         Some(p) => { if p < at { Some(p) } else { Some(p + 1) } }
@@ -148,7 +149,8 @@ fn joined_row<'a>(
     requires at { IfSome come (λ row. at ≤ length (left_rows gone store.now.rows)) }
     requires within { place < length (joined_rows come at (left_rows gone store.now.rows)) }
     requires few { length (joined_rows come at (left_rows gone store.now.rows)) ≤ most_labels }
-    ensures { HoldsAt (λ r. r ≡ result.now) (joined_rows come.entry at (left_rows gone store.now.rows)) place }
+    ensures { HoldsAt (λ r. r ≡ result.now)
+        (joined_rows come.entry at (left_rows gone store.now.rows)) place }
 {
     match come {
         Some(row) => {
@@ -271,7 +273,8 @@ impl<'a> Roster<'a> {
         requires { place < length self.now }
         ensures row { HoldsAt (λ r. r ≡ result.now) self.now place }
         ensures number { number_at self.now place ≡ result.now.number }
-        ensures label { (d : Label) → slice_index_or (labels_in self.now) place d ≡ result.now.label }
+        ensures label { (d : Label) →
+            slice_index_or (labels_in self.now) place d ≡ result.now.label }
         ensures slot { slot_at self.now place ≡ result.now.slot }
         ensures numbered { AreNumbered self.now }
     {
@@ -290,7 +293,8 @@ impl<'a> Roster<'a> {
     /// before it the range of any ends.
     pub fn first_end(&self) -> u8
         ensures low { result ≤ 27 }
-        ensures ends { (p k : ℕ) → p < length self.now → ((d : Label) → IsLastBand (slice_index_or (labels_in self.now) p d) k) → result ≤ k }
+        ensures ends { (p k : ℕ) → p < length self.now →
+            ((d : Label) → IsLastBand (slice_index_or (labels_in self.now) p d) k) → result ≤ k }
     {
         let first = self.store.first_end();
         match self.come {

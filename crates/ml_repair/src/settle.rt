@@ -34,7 +34,8 @@ pub fn settle<L: Ledger>(
     steps: &mut Steps<L>,
 ) -> Result<Slot, AllocError>
     requires is_place { i < length roster.now }
-    requires ends { (d : Label) (j : ℕ) → Stands edited.comes true edited.at i j → IsEnd (slice_index_or (labels_in roster.now) j d) (ends (present_slots roster.now moves.now) j) }
+    requires ends { (d : Label) (j : ℕ) → Stands edited.comes true edited.at i j → IsEnd
+        (slice_index_or (labels_in roster.now) j d) (ends (present_slots roster.now moves.now) j) }
     ensures own { IfOk result (AreLeaving roster.now moves.now edited.at edited.comes i) }
     ensures spent { IfOk result (λ _. steps.new ≡ steps.old + 1) }
 {

@@ -18,7 +18,8 @@ use std::sync::ledger::Ledger;
 
 // Whether the row's label is shown.
 fn is_shown(row: &Row, view: &View) -> bool
-    ensures { IsTrue result ↔ (ActiveUntil row.now.label (value_of row.now.slot.until) (value_of view.now.scale) × IsInView row.now.label view.now) }
+    ensures { IsTrue result ↔ (ActiveUntil row.now.label (value_of row.now.slot.until)
+        (value_of view.now.scale) × IsInView row.now.label view.now) }
 {
     let span = Span {
         min: row.label.min(),
@@ -34,7 +35,8 @@ fn push_shown(
     view: &View,
     places: &mut Seq<u32>,
 ) -> Result<(), AllocError>
-    ensures { IfOk result (λ _. (p : ℕ) → Contains places.new p ↔ (Contains places.old p ⊎ (IsRowAt store.now.rows number p × IsShownIn store.now.rows view.now p))) }
+    ensures { IfOk result (λ _. (p : ℕ) → Contains places.new p ↔ (Contains places.old p
+        ⊎ (IsRowAt store.now.rows number p × IsShownIn store.now.rows view.now p))) }
 {
     match store.place_of(number) {
         Some(at) => {
@@ -54,7 +56,8 @@ fn shown_among(
     numbers: &[u32],
     view: &View,
 ) -> Result<Seq<u32>, AllocError>
-    ensures { IfOk result (λ places. (p : ℕ) → Contains places p ↔ ((n : ℕ) × Contains numbers.now n × IsRowAt store.now.rows n p × IsShownIn store.now.rows view.now p)) }
+    ensures { IfOk result (λ places. (p : ℕ) → Contains places p ↔ ((n : ℕ) × Contains numbers.now n
+        × IsRowAt store.now.rows n p × IsShownIn store.now.rows view.now p)) }
 {
     let mut places = Seq::new(alloc);
     for number in numbers {
@@ -78,7 +81,8 @@ pub fn shown_numbers<L: Ledger>(
     ensures shown { IfOk result (AreShownNumbers store.now.rows view.now) }
     ensures live { IfOk result (λ numbers. All (IsLive store.now.rows) numbers) }
     ensures apart { IfOk result (AreApart store.now.rows view.now) }
-    ensures looks { IfOk result (λ _. (n : ℕ) × AreNear (labels_in store.now.rows) (slots_in store.now.rows) view.now n × (looks.new ≡ looks.old + n)) }
+    ensures looks { IfOk result (λ _. (n : ℕ) × AreNear (labels_in store.now.rows)
+        (slots_in store.now.rows) view.now n × (looks.new ≡ looks.old + n)) }
 {
     let near = store.seen(alloc, view, looks)?;
     let places = ascending(shown_among(alloc, store, near.as_slice(), view)?);

@@ -63,8 +63,10 @@ fn wake_one(roster: &Roster<'_>, i: usize, k: usize, waits: &mut Vec<bool>)
     requires is_place { i < length roster.now }
     requires k_is_place { k < length roster.now }
     ensures one_each { length waits.new.items ≡ length roster.now }
-    ensures woken { IsTrue (slice_index_or waits.new.items k false) ↔ (IsTrue (slice_index_or waits.old.items k false) ⊎ IsRivalBefore (labels_in roster.now) i k) }
-    ensures others { (m : ℕ) → m ≢ k → slice_index_or waits.new.items m false ≡ slice_index_or waits.old.items m false }
+    ensures woken { IsTrue (slice_index_or waits.new.items k false) ↔ (IsTrue
+        (slice_index_or waits.old.items k false) ⊎ IsRivalBefore (labels_in roster.now) i k) }
+    ensures others { (m : ℕ) → m ≢ k →
+        slice_index_or waits.new.items m false ≡ slice_index_or waits.old.items m false }
 {
     if waits[k] {
         return;
@@ -80,7 +82,8 @@ fn wake_among(roster: &Roster<'_>, places: &[u32], i: usize, waits: &mut Vec<boo
     requires is_place { i < length roster.now }
     requires in_roster { All (λ p. p < length roster.now) places.now }
     ensures one_each { length waits.new.items ≡ length roster.now }
-    ensures woken { IsWokenBy (labels_in roster.now) i (Contains places.now) waits.old.items waits.new.items }
+    ensures woken { IsWokenBy (labels_in roster.now) i
+        (Contains places.now) waits.old.items waits.new.items }
 {
     for place in places {
         wake_one(roster, i, *place as usize, waits);

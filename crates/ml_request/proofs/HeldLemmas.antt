@@ -20,7 +20,8 @@ pub kept : (old new : List ℕ) (start count : ℕ) → take (start + count) new
 kept old new start count same = sym (drop-take start count new) ∙ ap (drop start) same ∙ drop-take start count old
 
 -- bytes that came behind a part of a buffer
-pub filled : (old new : List ℕ) (start count n : ℕ) → take (start + count) new ≡ take (start + count) old → take (count + n) (drop start new) ≡ take count (drop start old) ++ take n (drop (start + count) new)
+pub filled : (old new : List ℕ) (start count n : ℕ) → take (start + count) new ≡ take (start + count) old →
+    take (count + n) (drop start new) ≡ take count (drop start old) ++ take n (drop (start + count) new)
 filled old new start count n same =
     take-add count n (drop start new)
     ∙ ap (λ xs. xs ++ take n (drop count (drop start new))) (kept old new start count same)
@@ -37,11 +38,14 @@ pass_of bytes held start count n is within =
     passed bytes start count n (omega (arith, within, size)) ∙ ap (drop n) is
 
 -- the bytes held after room was made
-pub stays_of : (old mid new held : List ℕ) (before start count : ℕ) → take count (drop before old) ≡ held → take count (drop start mid) ≡ take count (drop before old) → take (start + count) new ≡ take (start + count) mid → take count (drop start new) ≡ held
+pub stays_of : (old mid new held : List ℕ) (before start count : ℕ) → take count (drop before old) ≡ held →
+    take count (drop start mid) ≡ take count (drop before old) → take (start + count) new ≡ take (start + count) mid → take count (drop start new) ≡ held
 stays_of old mid new held before start count is same front = kept mid new start count front ∙ same ∙ is
 
 -- the bytes held after more came
-pub fill_of : (left left_after : Option (List ℕ)) (old mid new held : List ℕ) (before start count n : ℕ) → take count (drop before old) ≡ held → take count (drop start mid) ≡ take count (drop before old) → take (start + count) new ≡ take (start + count) mid → Draws left left_after (take n (drop (start + count) new)) → Gains left left_after held (take (count + n) (drop start new))
+pub fill_of : (left left_after : Option (List ℕ)) (old mid new held : List ℕ) (before start count n : ℕ) → take count (drop before old) ≡ held →
+    take count (drop start mid) ≡ take count (drop before old) → take (start + count) new ≡ take (start + count) mid →
+    Draws left left_after (take n (drop (start + count) new)) → Gains left left_after held (take (count + n) (drop start new))
 fill_of left left_after old mid new held before start count n is same front takes = record {
   taken = take n (drop (start + count) new);
   takes = takes;

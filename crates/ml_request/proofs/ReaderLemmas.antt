@@ -22,7 +22,8 @@ full held size none =
     (omega arith, subst HasNoMark (sym all) none)
 
 -- a body behind a good head makes the request
-whole_request : (last : Bool) (mid taken after body : List ℕ) (size : ℕ) (parts : HeadParts) (request : RequestParts) → BeginsWithHead mid size (Ok parts) → request ≡ request_of last parts body → drop size mid ++ taken ≡ body ++ after → length body ≡ parts.length → BeginsWithRequest last (mid ++ taken) request after
+whole_request : (last : Bool) (mid taken after body : List ℕ) (size : ℕ) (parts : HeadParts) (request : RequestParts) → BeginsWithHead mid size (Ok parts) →
+    request ≡ request_of last parts body → drop size mid ++ taken ≡ body ++ after → length body ≡ parts.length → BeginsWithRequest last (mid ++ taken) request after
 whole_request last mid taken after body size parts request head is all count =
     let fits : size ≤ length mid = size_fits mid size head.ends in
     let behind : drop size (mid ++ taken) ≡ body ++ after = drop-append-le size mid taken fits ∙ all in
@@ -44,7 +45,8 @@ ends_in_body mid taken size parts head short =
     omega (arith, size_fits mid size head.ends, length-append mid taken, length-append (drop size mid) taken, length-drop size mid, short)
 
 -- what was read behind a good head is the next event
-pub event_behind : (last : Bool) (mid taken after : List ℕ) (size : ℕ) (parts : HeadParts) (left : Option (List ℕ)) (result : Result (Option Event) ReadFault) → BeginsWithHead mid size (Ok parts) → IsRequestOf last parts (drop size mid ++ taken) after left result → IsEventOf last (mid ++ taken) after left result
+pub event_behind : (last : Bool) (mid taken after : List ℕ) (size : ℕ) (parts : HeadParts) (left : Option (List ℕ)) (result : Result (Option Event) ReadFault) →
+    BeginsWithHead mid size (Ok parts) → IsRequestOf last parts (drop size mid ++ taken) after left result → IsEventOf last (mid ++ taken) after left result
 event_behind last mid taken after size parts left (Ok (Some (Whole request))) head read = whole_request last mid taken after read.0 size parts request head read.1 read.2 read.3
 event_behind last mid taken after size parts left (Ok (Some (Refused refusal))) head read = absurd read
 event_behind last mid taken after size parts left (Ok None) head read =
@@ -54,7 +56,9 @@ event_behind last mid taken after size parts left (Err Failed) head read =
 event_behind last mid taken after size parts left (Err Memory) head read = tt
 
 -- the bytes of the head and of what came behind it, together
-pub event_read : (last : Bool) (a b c : Option (List ℕ)) (held mid after : List ℕ) (size : ℕ) (parts : HeadParts) (result : Result (Option Event) ReadFault) → Gains a b held mid → BeginsWithHead mid size (Ok parts) → (passed taken : List ℕ) → passed ≡ drop size mid → Draws b c taken → IsRequestOf last parts (passed ++ taken) after c result → (all : List ℕ) × Draws a c all × IsEventOf last (held ++ all) after c result
+pub event_read : (last : Bool) (a b c : Option (List ℕ)) (held mid after : List ℕ) (size : ℕ) (parts : HeadParts) (result : Result (Option Event) ReadFault) →
+    Gains a b held mid → BeginsWithHead mid size (Ok parts) → (passed taken : List ℕ) → passed ≡ drop size mid → Draws b c taken →
+    IsRequestOf last parts (passed ++ taken) after c result → (all : List ℕ) × Draws a c all × IsEventOf last (held ++ all) after c result
 event_read last a b c held mid after size parts result gains head passed taken is takes read =
     let joined : mid ++ taken ≡ held ++ (gains.taken ++ taken) = ap (λ xs. xs ++ taken) gains.behind ∙ append_assoc held gains.taken taken in (
       gains.taken ++ taken,
@@ -65,10 +69,12 @@ event_read last a b c held mid after size parts result gains head passed taken i
 -- bytes that were moved behind the body stay in order
 pub moved : (all body held body_after held_after : List ℕ) (wanted : ℕ) → all ≡ body ++ held → body_after ≡ body ++ take wanted held → held_after ≡ drop wanted held → all ≡ body_after ++ held_after
 moved all body held body_after held_after wanted is front back =
-    is ∙ ap (λ xs. body ++ xs) (sym (take-append-drop wanted held)) ∙ sym (append_assoc body (take wanted held) (drop wanted held)) ∙ ap (λ xs. xs ++ drop wanted held) (sym front) ∙ ap (λ xs. body_after ++ xs) (sym back)
+    is ∙ ap (λ xs. body ++ xs) (sym (take-append-drop wanted held)) ∙ sym (append_assoc body (take wanted held) (drop wanted held))
+    ∙ ap (λ xs. xs ++ drop wanted held) (sym front) ∙ ap (λ xs. body_after ++ xs) (sym back)
 
 -- as many bytes were moved as were wanted, or all
-pub moved_count : (body held body_after held_after : List ℕ) (size wanted : ℕ) → length body ≤ size → wanted ≡ size - length body → body_after ≡ body ++ take wanted held → held_after ≡ drop wanted held → (length body_after ≤ size) × (length body_after < size → length held_after ≡ 0)
+pub moved_count : (body held body_after held_after : List ℕ) (size wanted : ℕ) → length body ≤ size → wanted ≡ size - length body →
+    body_after ≡ body ++ take wanted held → held_after ≡ drop wanted held → (length body_after ≤ size) × (length body_after < size → length held_after ≡ 0)
 moved_count body held body_after held_after size wanted short is front back =
     let count : length body_after ≡ length body + min wanted (length held) = ap length front ∙ length-append body (take wanted held) ∙ ap (λ n. length body + n) (length-take wanted held) in
     let rest : length held_after ≡ length held - wanted = ap length back ∙ length-drop wanted held in

@@ -127,7 +127,8 @@ fn refill<S: Source>(
     requires room { count < length buffer.old }
     ensures gains { IfOk result.1 (λ n. Gains (S.left source.old) (S.left source.new)
         (take count (drop start buffer.old)) (take (count + n) (drop result.0 buffer.new))) }
-    ensures err { OnErr result.1 (take count (drop result.0 buffer.new) ≡ take count (drop start buffer.old)) }
+    ensures err { OnErr result.1
+        (take count (drop result.0 buffer.new) ≡ take count (drop start buffer.old)) }
     ensures nothing { OnErr result.1 (Draws (S.left source.old) (S.left source.new) []) }
     ensures bound { IfOk result.1 (λ n. result.0 + (count + n) ≤ length buffer.new) }
     ensures within { result.0 + count ≤ length buffer.new }

@@ -20,7 +20,8 @@ abbrev pub IsMade : ℤ → ℤ → ℤ → ℤ → Option BoxPx → Type 0
 IsMade l b r t o = MatchOption o (¬ (AreOffsets l b r t)) (HasSides l b r t)
 
 -- a raised box, or none
-pub raised : (c : RiverClass) (run : List Pos) (x y l r m h v b t : ℤ) (o : Option BoxPx) → m ≡ middle c x l r → IsHeight run m h → v ≡ raise c y h → b ≡ v -ℤ pos (c.size / 2) → t ≡ b +ℤ pos c.size → IsMade l b r t o → IsRaisedBoxOrNone c run x y l r o
+pub raised : (c : RiverClass) (run : List Pos) (x y l r m h v b t : ℤ) (o : Option BoxPx) → m ≡ middle c x l r → IsHeight run m h →
+    v ≡ raise c y h → b ≡ v -ℤ pos (c.size / 2) → t ≡ b +ℤ pos c.size → IsMade l b r t o → IsRaisedBoxOrNone c run x y l r o
 raised c run x y l r m h v b t None em eh ev eb et none =
     inr (
       record { l = l; b = b; r = r; t = t },

@@ -49,5 +49,6 @@ fits_from : (x p f : ℤ) → IsInWorld x → (neg_ℤ (pos (2 ^ 64 * 2 ^ 32)) �
 fits_from x p f w b h k = record { half = omega (arith, ints, b.0, b.1); middle = omega (arith, ints, b.0, b.1, w.0, w.1) }
 
 -- half of the doubled middle, rounded down, fits 128 bits, and so does the middle that it leads to
-pub half_fits : (x l r f : ℤ) (n : ℕ) → IsInWorld x → FitsSigned w64 l → FitsSigned w64 r → n < 2 ^ 32 → (f *ℤ pos 2) ≤ℤ ((l +ℤ r) *ℤ pos n) → ((l +ℤ r) *ℤ pos n) <ℤ ((f +ℤ pos 1) *ℤ pos 2) → HalfFits x f
+pub half_fits : (x l r f : ℤ) (n : ℕ) → IsInWorld x → FitsSigned w64 l → FitsSigned w64 r → n < 2 ^ 32 →
+    (f *ℤ pos 2) ≤ℤ ((l +ℤ r) *ℤ pos n) → ((l +ℤ r) *ℤ pos n) <ℤ ((f +ℤ pos 1) *ℤ pos 2) → HalfFits x f
 half_fits x l r f n w lf rf h low high = fits_from x ((l +ℤ r) *ℤ pos n) f w (size_back ((l +ℤ r) *ℤ pos n) (2 ^ 64 * 2 ^ 32) (doubled_bound l r n lf rf h)) low high

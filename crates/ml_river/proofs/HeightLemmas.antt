@@ -33,7 +33,8 @@ after_edge run x k h (inl e) =
 after_edge run x k h (inr l) = inl l
 
 -- the height on the edge from the place before to place k
-pub height_found : (run : List Pos) (x y : ℤ) (k : ℕ) → 0 < k → k < length run → x_at run 0 ≤ℤ x → IsPast run x k → x ≤ℤ x_at run k → y ≡ height_on (x_at run (k - 1)) (y_at run (k - 1)) (x_at run k) (y_at run k) x → IsHeight run x y
+pub height_found : (run : List Pos) (x y : ℤ) (k : ℕ) → 0 < k → k < length run → x_at run 0 ≤ℤ x → IsPast run x k →
+    x ≤ℤ x_at run k → y ≡ height_on (x_at run (k - 1)) (y_at run (k - 1)) (x_at run k) (y_at run k) x → IsHeight run x y
 height_found run x y k some m h past before is =
     let e : k ≡ k - 1 + 1 = omega arith in
     record {

@@ -65,7 +65,8 @@ not_outside run x y up p (inr after) =
     clash x _ _ p.before (in_order run (p.edge + 1) (length run - 1) up (let t = p.there in omega arith) (let t = p.there in omega arith)) after
 
 -- two boxes with the same sides are the same
-pub same_box : (c : RiverClass) (run : List Pos) (x y l r : ℤ) (p q : BoxPx) → IsRising run → IsRaisedBox c run x y l r p → IsRaisedBox c run x y l r q → (p.l ≡ q.l) × (p.b ≡ q.b) × (p.r ≡ q.r) × (p.t ≡ q.t)
+pub same_box : (c : RiverClass) (run : List Pos) (x y l r : ℤ) (p q : BoxPx) → IsRising run →
+    IsRaisedBox c run x y l r p → IsRaisedBox c run x y l r q → (p.l ≡ q.l) × (p.b ≡ q.b) × (p.r ≡ q.r) × (p.t ≡ q.t)
 same_box c run x y l r p q up a b =
     let h = one_height run (middle c x l r) a.height b.height up a.height_is b.height_is in
     let e : p.b ≡ q.b = a.bottom_is ∙ (ap (λ (z : ℤ). raise c y z -ℤ pos (c.size / 2)) h ∙ sym b.bottom_is) in

@@ -29,7 +29,9 @@ none_before c run x y advances boxes e =
     })
 
 -- one more
-pub one_more : (c : RiverClass) (run : List Pos) (x y : ℤ) (advances : List ℕ) (k before a : ℕ) (boxes new : List BoxPx) (box : BoxPx) → k < length advances → a ≡ get_or advances k 0 → IsChainBefore c run x y advances k before boxes → IsClusterBox c run x y advances k box × IsBox box.l box.b box.r box.t → new ≡ boxes ++ box ∷ [] → IsChainBefore c run x y advances (k + 1) (before + a) new
+pub one_more : (c : RiverClass) (run : List Pos) (x y : ℤ) (advances : List ℕ) (k before a : ℕ) (boxes new : List BoxPx) (box : BoxPx) →
+    k < length advances → a ≡ get_or advances k 0 → IsChainBefore c run x y advances k before boxes →
+    IsClusterBox c run x y advances k box × IsBox box.l box.b box.r box.t → new ≡ boxes ++ box ∷ [] → IsChainBefore c run x y advances (k + 1) (before + a) new
 one_more c run x y advances k before a boxes new box h ea b made e =
     subst (λ (l : List BoxPx). IsChainBefore c run x y advances (k + 1) (before + a) l) (sym e) (record {
       sum_is = (let m = sum_by_more (λ (n : ℕ). n) advances k 0 h in let s = b.sum_is in omega (arith, m, s, ea));
@@ -47,7 +49,8 @@ one_more c run x y advances k before a boxes new box h ea b made e =
     })
 
 -- all
-pub all_made : (c : RiverClass) (run : List Pos) (x y : ℤ) (advances : List ℕ) (k before : ℕ) (boxes : List BoxPx) → length advances ≤ 64 → length advances ≤ k → k ≤ length advances → IsChainBefore c run x y advances k before boxes → IsChain c run x y advances boxes
+pub all_made : (c : RiverClass) (run : List Pos) (x y : ℤ) (advances : List ℕ) (k before : ℕ) (boxes : List BoxPx) → length advances ≤ 64 →
+    length advances ≤ k → k ≤ length advances → IsChainBefore c run x y advances k before boxes → IsChain c run x y advances boxes
 all_made c run x y advances k before boxes few h m b =
     record {
       few = few;

@@ -20,5 +20,6 @@ chain_narrow c run x y advances boxes some chain =
     let there : k < length boxes = (let e = chain.one_each in omega arith) in
     let last = chain.each k d there in
     let good = chain.good k d there in
-    let ended : width c (sum advances) ≡ edge c advances (k + 1) = edge_end c advances (k + 1) (sum advances) (width c (sum advances)) (omega arith) (ap sum (sym (take_all (k + 1) advances (omega arith)))) refl in
+    let ended : width c (sum advances) ≡ edge c advances (k + 1) =
+    edge_end c advances (k + 1) (sum advances) (width c (sum advances)) (omega arith) (ap sum (sym (take_all (k + 1) advances (omega arith)))) refl in
     reach (width c (sum advances)) (edge c advances (k + 1)) (edge c advances k + 1) ((get_or boxes k d).r) ended last.right_is good.0.1.1

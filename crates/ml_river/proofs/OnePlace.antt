@@ -43,7 +43,8 @@ module _ (c : RiverClass) (run : List Pos) (up : IsRising run) (advances : List 
   one_on_run p q a b =
       let x : p.anchor.x ≡ q.anchor.x = a.x_is ∙ sym b.x_is in
       let y : p.anchor.y ≡ q.anchor.y = one_height run p.anchor.x p.anchor.y q.anchor.y up a.y_is (subst (λ (z : ℤ). IsHeight run z q.anchor.y) (sym x) b.y_is) in
-      let there : IsShape c run p.anchor.x p.anchor.y advances q.shape = subst (λ (z : ℤ). IsShape c run z p.anchor.y advances q.shape) (sym x) (subst (λ (z : ℤ). IsShape c run q.anchor.x z advances q.shape) (sym y) b.shape_is) in
+      let there : IsShape c run p.anchor.x p.anchor.y advances q.shape = subst (λ (z : ℤ). IsShape c run z p.anchor.y advances q.shape)
+      (sym x) (subst (λ (z : ℤ). IsShape c run q.anchor.x z advances q.shape) (sym y) b.shape_is) in
       ((x, y), one_shape p.anchor.x p.anchor.y p.shape q.shape a.shape_is there)
 
 one_on_widest : (c : RiverClass) (lines : List (List Pos)) (advances : List ℕ) (p q : Placed) → IsOnWidestRun c lines advances p → IsOnWidestRun c lines advances q → IsSamePlacing p q

@@ -25,7 +25,8 @@ whole_some : (lines : List (List Pos)) (i a b k m n : ℕ) → k ≡ i → IsWho
 whole_some lines i a b k m n e w run = subst (λ (s : ℕ). 0 < s) (whole_span lines i a b k m n e w) (run_span (line_at lines k) m n run.1)
 
 -- the walk goes on past a stretch that is no wider than the best
-pub best_keeps : (lines : List (List Pos)) (i a b : ℕ) (best : Option Run) → IsEndOfSteps (line_at lines i) a b → IsBestBefore lines i a best → span (line_at lines i) a b ≤ extent_of best → IsBestBefore lines i b best
+pub best_keeps : (lines : List (List Pos)) (i a b : ℕ) (best : Option Run) → IsEndOfSteps (line_at lines i) a b →
+    IsBestBefore lines i a best → span (line_at lines i) a b ≤ extent_of best → IsBestBefore lines i b best
 best_keeps lines i a b None end none h = λ k m n run before.
     elim (seen lines i a b k m n end run before) [
       | inl earlier ↦ none k m n run earlier
@@ -43,12 +44,15 @@ best_keeps lines i a b (Some r) end best h =
       first = best.first;
     }
 
-bound_before : (lines : List (List Pos)) (i a : ℕ) (best : Option Run) (s k m n : ℕ) → IsBestBefore lines i a best → extent_of best < s → IsRunOf lines k m n → IsBefore k m i a → span (line_at lines k) m n < s
+bound_before : (lines : List (List Pos)) (i a : ℕ) (best : Option Run) (s k m n : ℕ) → IsBestBefore lines i a best →
+    extent_of best < s → IsRunOf lines k m n → IsBefore k m i a → span (line_at lines k) m n < s
 bound_before lines i a None s k m n none h run before = absurd (none k m n run before)
 bound_before lines i a (Some r) s k m n best h run before = let w = best.widest k m n run before in omega arith
 
 -- it takes one that is wider
-pub best_takes : (lines : List (List Pos)) (i a b s : ℕ) (best : Option Run) → i < length lines → AtTurn (line_at lines i) a → IsEndOfSteps (line_at lines i) a b → s ≡ span (line_at lines i) a b → IsBestBefore lines i a best → extent_of best < s → IsBestBefore lines i b (Some (record { line = i; from = a; to = b; span = s }))
+pub best_takes : (lines : List (List Pos)) (i a b s : ℕ) (best : Option Run) → i < length lines → AtTurn (line_at lines i) a →
+    IsEndOfSteps (line_at lines i) a b → s ≡ span (line_at lines i) a b → IsBestBefore lines i a best →
+    extent_of best < s → IsBestBefore lines i b (Some (record { line = i; from = a; to = b; span = s }))
 best_takes lines i a b s best there turn end is before h =
     record {
       is_run = (there, run_here (line_at lines i) a b turn end (λ level. let z = level_span (line_at lines i) a b end level in omega arith));
@@ -62,7 +66,9 @@ best_takes lines i a b s best there turn end is before h =
     }
 
 -- the better of the best and the stretch
-pub best_more : (lines : List (List Pos)) (i a b s : ℕ) (best new : Option Run) → i < length lines → AtTurn (line_at lines i) a → IsEndOfSteps (line_at lines i) a b → s ≡ span (line_at lines i) a b → IsBestBefore lines i a best → new ≡ cond (ltb (extent_of best) s) (Some (record { line = i; from = a; to = b; span = s })) best → IsBestBefore lines i b new
+pub best_more : (lines : List (List Pos)) (i a b s : ℕ) (best new : Option Run) → i < length lines → AtTurn (line_at lines i) a →
+    IsEndOfSteps (line_at lines i) a b → s ≡ span (line_at lines i) a b → IsBestBefore lines i a best →
+    new ≡ cond (ltb (extent_of best) s) (Some (record { line = i; from = a; to = b; span = s })) best → IsBestBefore lines i b new
 best_more lines i a b s best new there turn end is before e =
     elim (cases_Bool (ltb (extent_of best) s)) [
       | inl t ↦

@@ -9,6 +9,7 @@ use Rattle.ml_river.specs.Chain.{IsChainOrNone}
 use Rattle.ml_river.specs.River.{IsShape}
 
 -- the shape is the chain where there is one, and straight where there is none
-pub shape_from : (c : RiverClass) (run : List Pos) (x y : ℤ) (advances : List ℕ) (o : Option (List BoxPx)) (s : Shape) → MatchOption o (s ≡ Straight) (λ b. s ≡ Chain b) → IsChainOrNone c run x y advances o → IsShape c run x y advances s
+pub shape_from : (c : RiverClass) (run : List Pos) (x y : ℤ) (advances : List ℕ) (o : Option (List BoxPx)) (s : Shape) →
+    MatchOption o (s ≡ Straight) (λ b. s ≡ Chain b) → IsChainOrNone c run x y advances o → IsShape c run x y advances s
 shape_from c run x y advances None s e h = subst (λ (t : Shape). IsShape c run x y advances t) (sym e) h
 shape_from c run x y advances (Some b) s e h = subst (λ (t : Shape). IsShape c run x y advances t) (sym e) h

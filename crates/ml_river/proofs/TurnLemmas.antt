@@ -26,7 +26,8 @@ stretch_at : (line : List Pos) (a b k : ℕ) → k < b + 1 - a → x_at (stretch
 unfolding x_at
 stretch_at line a b k h =
     let xs : List ℤ = map (λ (p : Pos). p.x) line in
-    let e : map (λ (p : Pos). p.x) (stretch line a b) ≡ take (b + 1 - a) (drop a (map (λ (p : Pos). p.x) line)) = sym (take-map (λ (p : Pos). p.x) (b + 1 - a) (drop a line)) ∙ ap (λ (l : List ℤ). take (b + 1 - a) l) (sym (drop-map (λ (p : Pos). p.x) a line)) in
+    let e : map (λ (p : Pos). p.x) (stretch line a b) ≡ take (b + 1 - a) (drop a (map (λ (p : Pos). p.x) line)) =
+    sym (take-map (λ (p : Pos). p.x) (b + 1 - a) (drop a line)) ∙ ap (λ (l : List ℤ). take (b + 1 - a) l) (sym (drop-map (λ (p : Pos). p.x) a line)) in
     ap (λ (l : List ℤ). get_or l k (pos 0)) e
     ∙ (get_or-take (b + 1 - a) (drop a (map (λ (p : Pos). p.x) line)) k (pos 0) h ∙ get_or-drop a (map (λ (p : Pos). p.x) line) k (pos 0))
 
@@ -72,10 +73,13 @@ back line a b h m g =
     record {
       some = omega (arith, n, r);
       rising = λ k t.
-          let x : x_at (reverse (stretch line a b)) k ≡ x_at line (b - k) = reverse_at (stretch line a b) k (omega (arith, r)) ∙ (stretch_at line a b (length (stretch line a b) - 1 - k) (omega (arith, n)) ∙ ap (λ (j : ℕ). x_at line j) (omega (arith, n, r))) in
-          let y : x_at (reverse (stretch line a b)) (k + 1) ≡ x_at line (b - k - 1) = reverse_at (stretch line a b) (k + 1) (omega (arith, r)) ∙ (stretch_at line a b (length (stretch line a b) - 1 - (k + 1)) (omega (arith, n)) ∙ ap (λ (j : ℕ). x_at line j) (omega (arith, n, r))) in
+          let x : x_at (reverse (stretch line a b)) k ≡ x_at line (b - k) = reverse_at (stretch line a b) k (omega (arith, r))
+          ∙ (stretch_at line a b (length (stretch line a b) - 1 - k) (omega (arith, n)) ∙ ap (λ (j : ℕ). x_at line j) (omega (arith, n, r))) in
+          let y : x_at (reverse (stretch line a b)) (k + 1) ≡ x_at line (b - k - 1) = reverse_at (stretch line a b) (k + 1) (omega (arith, r))
+          ∙ (stretch_at line a b (length (stretch line a b) - 1 - (k + 1)) (omega (arith, n)) ∙ ap (λ (j : ℕ). x_at line j) (omega (arith, n, r))) in
           let s : b - k ≡ b - k - 1 + 1 = omega (arith, n, r) in
-          let c : int_cmp (x_at line (b - k - 1)) (x_at line (b - k)) ≡ Greater = ap (λ (j : ℕ). int_cmp (x_at line (b - k - 1)) (x_at line j)) s ∙ g (b - k - 1) (omega (arith, n, r)) (omega (arith, n, r)) in
+          let c : int_cmp (x_at line (b - k - 1)) (x_at line (b - k)) ≡ Greater =
+          ap (λ (j : ℕ). int_cmp (x_at line (b - k - 1)) (x_at line j)) s ∙ g (b - k - 1) (omega (arith, n, r)) (omega (arith, n, r)) in
           rw (x, y) (greater_is (x_at line (b - k - 1)) (x_at line (b - k)) c);
     }
 

@@ -88,7 +88,8 @@ fn box_of(l: i64, b: i64, r: i64, t: i64) -> Option<BoxPx>
 fn middle_in(class: RiverClass, run: &[Pos], x: i64, l: i64, r: i64) -> Option<i64>
     requires world { IsInWorld x }
     requires some { 0 < length run.now }
-    ensures { MatchOption result (IsOutside run.now (middle class x l r)) (IsMiddleIn class run.now x l r) }
+    ensures { MatchOption result (IsOutside run.now (middle class x l r))
+        (IsMiddleIn class run.now x l r) }
 {
     let x = middle(class, x, l, r);
     let first = run[0].x as i128;

@@ -12,7 +12,8 @@ ghost use Rattle.ml_river.specs.River.{IsRiver, IsSamePlacing};
 
 /// A run has one height at a place.
 pub fn one_height()
-    ensures { (run : List Pos) (x y z : ℤ) → IsRising run → IsHeight run x y → IsHeight run x z → y ≡ z }
+    ensures { (run : List Pos) (x y z : ℤ) → IsRising run →
+        IsHeight run x y → IsHeight run x z → y ≡ z }
 {}
 
 /// Where there is a chain, nothing says that there is none.

@@ -93,7 +93,8 @@ fn widest_with(lines: &[Seq<Pos>], i: usize, mut best: Option<Run>) -> Option<Ru
 /// Of all runs of the lines the one whose ends lie farthest apart in x, the first at a tie; none
 /// where no line has a run.
 pub fn widest_run(lines: &[Seq<Pos>]) -> Option<Run>
-    ensures { MatchOption result (HasNoRun lines.now) (λ run. IsWidestRun lines.now run.line run.from run.to) }
+    ensures { MatchOption result (HasNoRun lines.now)
+        (λ run. IsWidestRun lines.now run.line run.from run.to) }
 {
     let mut best = None;
     for i in 0..lines.len() {

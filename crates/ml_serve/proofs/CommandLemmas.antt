@@ -48,7 +48,8 @@ module _ (twice : PutTwice ℕ) where
     codes "ready\n" ∷ served_line n ∷ [],
     record { few = few; enough = enough; due = refl },
     calm,
-    appends_so w w'' (codes "ready\n" ++ served_line n) (flat_map (λ line. line) (codes "ready\n" ∷ served_line n ∷ [])) (sym (two_lines (codes "ready\n") (served_line n))) (twice w w' w'' (codes "ready\n") (served_line n) ready line),
+    appends_so w w'' (codes "ready\n" ++ served_line n) (flat_map (λ line. line) (codes "ready\n" ∷ served_line n ∷ []))
+        (sym (two_lines (codes "ready\n") (served_line n))) (twice w w' w'' (codes "ready\n") (served_line n) ready line),
   )
 
   -- the output failed in the last line

@@ -37,12 +37,18 @@ pub fn serve<K: Sink, D: Door, W: Watcher, L: Ledger>(
         (state_of context.old) (state_of context.new)
         (passed D.coming D.served D.faults D.at_port D.listens door.old door.new) visits
         × IsEndOfServing hours.count (length visits)
-        (record { listens = D.listens door.new; coming_after = D.coming door.new; faults = D.faults door.old; faults_after = D.faults door.new })
+        (record {
+          listens = D.listens door.new;
+          coming_after = D.coming door.new;
+          faults = D.faults door.old;
+          faults_after = D.faults door.new;
+        })
         (K.written out.old) (K.written out.new) result }
     ensures texts { HoldsTexts (state_of context.new) }
     ensures out { D.is_out door.new ≡ false }
     ensures port { D.at_port door.new ≡ Some hours.port }
-    ensures cause { HasServeCause (D.faults door.old) (D.faults door.new) (K.faults out.old) (K.faults out.new) result }
+    ensures cause { HasServeCause (D.faults door.old) (D.faults door.new)
+        (K.faults out.old) (K.faults out.new) result }
 {
     take_nothing::<Link<D::In, D::Out>>();
     append_nothing::<Link<D::In, D::Out>>();

@@ -17,8 +17,10 @@ use ml_http::laws::{one_account, stays_reached};
 
 /// A session leads from a state that can be reached to one, whatever its connections bring and however they end.
 pub fn session_stays_reached<W, I, O>()
-    ensures { (hearing : W → Hearing) (ends : LinkEnds I O) (old new : LinkState W) (visits : List (Visit I O LinkAnswer)) →
-        IsState old.map_state → Follow (IsVisit hearing ends) old visits new → IsState new.map_state }
+    ensures { (hearing : W → Hearing) (ends : LinkEnds I O)
+        (old new : LinkState W) (visits : List (Visit I O LinkAnswer)) →
+        IsState old.map_state → Follow (IsVisit hearing ends) old visits new →
+        IsState new.map_state }
 {
     stays_reached::<W>();
 }
@@ -27,11 +29,16 @@ pub fn session_stays_reached<W, I, O>()
 /// are alike, have written the same to each of them, where both served as many and each connection ended
 /// well. They tell the watchers the same changes, and leave states that are alike.
 pub fn one_session<W, I, O>()
-    ensures replies { (hearing : W → Hearing) (ends : LinkEnds I O) (links : List (Link I O)) (one other : Session W I O) →
-        AreOverTheSame hearing ends links one other → written_in ends one.visits ≡ written_in ends other.visits }
-    ensures told { (hearing : W → Hearing) (ends : LinkEnds I O) (links : List (Link I O)) (one other : Session W I O) →
-        AreOverTheSame hearing ends links one other → flat_map changes_in one.visits ≡ flat_map changes_in other.visits }
-    ensures states { (hearing : W → Hearing) (ends : LinkEnds I O) (links : List (Link I O)) (one other : Session W I O) →
+    ensures replies { (hearing : W → Hearing) (ends : LinkEnds I O)
+        (links : List (Link I O)) (one other : Session W I O) →
+        AreOverTheSame hearing ends links one other →
+        written_in ends one.visits ≡ written_in ends other.visits }
+    ensures told { (hearing : W → Hearing) (ends : LinkEnds I O)
+        (links : List (Link I O)) (one other : Session W I O) →
+        AreOverTheSame hearing ends links one other →
+        flat_map changes_in one.visits ≡ flat_map changes_in other.visits }
+    ensures states { (hearing : W → Hearing) (ends : LinkEnds I O)
+        (links : List (Link I O)) (one other : Session W I O) →
         AreOverTheSame hearing ends links one other → AreLikeStates one.last other.last }
 {
     one_account::<W>();

@@ -12,8 +12,10 @@ use ml_io::{Failed, Sink, put_all, put_number};
 /// `Failed` comes only where the sink's count of faults rose in this call; a part of the line was
 /// written.
 pub(crate) fn put_served<K: Sink>(sink: &mut K, number: u64) -> Result<(), Failed>
-    ensures ok { OnOk result (Appends (K.written sink.old) (K.written sink.new) (served_line number)) }
-    ensures err { OnErr result (AppendsPart (K.written sink.old) (K.written sink.new) (served_line number)) }
+    ensures ok { OnOk result
+        (Appends (K.written sink.old) (K.written sink.new) (served_line number)) }
+    ensures err { OnErr result
+        (AppendsPart (K.written sink.old) (K.written sink.new) (served_line number)) }
     ensures cause { HasCause (K.faults sink.old) (K.faults sink.new) result }
 {
     append_twice::<u8>();

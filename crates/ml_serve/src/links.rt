@@ -32,12 +32,14 @@ pub fn serve_links<D: Door, W: Watcher, L: Ledger>(
     ensures loan { IsSameLoan context.old context.new }
     ensures texts { HoldsTexts (state_of context.new) }
     ensures ok { IfOk result (λ k. (k ≤ count)
-        × HasServed (IsVisit W.hearing (link_ends D.In.left D.In.faults D.Out.written D.Out.faults)) k
+        × HasServed (IsVisit W.hearing
+        (link_ends D.In.left D.In.faults D.Out.written D.Out.faults)) k
         (passed D.coming D.served D.faults D.at_port D.listens door.old door.new)
         (state_of context.old) (state_of context.new)
         × ((k ≡ count) ⊎ HasRunOut (D.coming door.new))) }
     ensures err { OnErr result ((k : ℕ) × (k < count)
-        × HasServed (IsVisit W.hearing (link_ends D.In.left D.In.faults D.Out.written D.Out.faults)) k
+        × HasServed (IsVisit W.hearing
+        (link_ends D.In.left D.In.faults D.Out.written D.Out.faults)) k
         (passed D.coming D.served D.faults D.at_port D.listens door.old door.new)
         (state_of context.old) (state_of context.new)) }
     ensures listens { D.listens door.new ≡ true }
@@ -70,7 +72,8 @@ fn serve_visit<D: Door, W: Watcher, L: Ledger>(
     requires texts { HoldsTexts (state_of context.old) }
     ensures loan { IsSameLoan context.old context.new }
     ensures texts { HoldsTexts (state_of context.new) }
-    ensures served { HasServed (IsVisit W.hearing (link_ends D.In.left D.In.faults D.Out.written D.Out.faults)) (links_in result)
+    ensures served { HasServed (IsVisit W.hearing
+        (link_ends D.In.left D.In.faults D.Out.written D.Out.faults)) (links_in result)
         (passed D.coming D.served D.faults D.at_port D.listens door.old door.new)
         (state_of context.old) (state_of context.new) }
     ensures ended { result ≡ Ok false → HasRunOut (D.coming door.new) }

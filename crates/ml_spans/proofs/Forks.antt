@@ -25,18 +25,21 @@ holds_some order all (Some content) h = refl
 
 module _ {K E V : Type 0} {order : E → E → Ordering} where
   -- the content that the top node, seen as `node`, holds
-  pub fork_greatest : {tree : Tree K E V} {height : ℕ} {box : Box (Node K E V) Global} {node : Node K E V} {content : Content K E V} → tree ≡ Fork height box → node ≡ box.value → node.content ≡ Some content → IsSound order tree → IsGreatest order (entries tree) content.greatest
+  pub fork_greatest : {tree : Tree K E V} {height : ℕ} {box : Box (Node K E V) Global} {node : Node K E V} {content : Content K E V} →
+      tree ≡ Fork height box → node ≡ box.value → node.content ≡ Some content → IsSound order tree → IsGreatest order (entries tree) content.greatest
   fork_greatest {tree} {height} {box} {node} {content} is seen holds s =
       let held : box.value.content ≡ Some content = cc in
       rw is (subst (HoldsGreatest order (entries (Fork height box))) held (subst (IsSound order) is s).0.1.1)
 
   -- a sound tree that is a fork has its top entry between those of two lower, sound sides, and its node holds the greatest end of all
-  pub top_of : {tree : Tree K E V} {height : ℕ} {box : Box (Node K E V) Global} {node : Node K E V} {content : Content K E V} → tree ≡ Fork height box → node ≡ box.value → node.content ≡ Some content → IsSound order tree → IsTopOf order tree content node.left node.right
+  pub top_of : {tree : Tree K E V} {height : ℕ} {box : Box (Node K E V) Global} {node : Node K E V} {content : Content K E V} →
+      tree ≡ Fork height box → node ≡ box.value → node.content ≡ Some content → IsSound order tree → IsTopOf order tree content node.left node.right
   top_of {tree} {height} {box} {node} {content} is seen holds s =
       let held : box.value.content ≡ Some content = cc in
       let sound = subst (IsSound order) is s in
       record {
-        parts = ap entries is ∙ ap (λ (c : Option (Content K E V)). entries box.value.left ++ (entries_in c ++ entries box.value.right)) held ∙ ap (λ (n : Node K E V). entries n.left ++ (content.entry ∷ entries n.right)) (sym seen);
+        parts = ap entries is ∙ ap (λ (c : Option (Content K E V)). entries box.value.left ++ (entries_in c ++ entries box.value.right)) held
+            ∙ ap (λ (n : Node K E V). entries n.left ++ (content.entry ∷ entries n.right)) (sym seen);
         left_lower = (let e = ap depth is in let f = ap (λ (n : Node K E V). depth n.left) seen in omega arith);
         right_lower = (let e = ap depth is in let f = ap (λ (n : Node K E V). depth n.right) seen in omega arith);
         left_sound = subst (λ (n : Node K E V). IsSound order n.left) (sym seen) sound.0.0.0;
@@ -48,5 +51,6 @@ module _ {K E V : Type 0} {order : E → E → Ordering} where
   in_place node s = record { held = holds_some order (entries_of node) node.content s.1.1; parts = refl; deep = refl; near = s.1.0; greatest = s.1.1; left_sound = s.0.0; right_sound = s.0.1 }
 
   -- the top node of a sound tree, seen as `node`, with its sides left in their places
-  pub opened_in_place : {tree : Tree K E V} {height : ℕ} {box : Box (Node K E V) Global} {node : Node K E V} → tree ≡ Fork height box → node ≡ box.value → IsSound order tree → IsOpened order box.value node node.left node.right
+  pub opened_in_place : {tree : Tree K E V} {height : ℕ} {box : Box (Node K E V) Global} {node : Node K E V} →
+      tree ≡ Fork height box → node ≡ box.value → IsSound order tree → IsOpened order box.value node node.left node.right
   opened_in_place {tree} {height} {box} is seen s = subst (λ (n : Node K E V). IsOpened order box.value n n.left n.right) (sym seen) (in_place box.value (subst (IsSound order) is s).0)

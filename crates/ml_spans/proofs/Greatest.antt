@@ -23,7 +23,8 @@ has_end_right end (x ∷ xs) ys h = inr (has_end_right end xs ys h)
 
 module _ {K E V : Type 0} {order : E → E → Ordering} (o : IsTotalOrder order) where
   -- one end against the greatest of the entries
-  pub greatest_with_one : (one end best : E) (all : List (Entry K E V)) → IsGreatest order all best → IsUpTo order one end → IsUpTo order best end → (one ≡ end) ⊎ (best ≡ end) → IsGreatestWith order one all end
+  pub greatest_with_one : (one end best : E) (all : List (Entry K E V)) → IsGreatest order all best →
+      IsUpTo order one end → IsUpTo order best end → (one ≡ end) ⊎ (best ≡ end) → IsGreatestWith order one all end
   greatest_with_one one end best all g p q w = record {
     first = p;
     above = all_weaker (λ entry. IsUpTo order entry.end best) (λ entry. IsUpTo order entry.end end) (λ entry h. upto o entry.end best end h q) all g.above;
@@ -36,7 +37,8 @@ module _ {K E V : Type 0} {order : E → E → Ordering} (o : IsTotalOrder order
   join_own left right entry a b (inr k) (inl f) = has_end_left b left (entry ∷ right) (subst (HasEnd left) f k)
 
   -- the greatest of an entry's end and those to its left, and then of that end and those to its right, is the greatest of them all
-  pub greatest_join : (left right : List (Entry K E V)) (entry : Entry K E V) (a b : E) → IsGreatestWith order entry.end left a → IsGreatestWith order a right b → IsGreatest order (left ++ (entry ∷ right)) b
+  pub greatest_join : (left right : List (Entry K E V)) (entry : Entry K E V) (a b : E) →
+      IsGreatestWith order entry.end left a → IsGreatestWith order a right b → IsGreatest order (left ++ (entry ∷ right)) b
   greatest_join left right entry a b g h = record {
     above = all_append (λ one. IsUpTo order one.end b) left (entry ∷ right)
         (all_weaker (λ one. IsUpTo order one.end a) (λ one. IsUpTo order one.end b) (λ one p. upto o one.end a b p h.first) left g.above)

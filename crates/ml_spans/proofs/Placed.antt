@@ -32,11 +32,13 @@ one_entry order x place all left right None s p a = cc
 one_entry order x place all left right (Some content) s p a = record { middle = content.entry; holds = refl; parts = p; stands = a.0 }
 
 -- in the entries of an opened fork the node's own, with which x was compared, stands between those of the two sides
-pub placed : {K E V : Type 0} {ends : E → E → Ordering} {order : Entry K E V → Entry K E V → Ordering} {x : Entry K E V} {place : Ordering} {tree : Tree K E V} {height : ℕ} {box : Box (Node K E V) Global} {node seen : Node K E V} {left right : Tree K E V} →
-    tree ≡ Fork height box → IsOpened ends box.value node left right → seen ≡ node → AllByRecursion (λ y. order x y ≡ place) (entries_in seen.content) →
+pub placed : {K E V : Type 0} {ends : E → E → Ordering} {order : Entry K E V → Entry K E V → Ordering} {x : Entry K E V} {place : Ordering}
+    {tree : Tree K E V} {height : ℕ} {box : Box (Node K E V) Global} {node seen : Node K E V} {left right : Tree K E V} → tree ≡ Fork height box →
+    IsOpened ends box.value node left right → seen ≡ node → AllByRecursion (λ y. order x y ≡ place) (entries_in seen.content) →
     IsPlaced order x place (entries tree) (entries left) (entries_in node.content) (entries right)
 placed {order = order} {x = x} {place = place} {tree = tree} {node = node} {left = left} {right = right} is sides seen a =
-    one_entry order x place (entries tree) (entries left) (entries right) node.content sides.held (ap entries is ∙ sides.parts) (subst (λ n. AllByRecursion (λ y. order x y ≡ place) (entries_in n.content)) seen a)
+    one_entry order x place (entries tree) (entries left) (entries right) node.content sides.held
+    (ap entries is ∙ sides.parts) (subst (λ n. AllByRecursion (λ y. order x y ≡ place) (entries_in n.content)) seen a)
 
 module _ {A : Type 0} {order : A → A → Ordering} (o : IsTotalOrder order) {x : A} {place : Ordering} {all left held right : List A} (p : IsPlaced order x place all left held right) where
   sides : IsRising order all → IsAround order left p.middle right
@@ -76,7 +78,8 @@ module _ {A : Type 0} {order : A → A → Ordering} (o : IsTotalOrder order) {x
   is_greater Greater f g = refl
 
   -- where x is new and not before the middle, and came into the right part, it came into the whole list, which still rises
-  pub put_right : (new result : List A) → (place ≡ Less → ⊥) → IsNew order x all → IsRising order all → IsAdded x right new → IsRising order new → result ≡ left ++ (held ++ new) → IsAdded x all result × IsRising order result
+  pub put_right : (new result : List A) → (place ≡ Less → ⊥) → IsNew order x all → IsRising order all → IsAdded x right new →
+      IsRising order new → result ≡ left ++ (held ++ new) → IsAdded x all result × IsRising order result
   put_right new result f fresh s a n is =
       let back : result ≡ left ++ (p.middle ∷ new) = is ∙ ap (λ (h : List A). left ++ (h ++ new)) p.holds in
       let greater : order x p.middle ≡ Greater = p.stands ∙ is_greater place f (not_equal fresh) in
@@ -93,11 +96,13 @@ module _ {A : Type 0} {order : A → A → Ordering} (o : IsTotalOrder order) {x
   new_from_right e s n =
       let f : order x p.middle ≡ Greater = p.stands ∙ e in
       rw p.parts (all_append (λ y. order x y ≡ Equal → ⊥) left (p.middle ∷ right)
-      (all_weaker (λ y. order y p.middle ≡ Less) (λ y. order x y ≡ Equal → ⊥) (λ y l h. apart (tied_back o x y h) (o.trans y p.middle x l (o.antisymm p.middle x ∙ ap ordering_reverse f))) left (sides s).below)
+      (all_weaker (λ y. order y p.middle ≡ Less) (λ y. order x y ≡ Equal → ⊥)
+      (λ y l h. apart (tied_back o x y h) (o.trans y p.middle x l (o.antisymm p.middle x ∙ ap ordering_reverse f))) left (sides s).below)
       (λ h. above_apart h f, n))
 
   -- where x is before the middle, the whole list lost it if the left part did, and has nothing in its place if that part has none
-  pub take_left : {N : Type 0} (new result : List A) (gone : Option N) → place ≡ Less → IsRising order all → MatchOption gone ((new ≡ left) × IsNew order x left) (λ _. IsAdded x new left) → result ≡ new ++ (held ++ right) →
+  pub take_left : {N : Type 0} (new result : List A) (gone : Option N) → place ≡ Less → IsRising order all →
+      MatchOption gone ((new ≡ left) × IsNew order x left) (λ _. IsAdded x new left) → result ≡ new ++ (held ++ right) →
       MatchOption gone ((result ≡ all) × IsNew order x all) (λ _. IsAdded x result all)
   take_left new result None e s h is = (is ∙ ap (λ (l : List A). l ++ (held ++ right)) h.0 ∙ ap (λ (m : List A). left ++ (m ++ right)) p.holds ∙ sym p.parts, new_from_left e s h.1)
   take_left new result (Some n) e s h is =
@@ -105,8 +110,9 @@ module _ {A : Type 0} {order : A → A → Ordering} (o : IsTotalOrder order) {x
       rw (p.parts, back) (added_left (p.middle ∷ right) h)
 
   -- where x is behind the middle, the whole list lost it if the right part did, and has nothing in its place if that part has none
-  pub take_right : {N : Type 0} (new result : List A) (gone : Option N) → place ≡ Greater → IsRising order all → MatchOption gone ((new ≡ right) × IsNew order x right) (λ _. IsAdded x new right) → result ≡ left ++ (held ++ new) →
-      MatchOption gone ((result ≡ all) × IsNew order x all) (λ _. IsAdded x result all)
+  pub take_right : {N : Type 0} (new result : List A) (gone : Option N) → place ≡ Greater →
+      IsRising order all → MatchOption gone ((new ≡ right) × IsNew order x right) (λ _. IsAdded x new right) →
+      result ≡ left ++ (held ++ new) → MatchOption gone ((result ≡ all) × IsNew order x all) (λ _. IsAdded x result all)
   take_right new result None e s h is = (is ∙ ap (λ (l : List A). left ++ (held ++ l)) h.0 ∙ ap (λ (m : List A). left ++ (m ++ right)) p.holds ∙ sym p.parts, new_from_right e s h.1)
   take_right new result (Some n) e s h is =
       let back : result ≡ left ++ (p.middle ∷ new) = is ∙ ap (λ (m : List A). left ++ (m ++ new)) p.holds in
@@ -119,7 +125,8 @@ module _ {A : Type 0} {order : A → A → Ordering} (o : IsTotalOrder order) {x
       record { before = left; after = right; was = is; is = p.parts ∙ ap (λ (y : A). left ++ (y ∷ right)) (sym same) }
 
   -- where x is before the middle, the whole list has y for it if the left part has, and has nothing in its place if that part has none
-  pub set_left : (y : A) (there : Bool) (new result : List A) → place ≡ Less → IsRising order all → MatchBool there (IsReplaced x y left new) ((new ≡ left) × IsNew order x left) → result ≡ new ++ (held ++ right) →
+  pub set_left : (y : A) (there : Bool) (new result : List A) → place ≡ Less → IsRising order all →
+      MatchBool there (IsReplaced x y left new) ((new ≡ left) × IsNew order x left) → result ≡ new ++ (held ++ right) →
       MatchBool there (IsReplaced x y all result) ((result ≡ all) × IsNew order x all)
   set_left y false new result e s h is = (is ∙ ap (λ (l : List A). l ++ (held ++ right)) h.0 ∙ ap (λ (m : List A). left ++ (m ++ right)) p.holds ∙ sym p.parts, new_from_left e s h.1)
   set_left y true new result e s h is =
@@ -127,8 +134,9 @@ module _ {A : Type 0} {order : A → A → Ordering} (o : IsTotalOrder order) {x
       rw (p.parts, back) (replaced_left (p.middle ∷ right) h)
 
   -- where x is behind the middle, the whole list has y for it if the right part has, and has nothing in its place if that part has none
-  pub set_right : (y : A) (there : Bool) (new result : List A) → place ≡ Greater → IsRising order all → MatchBool there (IsReplaced x y right new) ((new ≡ right) × IsNew order x right) → result ≡ left ++ (held ++ new) →
-      MatchBool there (IsReplaced x y all result) ((result ≡ all) × IsNew order x all)
+  pub set_right : (y : A) (there : Bool) (new result : List A) → place ≡ Greater → IsRising order all →
+      MatchBool there (IsReplaced x y right new) ((new ≡ right) × IsNew order x right) →
+      result ≡ left ++ (held ++ new) → MatchBool there (IsReplaced x y all result) ((result ≡ all) × IsNew order x all)
   set_right y false new result e s h is = (is ∙ ap (λ (l : List A). left ++ (held ++ l)) h.0 ∙ ap (λ (m : List A). left ++ (m ++ right)) p.holds ∙ sym p.parts, new_from_right e s h.1)
   set_right y true new result e s h is =
       let back : result ≡ left ++ (p.middle ∷ new) = is ∙ ap (λ (m : List A). left ++ (m ++ new)) p.holds in

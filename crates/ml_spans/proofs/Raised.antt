@@ -20,11 +20,13 @@ end_come x [] after = inl refl
 end_come x (y ∷ before) after = inr (end_come x before after)
 
 -- when an entry comes in below a node, the greater of its end and the node's greatest end is the greatest end of all entries there
-pub greatest_added : {K E V : Type 0} {order : E → E → Ordering} (o : IsTotalOrder order) {x : Entry K E V} {xs ys : List (Entry K E V)} (c : Option (Content K E V)) → IsAdded x xs ys → HoldsGreatest order xs c → HoldsGreatestBut order x.end ys c
+pub greatest_added : {K E V : Type 0} {order : E → E → Ordering} (o : IsTotalOrder order) {x : Entry K E V} {xs ys : List (Entry K E V)} (c : Option (Content K E V)) →
+    IsAdded x xs ys → HoldsGreatest order xs c → HoldsGreatestBut order x.end ys c
 greatest_added o None a h = absurd h
 greatest_added {order = order} o {x} {xs} {ys} (Some content) a h = λ best p q w.
     record {
-      above = all_added (λ entry. IsUpTo order entry.end best) a q (all_weaker (λ entry. IsUpTo order entry.end content.greatest) (λ entry. IsUpTo order entry.end best) (λ entry l. upto o entry.end content.greatest best l p) xs h.above);
+      above = all_added (λ entry. IsUpTo order entry.end best) a q (all_weaker (λ entry. IsUpTo order entry.end content.greatest)
+          (λ entry. IsUpTo order entry.end best) (λ entry l. upto o entry.end content.greatest best l p) xs h.above);
       own = elim w [
         | inl e ↦ subst (HasEnd ys) e (subst (λ l. HasEnd l content.greatest) (sym a.is) (end_kept content.greatest x a.before a.after (subst (λ l. HasEnd l content.greatest) a.was h.own)))
         | inr e ↦ subst (HasEnd ys) e (subst (λ l. HasEnd l x.end) (sym a.is) (end_come x a.before a.after))
@@ -39,7 +41,8 @@ end_left end x (y ∷ before) after other (inl e) = inl e
 end_left end x (y ∷ before) after other (inr h) = inr (end_left end x before after other h)
 
 -- whether or not an entry went from below a node, the node's greatest end is still right unless it is the end of that entry
-pub greatest_removed : {K E V N : Type 0} (ends : E → E → Ordering) (order : Entry K E V → Entry K E V → Ordering) (x : Entry K E V) (left all : List (Entry K E V)) (gone : Option N) (c : Option (Content K E V)) →
+pub greatest_removed : {K E V N : Type 0} (ends : E → E → Ordering) (order : Entry K E V → Entry K E V → Ordering)
+    (x : Entry K E V) (left all : List (Entry K E V)) (gone : Option N) (c : Option (Content K E V)) →
     MatchOption gone ((left ≡ all) × IsNew order x all) (λ _. IsAdded x left all) → HoldsGreatest ends all c → HoldsGreatestUnless ends x.end left c
 greatest_removed ends order x left all gone None m h = absurd h
 greatest_removed ends order x left all None (Some content) m h = λ other. subst (λ l. IsGreatest ends l content.greatest) (sym m.0) h

@@ -22,7 +22,8 @@ then_then Equal Equal e f less other = absurd (other (refl, refl))
 
 module _ {K E V : Type 0} (keys : K → K → Ordering) (ends : E → E → Ordering) (values : V → V → Ordering) where
   -- two entries that differ by their keys or their values keep their order
-  one_before : IsExact keys → IsExact values → (next : V → E → E) (a b : Entry K E V) → (a.key ≡ b.key → a.value ≡ b.value → ⊥) → entry_order keys ends values a b ≡ Less → entry_order keys ends values (renewed next a) (renewed next b) ≡ Less
+  one_before : IsExact keys → IsExact values → (next : V → E → E) (a b : Entry K E V) → (a.key ≡ b.key → a.value ≡ b.value → ⊥) →
+      entry_order keys ends values a b ≡ Less → entry_order keys ends values (renewed next a) (renewed next b) ≡ Less
   one_before k v next a b other less =
       then_then (keys a.key b.key) (values a.value b.value) (ends a.end b.end) (ends (next a.value a.end) (next b.value b.end)) less (λ tied. other (k a.key b.key tied.0) (v a.value b.value tied.1))
 
@@ -32,7 +33,9 @@ module _ {K E V : Type 0} (keys : K → K → Ordering) (ends : E → E → Orde
     differ a b in_a in_b less same_key same_value =
         apart (subst (λ other. entry_order keys ends values a other ≡ Equal) (apart_all a b in_a in_b same_key same_value) (tied_itself oe a)) less
 
-    one_of_all : (a : Entry K E V) (rest : List (Entry K E V)) → Contains all a → AllByRecursion (Contains all) rest → AllByRecursion (λ b. entry_order keys ends values a b ≡ Less) rest → AllByRecursion (λ b. entry_order keys ends values (renewed next a) b ≡ Less) (map (renewed next) rest)
+    one_of_all : (a : Entry K E V) (rest : List (Entry K E V)) → Contains all a →
+        AllByRecursion (Contains all) rest → AllByRecursion (λ b. entry_order keys ends values a b ≡ Less) rest →
+        AllByRecursion (λ b. entry_order keys ends values (renewed next a) b ≡ Less) (map (renewed next) rest)
     one_of_all a [] in_a inside less = tt
     one_of_all a (b ∷ rest) in_a inside less = (one_before k v next a b (differ a b in_a inside.0 less.0) less.0, one_of_all a rest in_a inside.1 less.1)
 

@@ -66,7 +66,8 @@ module _ {A : Type 0} {order : A → A → Ordering} (o : IsTotalOrder order) (x
       }))
 
   -- the same of an answer: the element is there and replaced, or it is not there
-  pub rises_set : (xs ys : List A) (there : Bool) → MatchBool there (IsReplaced x y xs ys) ((ys ≡ xs) × IsNew order x xs) → ((z : A) → Contains xs z → StandsAlike order x y z) → IsRising order xs → IsRising order ys
+  pub rises_set : (xs ys : List A) (there : Bool) → MatchBool there (IsReplaced x y xs ys) ((ys ≡ xs) × IsNew order x xs) →
+      ((z : A) → Contains xs z → StandsAlike order x y z) → IsRising order xs → IsRising order ys
   rises_set xs ys true m place s = rises_replaced m place s
   rises_set xs ys false m place s = subst (IsRising order) (sym m.0) s
 

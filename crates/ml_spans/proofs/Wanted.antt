@@ -73,7 +73,8 @@ late_up ends o (Some at) end best h e = le_from (ends at best) (upto o at end be
 module _ {K E V : Type 0} (keys : K → K → Ordering) (ends : E → E → Ordering) (query : Query K E) where
   -- what a query wants of one list followed by another is what it wants of the first and then what it wants of the second
   pub wanted_both : (xs ys : List (Entry K E V)) → wanted keys ends query (xs ++ ys) ≡ wanted keys ends query xs ++ wanted keys ends query ys
-  wanted_both xs ys = ap (map (λ (e : Entry K E V). e.value)) (filter_both (is_wanted keys ends query) xs ys) ∙ map_both (λ (e : Entry K E V). e.value) (filter (is_wanted keys ends query) xs) (filter (is_wanted keys ends query) ys)
+  wanted_both xs ys = ap (map (λ (e : Entry K E V). e.value)) (filter_both (is_wanted keys ends query) xs ys)
+      ∙ map_both (λ (e : Entry K E V). e.value) (filter (is_wanted keys ends query) xs) (filter (is_wanted keys ends query) ys)
 
   wanted_none : (xs : List (Entry K E V)) → AllByRecursion (λ e. is_wanted keys ends query e ≡ false) xs → wanted keys ends query xs ≡ []
   wanted_none xs a = ap (map (λ (e : Entry K E V). e.value)) (filter_none (is_wanted keys ends query) xs a)
@@ -82,7 +83,8 @@ module _ {K E V : Type 0} (keys : K → K → Ordering) (ends : E → E → Orde
   pub none_late : IsTotalOrder ends → (all : List (Entry K E V)) (best : E) → IsGreatest ends all best → is_late ends query.at best ≡ false → wanted keys ends query all ≡ []
   none_late o all best g e =
       wanted_none all (all_weaker (λ x. IsUpTo ends x.end best) (λ x. is_wanted keys ends query x ≡ false)
-      (λ x h. and_right (is_within keys query.from query.to x.key) (is_late ends query.at x.end) (not_true (is_late ends query.at x.end) (λ t. let u = late_up ends o query.at x.end best h t in cc))) all g.above)
+      (λ x h. and_right (is_within keys query.from query.to x.key) (is_late ends query.at x.end)
+      (not_true (is_late ends query.at x.end) (λ t. let u = late_up ends o query.at x.end best h t in cc))) all g.above)
 
   before_range : IsTotalOrder keys → (x m : Entry K E V) → is_gt (keys x.key m.key) ≡ false → keys query.from m.key ≡ Greater → is_wanted keys ends query x ≡ false
   before_range o x m h e =
@@ -94,7 +96,8 @@ module _ {K E V : Type 0} (keys : K → K → Ordering) (ends : E → E → Orde
       and_left (is_within keys query.from query.to x.key) (is_late ends query.at x.end) (and_right (is_le (keys query.from x.key)) (is_le (keys x.key query.to))
       (not_true (is_le (keys x.key query.to)) (λ t. let u = upto o m.key x.key query.to h (gt_from (keys x.key query.to) t) in let v = ap is_gt e in cc)))
 
-  module _ (values : V → V → Ordering) (k : IsTotalOrder keys) (e : IsTotalOrder ends) (v : IsTotalOrder values) (all left : List (Entry K E V)) (m : Entry K E V) (right : List (Entry K E V)) (parts : all ≡ left ++ (m ∷ right)) where
+  module _ (values : V → V → Ordering) (k : IsTotalOrder keys) (e : IsTotalOrder ends) (v : IsTotalOrder values)
+      (all left : List (Entry K E V)) (m : Entry K E V) (right : List (Entry K E V)) (parts : all ≡ left ++ (m ∷ right)) where
     -- what is wanted of all entries is what is wanted of the left ones, of the middle one and of the right ones, in this order
     pub wanted_parts : wanted keys ends query all ≡ wanted keys ends query left ++ (wanted keys ends query (m ∷ []) ++ wanted keys ends query right)
     wanted_parts = rw parts (wanted_both left (m ∷ right) ∙ ap (λ (l : List V). wanted keys ends query left ++ l) (wanted_both (m ∷ []) right))
@@ -113,14 +116,16 @@ module _ {K E V : Type 0} (keys : K → K → Ordering) (ends : E → E → Orde
     -- where the middle key is before the range, what is wanted is to the right
     pub wanted_right : IsRising (entry_order keys ends values) all → keys query.from m.key ≡ Greater → wanted keys ends query all ≡ wanted keys ends query right
     wanted_right s before =
-        let none_left : wanted keys ends query left ≡ [] = wanted_none left (all_weaker (λ x. entry_order keys ends values x m ≡ Less) (λ x. is_wanted keys ends query x ≡ false) (λ x h. before_range k x m (first_up _ _ h) before) left (about s).below) in
+        let none_left : wanted keys ends query left ≡ [] = wanted_none left (all_weaker (λ x. entry_order keys ends values x m ≡ Less)
+        (λ x. is_wanted keys ends query x ≡ false) (λ x h. before_range k x m (first_up _ _ h) before) left (about s).below) in
         let none_middle : wanted keys ends query (m ∷ []) ≡ [] = wanted_none (m ∷ []) (before_range k m m (ap is_gt (tied_itself k m.key)) before, tt) in
         wanted_parts ∙ rw (none_left, none_middle) refl
 
     -- where the middle key is behind the range, what is wanted is to the left
     pub wanted_left : IsRising (entry_order keys ends values) all → keys m.key query.to ≡ Greater → wanted keys ends query all ≡ wanted keys ends query left
     wanted_left s behind =
-        let none_right : wanted keys ends query right ≡ [] = wanted_none right (all_weaker (λ x. entry_order keys ends values m x ≡ Less) (λ x. is_wanted keys ends query x ≡ false) (λ x h. behind_range k x m (first_up _ _ h) behind) right (about s).above) in
+        let none_right : wanted keys ends query right ≡ [] = wanted_none right (all_weaker (λ x. entry_order keys ends values m x ≡ Less)
+        (λ x. is_wanted keys ends query x ≡ false) (λ x h. behind_range k x m (first_up _ _ h) behind) right (about s).above) in
         let none_middle : wanted keys ends query (m ∷ []) ≡ [] = wanted_none (m ∷ []) (behind_range k m m (ap is_gt (tied_itself k m.key)) behind, tt) in
         wanted_parts ∙ rw (none_right, none_middle) (append-nil _)
 
@@ -144,7 +149,8 @@ part_first old new one two p = record { done = p.done; left = p.left ++ two; is 
 
 -- where one thing was appended whole, and then a first part of the next, a first part of both was appended
 pub part_next : {V : Type 0} (old mid new one two : List V) → mid ≡ old ++ one → IsPart mid new two → IsPart old new (one ++ two)
-part_next old mid new one two e p = record { done = one ++ p.done; left = p.left; is = p.is ∙ ap (λ l. l ++ p.done) e ∙ append_assoc old one p.done; both = ap (λ l. one ++ l) p.both ∙ sym (append_assoc one p.done p.left) }
+part_next old mid new one two e p =
+    record { done = one ++ p.done; left = p.left; is = p.is ∙ ap (λ l. l ++ p.done) e ∙ append_assoc old one p.done; both = ap (λ l. one ++ l) p.both ∙ sym (append_assoc one p.done p.left) }
 
 -- a first part of what was due is one of any list that equals it
 pub part_due : {V : Type 0} {old new due whole : List V} → whole ≡ due → IsPart old new due → IsPart old new whole

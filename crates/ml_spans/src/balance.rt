@@ -18,7 +18,8 @@ pub(crate) fn balanced<K: Key, E: Key, V: Key>(
     requires right { IsSound E.order right }
     requires near { AreNear 2 (depth left) (depth right) }
     requires low { depth left ≤ 2 ^ 10 }
-    ensures entries { entries result ≡ entries left ++ (entries_in node.value.content ++ entries right) }
+    ensures entries { entries result
+        ≡ entries left ++ (entries_in node.value.content ++ entries right) }
     ensures depth { IsDepthOver (depth left) (depth right) (depth result) }
     ensures sound { IsSound E.order result }
 {
@@ -44,7 +45,8 @@ fn turned_right<K: Key, E: Key, V: Key>(
     requires right { IsSound E.order right }
     requires two_higher { depth left ≡ depth right + 2 }
     requires low { depth left ≤ 2 ^ 10 }
-    ensures entries { entries result ≡ entries left ++ (entries_in node.value.content ++ entries right) }
+    ensures entries { entries result
+        ≡ entries left ++ (entries_in node.value.content ++ entries right) }
     ensures depth { IsDepthOver (depth left) (depth right) (depth result) }
     ensures sound { IsSound E.order result }
 {
@@ -76,7 +78,8 @@ fn turned_left<K: Key, E: Key, V: Key>(
     requires right { IsSound E.order right }
     requires two_higher { depth right ≡ depth left + 2 }
     requires low { depth left ≤ 2 ^ 10 }
-    ensures entries { entries result ≡ entries left ++ (entries_in node.value.content ++ entries right) }
+    ensures entries { entries result
+        ≡ entries left ++ (entries_in node.value.content ++ entries right) }
     ensures depth { IsDepthOver (depth left) (depth right) (depth result) }
     ensures sound { IsSound E.order result }
 {

@@ -92,8 +92,10 @@ pub(crate) fn shrunk<K: Key, E: Key, V: Key>(
     requires right { IsSound E.order right }
     requires near { AreNear 2 (depth left) (depth right) }
     requires low { depth left ≤ 2 ^ 10 }
-    requires greatest { HoldsGreatestUnless E.order end.now (entries left ++ (entries_in node.value.content ++ entries right)) node.value.content }
-    ensures entries { entries result ≡ entries left ++ (entries_in node.value.content ++ entries right) }
+    requires greatest { HoldsGreatestUnless E.order end.now
+        (entries left ++ (entries_in node.value.content ++ entries right)) node.value.content }
+    ensures entries { entries result
+        ≡ entries left ++ (entries_in node.value.content ++ entries right) }
     ensures depth { IsDepthOver (depth left) (depth right) (depth result) }
     ensures sound { IsSound E.order result }
 {

@@ -44,7 +44,8 @@ pub(crate) fn keep_greatest<K: Key, E: Key, V: Key>(
     requires left { IsSound E.order left.now }
     requires right { IsSound E.order right.now }
     ensures entry { entries_in content.new ≡ entries_in content.old }
-    ensures greatest { HoldsGreatest E.order (entries left.now ++ (entries_in content.old ++ entries right.now)) content.new }
+    ensures greatest { HoldsGreatest E.order
+        (entries left.now ++ (entries_in content.old ++ entries right.now)) content.new }
 {
     match content {
         Some(content) => content.greatest = greatest_with(
@@ -63,9 +64,11 @@ pub(crate) fn raise<K: Key, E: Key, V: Key>(
     right: &Tree<K, E, V>,
 )
     requires held { IsSome content.old }
-    requires greatest { HoldsGreatestBut E.order end.now (entries left.now ++ (entries_in content.old ++ entries right.now)) content.old }
+    requires greatest { HoldsGreatestBut E.order end.now
+        (entries left.now ++ (entries_in content.old ++ entries right.now)) content.old }
     ensures entry { entries_in content.new ≡ entries_in content.old }
-    ensures greatest { HoldsGreatest E.order (entries left.now ++ (entries_in content.old ++ entries right.now)) content.new }
+    ensures greatest { HoldsGreatest E.order
+        (entries left.now ++ (entries_in content.old ++ entries right.now)) content.new }
 {
     match content {
         Some(content) => match content.greatest.compare(end) {

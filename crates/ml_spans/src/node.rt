@@ -33,8 +33,10 @@ pub(crate) fn kept<K: Key, E: Key, V: Key>(
     requires right { IsSound E.order right }
     requires near { AreNear 1 (depth left) (depth right) }
     requires low { depth left ≤ 2 ^ 16 }
-    requires greatest { HoldsGreatest E.order (entries left ++ (entries_in node.value.content ++ entries right)) node.value.content }
-    ensures entries { entries result ≡ entries left ++ (entries_in node.value.content ++ entries right) }
+    requires greatest { HoldsGreatest E.order
+        (entries left ++ (entries_in node.value.content ++ entries right)) node.value.content }
+    ensures entries { entries result
+        ≡ entries left ++ (entries_in node.value.content ++ entries right) }
     ensures depth { depth result ≡ max (depth left) (depth right) + 1 }
     ensures sound { IsSound E.order result }
 {
@@ -55,7 +57,8 @@ pub(crate) fn settled<K: Key, E: Key, V: Key>(
     requires right { IsSound E.order right }
     requires near { AreNear 1 (depth left) (depth right) }
     requires low { depth left ≤ 2 ^ 16 }
-    ensures entries { entries result ≡ entries left ++ (entries_in node.value.content ++ entries right) }
+    ensures entries { entries result
+        ≡ entries left ++ (entries_in node.value.content ++ entries right) }
     ensures depth { depth result ≡ max (depth left) (depth right) + 1 }
     ensures sound { IsSound E.order result }
 {
@@ -82,7 +85,8 @@ pub(crate) fn place_of<K: Key, E: Key, V: Key>(
     node: &Node<K, E, V>,
 ) -> Ordering
     requires { IsSome node.now.content }
-    ensures { AllByRecursion (λ other. entry_order K.order E.order V.order entry.now other ≡ result) (entries_in node.now.content) }
+    ensures { AllByRecursion (λ other. entry_order K.order E.order V.order entry.now other ≡ result)
+        (entries_in node.now.content) }
 {
     match &node.content {
         Some(content) => compare_entries(entry, &content.entry),

@@ -64,7 +64,8 @@ pub(crate) fn take<K: Key, E: Key, V: Key>(
     requires rising { IsRising (entry_order K.order E.order V.order) (entries tree) }
     requires low { depth tree ≤ 2 ^ 8 }
     ensures found { MatchOption result.1
-        ((entries result.0 ≡ entries tree) × IsNew (entry_order K.order E.order V.order) entry.now (entries tree))
+        ((entries result.0 ≡ entries tree)
+        × IsNew (entry_order K.order E.order V.order) entry.now (entries tree))
         (λ _. IsAdded entry.now (entries result.0) (entries tree)) }
     ensures not_higher { depth result.0 ≤ depth tree }
     ensures one_lower { depth tree ≤ depth result.0 + 1 }

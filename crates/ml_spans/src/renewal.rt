@@ -26,7 +26,8 @@ fn renew_end<K: Key, E: Key, V: Key, F: NextEnd<E, V>>(
 )
     requires { IsSome content.old }
     ensures held { IsSome content.new }
-    ensures entry { entries_in content.new ≡ map (renewed (F.next ends.now)) (entries_in content.old) }
+    ensures entry { entries_in content.new
+        ≡ map (renewed (F.next ends.now)) (entries_in content.old) }
 {
     match content {
         Some(content) => content.entry.end = ends.next_end(&content.entry.value, content.entry.end),

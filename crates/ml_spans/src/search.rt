@@ -58,7 +58,8 @@ fn keep<K: Key, E: Key, V: Key>(
     out: &mut Seq<V>,
 ) -> Result<(), AllocError>
     requires { is_within K.order query.now.from query.now.to content.now.entry.key ≡ true }
-    ensures ok { OnOk result (out.new ≡ out.old ++ wanted K.order E.order query.now (content.now.entry ∷ [])) }
+    ensures ok { OnOk result
+        (out.new ≡ out.old ++ wanted K.order E.order query.now (content.now.entry ∷ [])) }
     ensures err { OnErr result (out.new ≡ out.old) }
 {
     if is_reached(query, &content.entry.end) {
@@ -75,8 +76,10 @@ pub(crate) fn collect<K: Key, E: Key, V: Key>(
 ) -> Result<(), AllocError>
     requires sound { IsSound E.order tree.now }
     requires rising { IsRising (entry_order K.order E.order V.order) (entries tree.now) }
-    ensures ok { OnOk result (out.new ≡ out.old ++ wanted K.order E.order query.now (entries tree.now)) }
-    ensures err { OnErr result (IsPart out.old out.new (wanted K.order E.order query.now (entries tree.now))) }
+    ensures ok { OnOk result
+        (out.new ≡ out.old ++ wanted K.order E.order query.now (entries tree.now)) }
+    ensures err { OnErr result
+        (IsPart out.old out.new (wanted K.order E.order query.now (entries tree.now))) }
 {
     match tree {
         Tree::Leaf => Ok(()),
@@ -103,7 +106,8 @@ pub(crate) fn collect<K: Key, E: Key, V: Key>(
 pub(crate) fn has_wanted<K: Key, E: Key, V: Key>(tree: &Tree<K, E, V>, query: &Query<K, E>) -> bool
     requires sound { IsSound E.order tree.now }
     requires rising { IsRising (entry_order K.order E.order V.order) (entries tree.now) }
-    ensures { MatchBool result (wanted K.order E.order query.now (entries tree.now) ≢ []) (wanted K.order E.order query.now (entries tree.now) ≡ []) }
+    ensures { MatchBool result (wanted K.order E.order query.now (entries tree.now) ≢ [])
+        (wanted K.order E.order query.now (entries tree.now) ≡ []) }
 {
     match tree {
         Tree::Leaf => false,

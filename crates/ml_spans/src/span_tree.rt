@@ -72,7 +72,8 @@ impl<K: Key, E: Key, V: Key> SpanTree<K, E, V> {
         requires rising { IsRising (entry_order K.order E.order V.order) sorted.now }
         ensures entries { IfOk result (λ tree. tree.entries ≡ sorted.now) }
         ensures spare { IfOk result (λ tree. tree.spare ≡ 0) }
-        ensures low { (digits : ℕ) → length sorted.now < 2 ^ digits → IfOk result (λ tree. tree.height ≤ digits) }
+        ensures low { (digits : ℕ) → length sorted.now < 2 ^ digits →
+            IfOk result (λ tree. tree.height ≤ digits) }
     {
         SpanTree::of_read(alloc, &AsTheyAre, sorted)
     }
@@ -87,10 +88,12 @@ impl<K: Key, E: Key, V: Key> SpanTree<K, E, V> {
         reads: &R,
         sorted: &[T],
     ) -> Result<SpanTree<K, E, V>, AllocError>
-        requires rising { IsRising (entry_order K.order E.order V.order) (map (R.entry reads.now) sorted.now) }
+        requires rising { IsRising (entry_order K.order E.order V.order)
+            (map (R.entry reads.now) sorted.now) }
         ensures entries { IfOk result (λ tree. tree.entries ≡ map (R.entry reads.now) sorted.now) }
         ensures spare { IfOk result (λ tree. tree.spare ≡ 0) }
-        ensures low { (digits : ℕ) → length sorted.now < 2 ^ digits → IfOk result (λ tree. tree.height ≤ digits) }
+        ensures low { (digits : ℕ) → length sorted.now < 2 ^ digits →
+            IfOk result (λ tree. tree.height ≤ digits) }
     {
         let root = tree_of(alloc, reads, sorted)?;
         let mut spares = Vec::new(alloc);
@@ -148,7 +151,8 @@ impl<K: Key, E: Key, V: Key> SpanTree<K, E, V> {
     pub fn insert(&mut self, key: K, end: E, value: V)
         requires spare { 0 < self.old.spare }
         requires new { ¬ (Contains self.old.entries (entry_of key end value)) }
-        ensures members { (e : AnEntry K E V) → Contains self.new.entries e ↔ (Contains self.old.entries e ⊎ (e ≡ entry_of key end value)) }
+        ensures members { (e : AnEntry K E V) → Contains self.new.entries e
+            ↔ (Contains self.old.entries e ⊎ (e ≡ entry_of key end value)) }
         ensures rising { IsRising (entry_order K.order E.order V.order) self.new.entries }
         ensures spare { self.new.spare + 1 ≡ self.old.spare }
     {
@@ -163,7 +167,8 @@ impl<K: Key, E: Key, V: Key> SpanTree<K, E, V> {
     /// Takes an entry out, whose node is spare then. True exactly where it was there. It takes no memory
     /// and cannot fail.
     pub fn remove(&mut self, key: &K, end: &E, value: &V) -> bool
-        ensures there { IsTrue result ↔ Contains self.old.entries (entry_of key.now end.now value.now) }
+        ensures there { IsTrue result
+            ↔ Contains self.old.entries (entry_of key.now end.now value.now) }
         ensures members { (e : AnEntry K E V) → Contains self.new.entries e
             ↔ (Contains self.old.entries e × (¬ (e ≡ entry_of key.now end.now value.now))) }
         ensures rising { IsRising (entry_order K.order E.order V.order) self.new.entries }
@@ -191,12 +196,15 @@ impl<K: Key, E: Key, V: Key> SpanTree<K, E, V> {
     /// have its key, its value and an end to which the new one stands otherwise than the old one. It takes
     /// no memory and cannot fail.
     pub fn set_end(&mut self, key: &K, end: &E, value: &V, to: &E) -> bool
-        requires place { (other : E) → Contains self.old.entries (entry_of key.now other value.now) →
+        requires place { (other : E) →
+            Contains self.old.entries (entry_of key.now other value.now) →
             (other ≡ end.now) ⊎ (E.order to.now other ≡ E.order end.now other) }
-        ensures there { IsTrue result ↔ Contains self.old.entries (entry_of key.now end.now value.now) }
+        ensures there { IsTrue result
+            ↔ Contains self.old.entries (entry_of key.now end.now value.now) }
         ensures members { MatchBool result
             ((e : AnEntry K E V) → Contains self.new.entries e
-            ↔ ((Contains self.old.entries e × (¬ (e ≡ entry_of key.now end.now value.now))) ⊎ (e ≡ entry_of key.now to.now value.now)))
+            ↔ ((Contains self.old.entries e × (¬ (e ≡ entry_of key.now end.now value.now)))
+            ⊎ (e ≡ entry_of key.now to.now value.now)))
             (self.new.entries ≡ self.old.entries) }
         ensures rising { IsRising (entry_order K.order E.order V.order) self.new.entries }
         ensures spare { self.new.spare ≡ self.old.spare }
@@ -231,7 +239,8 @@ impl<K: Key, E: Key, V: Key> SpanTree<K, E, V> {
         ensures ok { OnOk result (out.new ≡ out.old
             ++ values_where (is_stabbed K.order E.order from.now to.now at.now) self.now.entries) }
         ensures members { OnOk result ((v : V) → Contains out.new v
-            ↔ (Contains out.old v ⊎ IsValueOf (is_stabbed K.order E.order from.now to.now at.now) self.now.entries v)) }
+            ↔ (Contains out.old v ⊎ IsValueOf
+            (is_stabbed K.order E.order from.now to.now at.now) self.now.entries v)) }
         ensures err { OnErr result (IsPart out.old out.new
             (values_where (is_stabbed K.order E.order from.now to.now at.now) self.now.entries)) }
     {
@@ -247,7 +256,8 @@ impl<K: Key, E: Key, V: Key> SpanTree<K, E, V> {
     /// [`SpanTree::stab`] would give anything. Parts of the tree without such an end are passed over,
     /// and it stops at the first one found.
     pub fn is_stabbed(&self, from: &K, to: &K, at: &E) -> bool
-        ensures { IsTrue result ↔ HasPassing (is_stabbed K.order E.order from.now to.now at.now) self.now.entries }
+        ensures { IsTrue result
+            ↔ HasPassing (is_stabbed K.order E.order from.now to.now at.now) self.now.entries }
     {
         let at = Some(*at);
         let query = Query {
@@ -266,7 +276,8 @@ impl<K: Key, E: Key, V: Key> SpanTree<K, E, V> {
         ensures ok { OnOk result (out.new ≡ out.old
             ++ values_where (is_in_range K.order from.now to.now) self.now.entries) }
         ensures members { OnOk result ((v : V) → Contains out.new v
-            ↔ (Contains out.old v ⊎ IsValueOf (is_in_range K.order from.now to.now) self.now.entries v)) }
+            ↔ (Contains out.old v
+            ⊎ IsValueOf (is_in_range K.order from.now to.now) self.now.entries v)) }
         ensures err { OnErr result (IsPart out.old out.new
             (values_where (is_in_range K.order from.now to.now) self.now.entries)) }
     {

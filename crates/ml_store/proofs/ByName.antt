@@ -169,7 +169,8 @@ module _ (names : List Name) (numbers : List ℕ) (own : AreUnique names) (by : 
       }
 
   -- when a name goes, with its number taken from its place, the other numbers are still in byte order of ids
-  pub named_out : (name : Name) (at : ℕ) (less : List Name) → at < length numbers → get_or numbers at 0 ≡ name.number → ¬ (Contains less name) → IsAdded name less names → AreByName less (remove numbers at)
+  pub named_out : (name : Name) (at : ℕ) (less : List Name) → at < length numbers → get_or numbers at 0 ≡ name.number →
+      ¬ (Contains less name) → IsAdded name less names → AreByName less (remove numbers at)
   named_out name at less lt here gone added =
       let n = length_sorted in
       let is : get_or by.sorted at name ≡ name = name_here at name name lt (contained added) here in

@@ -13,7 +13,8 @@ use Rattle.ml_store.proofs.Gathered.{box_read, row_there}
 use Rattle.ml_store.proofs.Naming.{number_read}
 
 -- one end more is read
-pub untils_next : (boxes : List (Box Row Global)) (i : ℕ) (b : Box Row Global) → i < length boxes → b ≡ get_or boxes i b → untils_in (take (i + 1) (unboxed boxes)) ≡ untils_in (take i (unboxed boxes)) ++ b.value.slot.until ∷ []
+pub untils_next : (boxes : List (Box Row Global)) (i : ℕ) (b : Box Row Global) → i < length boxes → b ≡ get_or boxes i b →
+    untils_in (take (i + 1) (unboxed boxes)) ≡ untils_in (take i (unboxed boxes)) ++ b.value.slot.until ∷ []
 untils_next boxes i b lt read =
     let rows = unboxed boxes in
     ap untils_in (take_more rows i b.value (row_there boxes i b lt read)) ∙ map-append (λ (r : Row). r.slot.until) (take i rows) (get_or rows i b.value ∷ [])

@@ -87,7 +87,8 @@ module _ (rows : List Row) (entries : List Entry) (kept : IsIndex IsEntryIn rows
       (found r.number).1 (e, (kept e).1 (r, there, record { in_cell = f.kept; its_end = refl; its_number = refl }), refl, (refl, f.among))
 
   -- where no entry of such a cell lasts long enough, none of these labels does
-  pub clear_of : (o : Outline) → AreWithin o rows → (a : Label) (k m : ℕ) (scale : Ratio) (cells : Cells) → HoldOverlapped o a k m cells → ¬ (HasEntry (IsAmongFrom cells scale) entries) → NoneOverlaps rows a k m scale
+  pub clear_of : (o : Outline) → AreWithin o rows → (a : Label) (k m : ℕ) (scale : Ratio) (cells : Cells) →
+      HoldOverlapped o a k m cells → ¬ (HasEntry (IsAmongFrom cells scale) entries) → NoneOverlaps rows a k m scale
   clear_of o within a k m scale cells whole none r n there from upto over lasts =
       let f = whole r.label n (All-contains (λ (s : Row). IsWithin o s.label) rows r within there) from upto over in
       let e = entry_of (cell_of cells.band f.x f.y) r.slot.until r.number in
@@ -143,9 +144,9 @@ module _ (rows : List Row) (entries : List Entry) (kept : IsIndex IsEntryIn rows
 
   -- and among them are those of all rows that are active at the view's scale and in the view
   pub found_shown : HaveOwnNumbers rows → All (λ r. IsEnd r.label (value_of r.slot.until)) rows → (v : View) →
-      ((a : Label) (n : ℕ) (u : Ratio) (es : List Entry) (w : View) → IsEnd a (value_of u) → AreEntriesOf n a u es → ActiveUntil a (value_of u) (value_of w.scale) → IsInView a w → IsNumberOf (IsSeen w) es n) →
-      (numbers : List ℕ) → AppendsNumbers (IsSeen v) entries [] numbers →
-      (r : Row) → Contains rows r → ActiveUntil r.label (value_of r.slot.until) (value_of v.scale) → IsInView r.label v → Contains numbers r.number
+      ((a : Label) (n : ℕ) (u : Ratio) (es : List Entry) (w : View) → IsEnd a (value_of u) → AreEntriesOf n a u es → ActiveUntil a (value_of u) (value_of w.scale) →
+      IsInView a w → IsNumberOf (IsSeen w) es n) → (numbers : List ℕ) → AppendsNumbers (IsSeen v) entries [] numbers → (r : Row) →
+      Contains rows r → ActiveUntil r.label (value_of r.slot.until) (value_of v.scale) → IsInView r.label v → Contains numbers r.number
   found_shown differ ends v law numbers app r there active meets =
       subst (λ (l : List ℕ). Contains l r.number) (sym app.1) (app.2.whole r.number
       (law r.label r.number r.slot.until entries v (All-contains (λ (s : Row). IsEnd s.label (value_of s.slot.until)) rows r ends there) (entries_of_row differ r there) active meets))

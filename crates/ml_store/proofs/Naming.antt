@@ -17,7 +17,8 @@ pub number_of_names : (rows : List Row) → map (λ (x : Name). x.number) (names
 number_of_names rows = map-map (λ (x : Name). x.number) naming_of rows
 
 -- the row that has a name's number has its id
-pub same_name : (rows : List Row) (at : ℕ) (r : Row) (name : Name) → HaveOwnNumbers rows → at < length rows → r ≡ get_or rows at r → r.number ≡ name.number → Contains (names_in rows) name → naming_of r ≡ name
+pub same_name : (rows : List Row) (at : ℕ) (r : Row) (name : Name) → HaveOwnNumbers rows → at < length rows →
+    r ≡ get_or rows at r → r.number ≡ name.number → Contains (names_in rows) name → naming_of r ≡ name
 same_name rows at r name differ lt read same there =
     let some = map_contains naming_of rows name there in
     let s : Row = some.0 in

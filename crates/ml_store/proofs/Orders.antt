@@ -50,7 +50,8 @@ length-shifted order from to a b =
 -- a shift keeps all numbers and changes their places alone
 pub permutation_shifted : (order : List ℕ) (from to : ℕ) → from < length order → IsPermutation order (shifted order from to)
 permutation_shifted order from to lt =
-    IsPermutation-trans order _ _ (IsPermutation-remove order from (get_or order from 0) lt (get_or_default order from 0 (get_or order from 0) lt)) (IsPermutation-insert (remove order from) to (get_or order from 0))
+    IsPermutation-trans order _ _ (IsPermutation-remove order from (get_or order from 0) lt (get_or_default order from 0 (get_or order from 0) lt))
+    (IsPermutation-insert (remove order from) to (get_or order from 0))
 
 -- different numbers still differ after a shift
 pub different_shifted : (order : List ℕ) (from to : ℕ) → from < length order → to < length order → AreDifferent order → AreDifferent (shifted order from to)
@@ -206,7 +207,8 @@ taken_out order used at le lt =
     ])
 
 -- all numbers in their own order, of which the first ones are in use
-pub ordered_first : (order places : List ℕ) (used : ℕ) → used ≤ 32768 → length order ≡ 32768 → length places ≡ 32768 → ((k : ℕ) → k < 32768 → get_or order k 0 ≡ k) → ((k : ℕ) → k < 32768 → get_or places k 0 ≡ k) → AreOrdered order places used
+pub ordered_first : (order places : List ℕ) (used : ℕ) → used ≤ 32768 → length order ≡ 32768 → length places ≡ 32768 →
+    ((k : ℕ) → k < 32768 → get_or order k 0 ≡ k) → ((k : ℕ) → k < 32768 → get_or places k 0 ≡ k) → AreOrdered order places used
 ordered_first order places used few n m is at = record {
   few = few;
   all_numbers = n;

@@ -44,7 +44,8 @@ number_is rows k d lt = get_or-map (λ (t : Row). t.number) rows k d 0 lt
 -- a new slot for a number that no row has changes no row
 pub moved_fresh : (m : Moved) (rows : List Row) → IsFresh m.number rows → moved_rows (m ∷ []) rows ≡ rows
 moved_fresh m rows fresh =
-    none_moved m rows (λ k d lt e. let many = length-map rows (λ (t : Row). t.number) in fresh (k, omega arith, get_or_default (numbers_in rows) k m.number 0 (omega arith) ∙ number_is rows k d lt ∙ e))
+    none_moved m rows (λ k d lt e. let many = length-map rows (λ (t : Row). t.number) in
+    fresh (k, omega arith, get_or_default (numbers_in rows) k m.number 0 (omega arith) ∙ number_is rows k d lt ∙ e))
 
 -- where rows have numbers of their own, a new slot for the number of the row at a place goes to that row alone
 pub moved_at_row : (m : Moved) (rows : List Row) (at : ℕ) → HaveOwnNumbers rows → IsRowAt rows m.number at → moved_rows (m ∷ []) rows ≡ with_slot rows at m.slot

@@ -24,7 +24,8 @@ table_in rows numbers ids ids' at r t numbered by = record {
 }
 
 -- when a row, its number and its name go, the numbers are still those of the rows, in their order and in byte order of ids
-pub table_out : (rows : List Row) (numbers ids ids' : List ℕ) (at : ℕ) → IsTable rows numbers ids → AreNumbered (remove rows at) → AreByName (remove (names_in rows) at) ids' → IsTable (remove rows at) (remove numbers at) ids'
+pub table_out : (rows : List Row) (numbers ids ids' : List ℕ) (at : ℕ) → IsTable rows numbers ids →
+    AreNumbered (remove rows at) → AreByName (remove (names_in rows) at) ids' → IsTable (remove rows at) (remove numbers at) ids'
 table_out rows numbers ids ids' at t numbered by = record {
   numbered = numbered;
   numbers_are = ap (λ ns. remove ns at) t.numbers_are ∙ sym (map_remove (λ (s : Row). s.number) rows at);
@@ -104,7 +105,8 @@ number_from_name rows id n there =
     (s.0, s.1, ap (λ (x : Name). x.id) s.2, ap (λ (x : Name). x.number) s.2)
 
 -- what is found among the numbers is found among the rows
-pub place_found : (rows : List Row) (numbers : List ℕ) (n : ℕ) (found : Option ℕ) → numbers ≡ numbers_in rows → MatchOption found (¬ (Contains numbers n)) (IsAt numbers n) → MatchOption found (IsFresh n rows) (IsRowAt rows n)
+pub place_found : (rows : List Row) (numbers : List ℕ) (n : ℕ) (found : Option ℕ) → numbers ≡ numbers_in rows →
+    MatchOption found (¬ (Contains numbers n)) (IsAt numbers n) → MatchOption found (IsFresh n rows) (IsRowAt rows n)
 place_found rows numbers n None e h = λ there. h (rw e there)
 place_found rows numbers n (Some at) e h =
     let many = length-map rows (λ (r : Row). r.number) in

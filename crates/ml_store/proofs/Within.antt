@@ -13,9 +13,11 @@ use Rattle.ml_store.proofs.Lists.{all_longer, all_shorter}
 use Rattle.ml_ratio.proofs.lemmas.Lists.{added_insert, added_remove}
 
 -- when a row comes in, all labels are within an outline that has room for its label and for all that the old one had room for
-pub within_inserted : (o next : Outline) (rows : List Row) (at : ℕ) (row : Row) → IsWithin next row.label → ((a : Label) → IsWithin o a → IsWithin next a) → AreWithin o rows → AreWithin next (insert rows at row)
+pub within_inserted : (o next : Outline) (rows : List Row) (at : ℕ) (row : Row) → IsWithin next row.label →
+    ((a : Label) → IsWithin o a → IsWithin next a) → AreWithin o rows → AreWithin next (insert rows at row)
 within_inserted o next rows at row new kept within =
-    all_longer (λ (r : Row). IsWithin next r.label) (added_insert rows at row) new (All-weaker (λ (r : Row). IsWithin o r.label) (λ (r : Row). IsWithin next r.label) (λ r h. kept r.label h) rows within)
+    all_longer (λ (r : Row). IsWithin next r.label) (added_insert rows at row) new
+    (All-weaker (λ (r : Row). IsWithin o r.label) (λ (r : Row). IsWithin next r.label) (λ r h. kept r.label h) rows within)
 
 -- when a row goes, the labels of the others are still within the outline
 pub within_removed : (o : Outline) (rows : List Row) (at : ℕ) (row : Row) → at < length rows → row ≡ get_or rows at row → AreWithin o rows → AreWithin o (remove rows at)
@@ -27,4 +29,5 @@ within_slotted o [] at slot within = within
 within_slotted o (r ∷ rows) zero slot within =
     All-cons (λ (r : Row). IsWithin o r.label) (record r { slot = slot }) rows (All-head (λ (r : Row). IsWithin o r.label) r rows within) (All-tail (λ (r : Row). IsWithin o r.label) r rows within)
 within_slotted o (r ∷ rows) (suc at) slot within =
-    All-cons (λ (r : Row). IsWithin o r.label) r (with_slot rows at slot) (All-head (λ (r : Row). IsWithin o r.label) r rows within) (within_slotted o rows at slot (All-tail (λ (r : Row). IsWithin o r.label) r rows within))
+    All-cons (λ (r : Row). IsWithin o r.label) r (with_slot rows at slot) (All-head (λ (r : Row). IsWithin o r.label) r rows within)
+    (within_slotted o rows at slot (All-tail (λ (r : Row). IsWithin o r.label) r rows within))

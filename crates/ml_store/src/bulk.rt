@@ -33,7 +33,8 @@ fn marks_of(alloc: Global, rows: &[Box<Row>], ends: &Ends) -> Result<Marks, Allo
     requires in_turn { AreInTurn (unboxed rows.now) }
     requires ends { ends.now.by_number.items ≡ untils_in (unboxed rows.now) }
     ensures apart { IfOk result (λ marks. AreApart (marked ends.now marks.items)) }
-    ensures kept { IfOk result (λ marks. IsIndex IsEntryIn (unboxed rows.now) (marked ends.now marks.items)) }
+    ensures kept { IfOk result
+        (λ marks. IsIndex IsEntryIn (unboxed rows.now) (marked ends.now marks.items)) }
 {
     let mut marks = Vec::new(alloc);
     for row in rows {
@@ -51,7 +52,8 @@ fn list_pair(
     requires apart { AllPairs (λ one other. one ≢ other) pairs.old.items }
     requires new { (p : Pair) → IsPairBy number blocker p → ¬ (Contains pairs.old.items p) }
     ensures apart { OnOk result (AllPairs (λ one other. one ≢ other) pairs.new.items) }
-    ensures pairs { OnOk result ((p : Pair) → Contains pairs.new.items p ↔ (Contains pairs.old.items p ⊎ IsPairBy number blocker p)) }
+    ensures pairs { OnOk result ((p : Pair) →
+        Contains pairs.new.items p ↔ (Contains pairs.old.items p ⊎ IsPairBy number blocker p)) }
 {
     match blocker {
         Some(b) => {

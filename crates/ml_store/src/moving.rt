@@ -22,11 +22,13 @@ fn write_pair(table: &mut Table, pairs: &mut Pairs, at: usize, slot: Slot)
     requires differ { HaveOwnNumbers table.old.rows }
     requires paired { IsIndex IsPairIn table.old.rows pairs.old.entries }
     requires is_place { at < length table.old.rows }
-    requires room { pair_count slot.blocker ≤ pairs.old.spare + pair_count (slot_at table.old.rows at).blocker }
+    requires room { pair_count slot.blocker
+        ≤ pairs.old.spare + pair_count (slot_at table.old.rows at).blocker }
     ensures paired { IsIndex IsPairIn table.new.rows pairs.new.entries }
     ensures rows { table.new.rows ≡ with_slot table.old.rows at slot }
     ensures labels { table.new.room ≡ table.old.room }
-    ensures blocks { pairs.new.spare + pair_count slot.blocker ≡ pairs.old.spare + pair_count (slot_at table.old.rows at).blocker }
+    ensures blocks { pairs.new.spare + pair_count slot.blocker
+        ≡ pairs.old.spare + pair_count (slot_at table.old.rows at).blocker }
 {
     let row = table.row(at);
     change_pair(pairs, row.number, row.slot.blocker, slot.blocker);
@@ -37,12 +39,14 @@ fn write_pair(table: &mut Table, pairs: &mut Pairs, at: usize, slot: Slot)
 pub fn write_slot(table: &mut Table, grid: &mut Grid, pairs: &mut Pairs, at: usize, slot: Slot)
     requires stored { IsStored table.old.rows grid.old.entries pairs.old.entries }
     requires is_place { at < length table.old.rows }
-    requires room { pair_count slot.blocker ≤ pairs.old.spare + pair_count (slot_at table.old.rows at).blocker }
+    requires room { pair_count slot.blocker
+        ≤ pairs.old.spare + pair_count (slot_at table.old.rows at).blocker }
     ensures stored { IsStored table.new.rows grid.new.entries pairs.new.entries }
     ensures rows { table.new.rows ≡ with_slot table.old.rows at slot }
     ensures labels { table.new.room ≡ table.old.room }
     ensures cells { grid.new.spare ≡ grid.old.spare }
-    ensures blocks { pairs.new.spare + pair_count slot.blocker ≡ pairs.old.spare + pair_count (slot_at table.old.rows at).blocker }
+    ensures blocks { pairs.new.spare + pair_count slot.blocker
+        ≡ pairs.old.spare + pair_count (slot_at table.old.rows at).blocker }
 {
     let row = table.row(at);
     move_entries(grid, row.number, &row.label, row.slot.until, slot.until);

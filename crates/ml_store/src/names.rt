@@ -15,7 +15,8 @@ use std::cmp::Ordering;
 fn id_of<'a>(rows: &'a [Box<Row>], numbers: &Numbers, number: u32) -> &'a Text
     requires numbers { numbers.now ≡ numbers_in (unboxed rows.now) }
     requires live { Contains numbers.now number }
-    ensures { (name : Name) → Contains (names_in (unboxed rows.now)) name → name.number ≡ number → result.now ≡ name.id }
+    ensures { (name : Name) → Contains (names_in (unboxed rows.now)) name →
+        name.number ≡ number → result.now ≡ name.id }
 {
     match numbers.place_of(number) {
         Some(at) => rows[at].label.id(),
@@ -27,7 +28,8 @@ fn id_of<'a>(rows: &'a [Box<Row>], numbers: &Numbers, number: u32) -> &'a Text
 fn is_before(rows: &[Box<Row>], numbers: &Numbers, number: u32, id: &Text) -> bool
     requires numbers { numbers.now ≡ numbers_in (unboxed rows.now) }
     requires live { Contains numbers.now number }
-    ensures { (name : Name) → Contains (names_in (unboxed rows.now)) name → name.number ≡ number → IsTrue result ↔ IsIdBefore name.id id.now }
+    ensures { (name : Name) → Contains (names_in (unboxed rows.now)) name →
+        name.number ≡ number → IsTrue result ↔ IsIdBefore name.id id.now }
 {
     match id_of(rows, numbers, number).cmp(id) {
         Ordering::Less => true,
@@ -60,7 +62,8 @@ pub fn find_id(rows: &[Box<Row>], numbers: &Numbers, ids: &[u32], id: &Text) -> 
     requires numbers { numbers.now ≡ numbers_in (unboxed rows.now) }
     requires differ { HaveOwnNumbers (unboxed rows.now) }
     requires by_name { AreByName (names_in (unboxed rows.now)) ids.now }
-    ensures { MatchOption result (¬ (HaveId (names_in (unboxed rows.now)) id.now)) (λ n. Contains (names_in (unboxed rows.now)) (record { number = n; id = id.now })) }
+    ensures { MatchOption result (¬ (HaveId (names_in (unboxed rows.now)) id.now))
+        (λ n. Contains (names_in (unboxed rows.now)) (record { number = n; id = id.now })) }
 {
     let at = id_place(rows, numbers, ids, id);
     if at < ids.len() && has_id(rows, numbers, ids[at], id) {
@@ -74,7 +77,8 @@ pub fn find_id(rows: &[Box<Row>], numbers: &Numbers, ids: &[u32], id: &Text) -> 
 fn has_id(rows: &[Box<Row>], numbers: &Numbers, number: u32, id: &Text) -> bool
     requires numbers { numbers.now ≡ numbers_in (unboxed rows.now) }
     requires live { Contains numbers.now number }
-    ensures { (name : Name) → Contains (names_in (unboxed rows.now)) name → name.number ≡ number → IsTrue result ↔ (name.id ≡ id.now) }
+    ensures { (name : Name) → Contains (names_in (unboxed rows.now)) name →
+        name.number ≡ number → IsTrue result ↔ (name.id ≡ id.now) }
 {
     *id_of(rows, numbers, number) == *id
 }
@@ -86,7 +90,8 @@ pub fn put_name(rows: &[Box<Row>], numbers: &Numbers, ids: &mut Vec<u32>, number
     requires by_name { AreByName (names_in (unboxed rows.now)) ids.old.items }
     requires new { ¬ (HaveId (names_in (unboxed rows.now)) id.now) }
     requires room { vec_len ids.old < vec_capacity ids.old }
-    ensures by_name { (names : List Name) → IsAdded (record { number = number; id = id.now }) (names_in (unboxed rows.now)) names → AreByName names ids.new.items }
+    ensures by_name { (names : List Name) → IsAdded (record { number = number; id = id.now })
+        (names_in (unboxed rows.now)) names → AreByName names ids.new.items }
     ensures len { vec_len ids.new ≡ vec_len ids.old + 1 }
     ensures capacity { vec_capacity ids.new ≡ vec_capacity ids.old }
 {
@@ -103,7 +108,8 @@ pub fn take_name(rows: &[Box<Row>], numbers: &Numbers, ids: &mut Vec<u32>, id: &
     requires differ { HaveOwnNumbers (unboxed rows.now) }
     requires by_name { AreByName (names_in (unboxed rows.now)) ids.old.items }
     requires live { HaveId (names_in (unboxed rows.now)) id.now }
-    ensures by_name { (at : ℕ) (d : Name) → at < length (names_in (unboxed rows.now)) → (slice_index_or (names_in (unboxed rows.now)) at d).id ≡ id.now →
+    ensures by_name { (at : ℕ) (d : Name) → at < length (names_in (unboxed rows.now)) →
+        (slice_index_or (names_in (unboxed rows.now)) at d).id ≡ id.now →
         AreByName (remove (names_in (unboxed rows.now)) at) ids.new.items }
     ensures len { vec_len ids.new + 1 ≡ vec_len ids.old }
     ensures capacity { vec_capacity ids.new ≡ vec_capacity ids.old }

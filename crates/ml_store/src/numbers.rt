@@ -49,7 +49,8 @@ fn write_places(order: &[u16], places: &mut Vec<u16>, from: usize, to: usize)
     requires within { to ≤ most_labels }
     requires but { ArePlacedBut order.now places.old.items from to }
     ensures all_places { length places.new.items ≡ most_labels }
-    ensures placed { (k : ℕ) → k < most_labels → slice_index places.new.items (slice_index order.now k) ≡ k }
+    ensures placed { (k : ℕ) → k < most_labels →
+        slice_index places.new.items (slice_index order.now k) ≡ k }
 {
     for k in from..to {
         places[order[k] as usize] = k as u16;
@@ -60,7 +61,8 @@ fn write_places(order: &[u16], places: &mut Vec<u16>, from: usize, to: usize)
 fn shift(order: &mut Vec<u16>, from: usize, to: usize)
     requires from_place { from < length order.old.items }
     requires to_place { to < length order.old.items }
-    ensures { order.new.items ≡ insert (remove order.old.items from) to (slice_index order.old.items from) }
+    ensures { order.new.items
+        ≡ insert (remove order.old.items from) to (slice_index order.old.items from) }
 {
     if from < to {
         order[from..to + 1].rotate_left(1);
@@ -72,7 +74,8 @@ fn shift(order: &mut Vec<u16>, from: usize, to: usize)
 // The place of the number, if it is one of the first `used`.
 fn find(order: &[u16], places: &[u16], used: usize, number: u32) -> Option<usize>
     requires { AreOrdered order.now places.now used }
-    ensures { MatchOption result (¬ (Contains (take used order.now) number)) (IsAt (take used order.now) number) }
+    ensures { MatchOption result (¬ (Contains (take used order.now) number))
+        (IsAt (take used order.now) number) }
 {
     if (number as usize) < MOST_LABELS {
         let at = places[number as usize] as usize;
@@ -89,7 +92,8 @@ fn put_in(order: &mut Vec<u16>, places: &mut Vec<u16>, used: usize, at: usize, n
     requires free { ¬ (Contains (take used order.old.items) number) }
     requires low { number < most_labels }
     ensures ordered { AreOrdered order.new.items places.new.items (used + 1) }
-    ensures numbers { take (used + 1) order.new.items ≡ insert (take used order.old.items) at number }
+    ensures numbers { take (used + 1) order.new.items
+        ≡ insert (take used order.old.items) at number }
     ensures few { used < most_labels }
 {
     let from = places[number as usize] as usize;
@@ -126,7 +130,8 @@ impl Numbers {
     pub fn first(alloc: Global, used: usize) -> Result<Numbers, AllocError>
         requires { used ≤ most_labels }
         ensures count { IfOk result (λ numbers. length numbers ≡ used) }
-        ensures ascending { IfOk result (λ numbers. (k : ℕ) → k < used → slice_index numbers k ≡ k) }
+        ensures ascending { IfOk result
+            (λ numbers. (k : ℕ) → k < used → slice_index numbers k ≡ k) }
     {
         let order = all_numbers(alloc)?;
         let places = all_numbers(alloc)?;

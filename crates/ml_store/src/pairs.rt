@@ -14,7 +14,8 @@ pub type Pairs = SpanTree<u32, u32, u32>;
 // Takes out a pair that is there.
 fn take_out(pairs: &mut Pairs, blocker: u32, number: u32)
     requires there { Contains pairs.old.entries (entry_of blocker 0 number) }
-    ensures pairs { (p : Pair) → Contains pairs.new.entries p ↔ (Contains pairs.old.entries p × (¬ (p ≡ entry_of blocker 0 number))) }
+    ensures pairs { (p : Pair) → Contains pairs.new.entries p
+        ↔ (Contains pairs.old.entries p × (¬ (p ≡ entry_of blocker 0 number))) }
     ensures spare { pairs.new.spare ≡ pairs.old.spare + 1 }
 {
     let _there = pairs.remove(&blocker, &0, &number);
@@ -24,7 +25,8 @@ fn take_out(pairs: &mut Pairs, blocker: u32, number: u32)
 fn put_in(pairs: &mut Pairs, blocker: u32, number: u32)
     requires room { 1 ≤ pairs.old.spare }
     requires new { ¬ (Contains pairs.old.entries (entry_of blocker 0 number)) }
-    ensures pairs { (p : Pair) → Contains pairs.new.entries p ↔ (Contains pairs.old.entries p ⊎ (p ≡ entry_of blocker 0 number)) }
+    ensures pairs { (p : Pair) → Contains pairs.new.entries p
+        ↔ (Contains pairs.old.entries p ⊎ (p ≡ entry_of blocker 0 number)) }
     ensures spare { pairs.new.spare + 1 ≡ pairs.old.spare }
 {
     pairs.insert(blocker, 0, number);
@@ -33,7 +35,8 @@ fn put_in(pairs: &mut Pairs, blocker: u32, number: u32)
 /// Takes out the pair of a label and its blocker, if it has one.
 pub fn take_pair(pairs: &mut Pairs, number: u32, blocker: Option<u32>)
     requires there { (p : Pair) → IsPairBy number blocker p → Contains pairs.old.entries p }
-    ensures pairs { (p : Pair) → Contains pairs.new.entries p ↔ (Contains pairs.old.entries p × (¬ (IsPairBy number blocker p))) }
+    ensures pairs { (p : Pair) → Contains pairs.new.entries p
+        ↔ (Contains pairs.old.entries p × (¬ (IsPairBy number blocker p))) }
     ensures spare { pairs.new.spare ≡ pairs.old.spare + pair_count blocker }
 {
     match blocker {
@@ -46,7 +49,8 @@ pub fn take_pair(pairs: &mut Pairs, number: u32, blocker: Option<u32>)
 pub fn put_pair(pairs: &mut Pairs, number: u32, blocker: Option<u32>)
     requires new { (p : Pair) → IsPairBy number blocker p → ¬ (Contains pairs.old.entries p) }
     requires room { pair_count blocker ≤ pairs.old.spare }
-    ensures pairs { (p : Pair) → Contains pairs.new.entries p ↔ (Contains pairs.old.entries p ⊎ IsPairBy number blocker p) }
+    ensures pairs { (p : Pair) →
+        Contains pairs.new.entries p ↔ (Contains pairs.old.entries p ⊎ IsPairBy number blocker p) }
     ensures spare { pairs.new.spare + pair_count blocker ≡ pairs.old.spare }
 {
     match blocker {
@@ -57,9 +61,11 @@ pub fn put_pair(pairs: &mut Pairs, number: u32, blocker: Option<u32>)
 
 /// The pair of a label and its blocker goes, and that with its new blocker comes, if that is another one.
 pub fn change_pair(pairs: &mut Pairs, number: u32, from: Option<u32>, to: Option<u32>)
-    requires its { (p : Pair) → (Contains pairs.old.entries p × (p.value ≡ number)) ↔ IsPairBy number from p }
+    requires its { (p : Pair) →
+        (Contains pairs.old.entries p × (p.value ≡ number)) ↔ IsPairBy number from p }
     requires room { pair_count to ≤ pairs.old.spare + pair_count from }
-    ensures pairs { (p : Pair) → Contains pairs.new.entries p ↔ ((Contains pairs.old.entries p × (¬ (p.value ≡ number))) ⊎ IsPairBy number to p) }
+    ensures pairs { (p : Pair) → Contains pairs.new.entries p
+        ↔ ((Contains pairs.old.entries p × (¬ (p.value ≡ number))) ⊎ IsPairBy number to p) }
     ensures spare { pairs.new.spare + pair_count to ≡ pairs.old.spare + pair_count from }
 {
     if !same_blockers(from, to) {

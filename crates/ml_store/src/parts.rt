@@ -20,7 +20,8 @@ fn put_parts(grid: &mut Grid, pairs: &mut Pairs, row: &Row)
     requires cells { entry_count row.now.label ≤ grid.old.spare }
     requires blocks { pair_count row.now.slot.blocker ≤ pairs.old.spare }
     ensures entries { Adds (IsEntryIn row.now) grid.old.entries grid.new.entries }
-    ensures pairs { (p : Pair) → Contains pairs.new.entries p ↔ (Contains pairs.old.entries p ⊎ IsPairIn row.now p) }
+    ensures pairs { (p : Pair) →
+        Contains pairs.new.entries p ↔ (Contains pairs.old.entries p ⊎ IsPairIn row.now p) }
     ensures cells { grid.new.spare + entry_count row.now.label ≡ grid.old.spare }
     ensures blocks { pairs.new.spare + pair_count row.now.slot.blocker ≡ pairs.old.spare }
 {
@@ -33,7 +34,8 @@ fn take_parts(grid: &mut Grid, pairs: &mut Pairs, row: &Row)
     requires its { AreEntriesOf row.now.number row.now.label row.now.slot.until grid.old.entries }
     requires there { (p : Pair) → IsPairIn row.now p → Contains pairs.old.entries p }
     ensures entries { LosesEntries (IsEntryIn row.now) grid.old.entries grid.new.entries }
-    ensures pairs { (p : Pair) → Contains pairs.new.entries p ↔ (Contains pairs.old.entries p × (¬ (IsPairIn row.now p))) }
+    ensures pairs { (p : Pair) →
+        Contains pairs.new.entries p ↔ (Contains pairs.old.entries p × (¬ (IsPairIn row.now p))) }
     ensures cells { grid.new.spare ≡ grid.old.spare + entry_count row.now.label }
     ensures blocks { pairs.new.spare ≡ pairs.old.spare + pair_count row.now.slot.blocker }
 {

@@ -30,7 +30,8 @@ pub fn find_near(
 ) -> Result<(), AllocError>
     requires band { band ≤ 27 }
     requires kept { IsIndex IsEntryIn rows.now.rows grid.now.entries }
-    ensures ok { OnOk result (Gathers (IsNumberWith (λ r. IsFoundIn label.now r.label band) rows.now.rows) out.old out.new) }
+    ensures ok { OnOk result (Gathers
+        (IsNumberWith (λ r. IsFoundIn label.now r.label band) rows.now.rows) out.old out.new) }
 {
     grid.in_hull(label, band, out)
 }
@@ -63,7 +64,8 @@ fn cells_across(outline: &Outline, label: &Label, band: u8, upto: u8) -> (Cells,
     ensures few { AreFew result.0.x0 result.0.x1 }
     ensures next { (band < result.1) × (result.1 ≤ 28) }
     ensures step { (result.1 ≡ upto + 1) ⊎ (result.1 ≡ band + 1) }
-    ensures whole { (a : Label) (n : ℕ) → IsWithin outline.now a → band ≤ n → n < result.1 → OverlapIn label.now a n → IsKeptAmong result.0 a }
+    ensures whole { (a : Label) (n : ℕ) → IsWithin outline.now a → band ≤ n →
+        n < result.1 → OverlapIn label.now a n → IsKeptAmong result.0 a }
 {
     match outline.across(label, band, upto) {
         Some(cells) => (cells, upto + 1),
@@ -130,7 +132,8 @@ pub fn find_seen<L: Ledger>(
     requires ends { All (λ r. IsEnd r.label (value_of r.slot.until)) table.now.rows }
     ensures near { IfOk result (AreNearNumbers table.now.rows view.now) }
     ensures shown { IfOk result (λ numbers. (r : Row) → Contains table.now.rows r →
-        ActiveUntil r.label (value_of r.slot.until) (value_of view.now.scale) → IsInView r.label view.now → Contains numbers r.number) }
+        ActiveUntil r.label (value_of r.slot.until) (value_of view.now.scale) →
+        IsInView r.label view.now → Contains numbers r.number) }
     ensures spent { IfOk result (λ numbers. looks.new ≡ looks.old + length numbers) }
 {
     seen_are_near();

@@ -82,7 +82,8 @@ impl Store {
         requires few { length rows.items ≤ most_labels }
         requires in_turn { AreInTurn (unboxed rows.items) }
         requires own_ids { HaveOwnIds (unboxed rows.items) }
-        ensures { IfOk result (λ s. s ≡ record { rows = unboxed rows.items; labels = 0; cells = 0; blocks = 0 }) }
+        ensures { IfOk result
+            (λ s. s ≡ record { rows = unboxed rows.items; labels = 0; cells = 0; blocks = 0 }) }
     {
         let outline = outline_of(rows.as_slice());
         let pairs = blocker_index_of(alloc, rows.as_slice())?;
@@ -109,7 +110,8 @@ impl Store {
         requires { at < length self.now.rows }
         ensures row { HoldsAt (λ r. r ≡ result.now) self.now.rows at }
         ensures number { number_at self.now.rows at ≡ result.now.number }
-        ensures label { (d : Label) → slice_index_or (labels_in self.now.rows) at d ≡ result.now.label }
+        ensures label { (d : Label) →
+            slice_index_or (labels_in self.now.rows) at d ≡ result.now.label }
         ensures slot { slot_at self.now.rows at ≡ result.now.slot }
         ensures numbered { AreNumbered self.now.rows }
     {
@@ -126,7 +128,8 @@ impl Store {
 
     /// The number of the label with this id; none where no label has it.
     pub fn number_of(&self, id: &Text) -> Option<u32>
-        ensures { MatchOption result (¬ (HasId (labels_in self.now.rows) id.now)) (IsNumberOf self.now.rows id.now) }
+        ensures { MatchOption result (¬ (HasId (labels_in self.now.rows) id.now))
+            (IsNumberOf self.now.rows id.now) }
     {
         self.table.number_of(id)
     }
@@ -175,11 +178,13 @@ impl Store {
     /// The label at `at` gets another slot. It takes no memory and cannot fail.
     pub fn set_slot(&mut self, at: usize, slot: Slot)
         requires is_place { at < length self.old.rows }
-        requires room { pair_count slot.blocker ≤ self.old.blocks + pair_count (slot_at self.old.rows at).blocker }
+        requires room { pair_count slot.blocker
+            ≤ self.old.blocks + pair_count (slot_at self.old.rows at).blocker }
         ensures rows { self.new.rows ≡ with_slot self.old.rows at slot }
         ensures labels { self.new.labels ≡ self.old.labels }
         ensures cells { self.new.cells ≡ self.old.cells }
-        ensures blocks { self.new.blocks + pair_count slot.blocker ≡ self.old.blocks + pair_count (slot_at self.old.rows at).blocker }
+        ensures blocks { self.new.blocks + pair_count slot.blocker
+            ≡ self.old.blocks + pair_count (slot_at self.old.rows at).blocker }
     {
         write_slot(&mut self.table, &mut self.grid, &mut self.pairs, at, slot);
     }
@@ -201,9 +206,11 @@ impl Store {
     /// # Errors
     /// Out of memory, which leaves the labels; the room may have grown.
     pub fn reserve(&mut self, labels: usize, cells: usize, blocks: usize) -> Result<(), AllocError>
-        ensures ok { OnOk result ((labels ≤ self.new.labels) × (cells ≤ self.new.cells) × (blocks ≤ self.new.blocks)) }
+        ensures ok { OnOk result
+            ((labels ≤ self.new.labels) × (cells ≤ self.new.cells) × (blocks ≤ self.new.blocks)) }
         ensures rows { self.new.rows ≡ self.old.rows }
-        ensures room { (self.old.labels ≤ self.new.labels) × (self.old.cells ≤ self.new.cells) × (self.old.blocks ≤ self.new.blocks) }
+        ensures room { (self.old.labels ≤ self.new.labels)
+            × (self.old.cells ≤ self.new.cells) × (self.old.blocks ≤ self.new.blocks) }
     {
         self.table.reserve(labels)?;
         self.grid.reserve(cells)?;
@@ -239,7 +246,8 @@ impl Store {
     /// Out of memory.
     pub fn near(&self, label: &Label, band: u8, out: &mut Seq<u32>) -> Result<(), AllocError>
         requires { band ≤ 27 }
-        ensures ok { OnOk result (Gathers (IsNumberWith (λ r. IsFoundIn label.now r.label band) self.now.rows) out.old out.new) }
+        ensures ok { OnOk result (Gathers
+            (IsNumberWith (λ r. IsFoundIn label.now r.label band) self.now.rows) out.old out.new) }
     {
         find_near(&self.table, &self.grid, label, band, out)
     }
@@ -258,7 +266,8 @@ impl Store {
     ) -> Result<Seq<u32>, AllocError>
         requires { band ≤ 27 }
         ensures whole { IfOk result (AreOverlapping self.now.rows label.now band scale.now) }
-        ensures live { IfOk result (λ numbers. (n : ℕ) → Contains numbers n → IsLive self.now.rows n) }
+        ensures live { IfOk result
+            (λ numbers. (n : ℕ) → Contains numbers n → IsLive self.now.rows n) }
     {
         find_overlapping(
             alloc,
@@ -288,7 +297,8 @@ impl Store {
         requires upto { upto ≤ 27 }
         ensures next { IfOk result (λ found. (band < found.1) × (found.1 ≤ 28)) }
         ensures step { IfOk result (λ found. (found.1 ≡ upto + 1) ⊎ (found.1 ≡ band + 1)) }
-        ensures whole { IfOk result (λ found. AreAcross self.now.rows label.now band found.1 found.0) }
+        ensures whole { IfOk result
+            (λ found. AreAcross self.now.rows label.now band found.1 found.0) }
     {
         find_across(
             alloc,
@@ -342,7 +352,8 @@ impl Store {
         requires { All (λ r. IsEnd r.label (value_of r.slot.until)) self.now.rows }
         ensures near { IfOk result (AreNearNumbers self.now.rows view.now) }
         ensures shown { IfOk result (λ numbers. (r : Row) → Contains self.now.rows r →
-            ActiveUntil r.label (value_of r.slot.until) (value_of view.now.scale) → IsInView r.label view.now → Contains numbers r.number) }
+            ActiveUntil r.label (value_of r.slot.until) (value_of view.now.scale) →
+            IsInView r.label view.now → Contains numbers r.number) }
         ensures spent { IfOk result (λ numbers. looks.new ≡ looks.old + length numbers) }
     {
         find_seen(alloc, &self.table, &self.grid, view, looks)

@@ -169,7 +169,8 @@ impl Table {
 
     /// The number of the label with this id; none where no label has it.
     pub fn number_of(&self, id: &Text) -> Option<u32>
-        ensures { MatchOption result (¬ (HasId (labels_in self.now.rows) id.now)) (IsNumberOf self.now.rows id.now) }
+        ensures { MatchOption result (¬ (HasId (labels_in self.now.rows) id.now))
+            (IsNumberOf self.now.rows id.now) }
     {
         find_id(&self.rows, &self.numbers, &self.ids, id)
     }

@@ -13,7 +13,8 @@ use Rattle.ml_style.specs.Font.{advance_of}
 use Rattle.ml_style.proofs.Searching.{found, found_none, sorted_below}
 
 -- the advance at a place that has the character
-pub own : (font : Font) (advances : List Advance) (i ch : ℕ) (d : Advance) → advances ≡ font.advances → i < length advances → nat_cmp (get_or advances i d).ch ch ≡ Equal → (get_or advances i d).width ≡ advance_of font ch
+pub own : (font : Font) (advances : List Advance) (i ch : ℕ) (d : Advance) → advances ≡ font.advances →
+    i < length advances → nat_cmp (get_or advances i d).ch ch ≡ Equal → (get_or advances i d).width ≡ advance_of font ch
 own font advances i ch d e l h =
     let same : (get_or font.advances i d).ch ≡ ch = rw e at (let k : (get_or advances i d).ch ≡ ch = grind (arith, nat_tests) in k) in
     let below : i < length font.advances = rw e at l in
@@ -44,8 +45,11 @@ differs x ch (inl less) = grind (arith, nat_tests)
 differs x ch (inr more) = grind (arith, nat_tests)
 
 -- where no place has the character, the fallback
-pub fallback : (font : Font) (advances : List Advance) (i ch : ℕ) → advances ≡ font.advances → (IsNonDecreasingBy (λ y. ordering_index (nat_cmp y.ch ch)) advances → IsPartitionPoint (λ y. nat_cmp y.ch ch ≡ Less) (λ y. nat_cmp y.ch ch ≡ Greater) advances i) → font.fallback ≡ advance_of font ch
+pub fallback : (font : Font) (advances : List Advance) (i ch : ℕ) → advances ≡ font.advances →
+    (IsNonDecreasingBy (λ y. ordering_index (nat_cmp y.ch ch)) advances → IsPartitionPoint (λ y. nat_cmp y.ch ch ≡ Less) (λ y. nat_cmp y.ch ch ≡ Greater) advances i) →
+    font.fallback ≡ advance_of font ch
 fallback font advances i ch e h =
     let parts = h (λ a b d x y. index_rises (get_or advances a d).ch (get_or advances b d).ch ch (in_order advances a b d (rw e font.ascending) x y)) in
-    let none : find (λ (a : Advance). eqb a.ch ch) advances ≡ None = found_none (λ (a : Advance). a.ch) advances ch (λ k d l. differs (get_or advances k d).ch ch (elim (cases_lt k i) [ inl before ↦ inl (parts.0 k d (omega arith) before) | inr after ↦ inr (parts.1 k d after l) ])) in
+    let none : find (λ (a : Advance). eqb a.ch ch) advances ≡ None = found_none (λ (a : Advance). a.ch) advances ch
+    (λ k d l. differs (get_or advances k d).ch ch (elim (cases_lt k i) [ inl before ↦ inl (parts.0 k d (omega arith) before) | inr after ↦ inr (parts.1 k d after l) ])) in
     ap (λ (o : Option Advance). option_map_or (λ a. a.width) o font.fallback) (sym none) ∙ ap (λ (xs : List Advance). option_map_or (λ a. a.width) (find (λ a. eqb a.ch ch) xs) font.fallback) e

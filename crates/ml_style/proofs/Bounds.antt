@@ -38,7 +38,8 @@ low None r h l = absurd cc
 low (Some p) r h l =
     let within = h.0 in
     let small : p.0 ≤ 268435456 * p.1 = below p.0 p.1 r.num r.den h.1 r.positive l in
-    let t : is_bound p ≡ true = both4 (nat_lt 0 p.1) (nat_le p.1 65536) (nat_le p.0 4294967296) (nat_le p.0 (268435456 * p.1)) (le-leb 1 p.1 within.positive) (le-leb p.1 65536 within.low_den) (le-leb p.0 4294967296 within.low_num) (le-leb p.0 (268435456 * p.1) small) in
+    let t : is_bound p ≡ true = both4 (nat_lt 0 p.1) (nat_le p.1 65536) (nat_le p.0 4294967296) (nat_le p.0 (268435456 * p.1))
+    (le-leb 1 p.1 within.positive) (le-leb p.1 65536 within.low_den) (le-leb p.0 4294967296 within.low_num) (le-leb p.0 (268435456 * p.1) small) in
     rw t (within.positive, h.1)
 
 -- what is read and too great is none

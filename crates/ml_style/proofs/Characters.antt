@@ -88,7 +88,8 @@ last_two_rise a b h e = past_head (last (a / 64)) (last (b / 64)) (last a ∷ []
 from_three : (a b : ℕ) → 2048 ≤ a → a < 65536 → a < b → IsBefore (encode a) (encode b)
 from_three a b l k h =
     elim (cases_lt b 65536) [
-      | inl z ↦ rw (three a l k, three b (omega arith) z) (past_head (224 + a / 4096) (224 + b / 4096) (last (a / 64) ∷ last a ∷ []) (last (b / 64) ∷ last b ∷ []) (omega arith) (λ e. last_two_rise a b h (omega arith)))
+      | inl z ↦ rw (three a l k, three b (omega arith) z) (past_head (224 + a / 4096) (224 + b / 4096)
+          (last (a / 64) ∷ last a ∷ []) (last (b / 64) ∷ last b ∷ []) (omega arith) (λ e. last_two_rise a b h (omega arith)))
       | inr z ↦ rw (three a l k, four b z) (at_head (224 + a / 4096) (240 + b / 262144) (last (a / 64) ∷ last a ∷ []) (last (b / 4096) ∷ last (b / 64) ∷ last b ∷ []) (omega arith))
     ]
 
@@ -113,5 +114,6 @@ less_from_bytes a b h =
     elim (cases_order a b) [
       | inl same ↦ (let e : slice_cmp nat_cmp (encode a) (encode b) ≡ Equal = rw same (tied_itself nat_list_cmp_total (encode b)) in absurd (let no : Less ≡ Equal = sym h ∙ e in cc))
       | inr (inl less) ↦ grind (arith, nat_tests)
-      | inr (inr more) ↦ (let e : slice_cmp nat_cmp (encode a) (encode b) ≡ Greater = nat_list_cmp_total.antisymm (encode a) (encode b) ∙ ap ordering_reverse (rises b a more) in absurd (let no : Less ≡ Greater = sym h ∙ e in cc))
+      | inr (inr more) ↦ (let e : slice_cmp nat_cmp (encode a) (encode b) ≡ Greater = nat_list_cmp_total.antisymm (encode a) (encode b)
+          ∙ ap ordering_reverse (rises b a more) in absurd (let no : Less ≡ Greater = sym h ∙ e in cc))
     ]

@@ -18,7 +18,8 @@ use Rattle.ml_style.specs.declared.fonts.NamedFont.{NamedFont}
 use Rattle.ml_style.specs.declared.fault.StyleFault.{StyleFault}
 use Rattle.ml_style.specs.declared.fault.StyleFault.TheVariants.{UnknownFont, EmptyRange}
 
-known_at : (same : Bool) (f : NamedFont) (rest : Option NamedFont) (more : Bool) → is_some (option_map (λ (g : NamedFont). g.font) rest) ≡ more → is_some (option_map (λ (g : NamedFont). g.font) (cond same (Some f) rest)) ≡ (same || more)
+known_at : (same : Bool) (f : NamedFont) (rest : Option NamedFont) (more : Bool) → is_some (option_map (λ (g : NamedFont). g.font) rest) ≡ more →
+    is_some (option_map (λ (g : NamedFont). g.font) (cond same (Some f) rest)) ≡ (same || more)
 known_at true f rest more e = refl
 known_at false f rest more e = e
 
@@ -28,7 +29,8 @@ is_known [] name = refl
 is_known (f ∷ fonts) name = known_at (bytes_eq f.name name) f (find (λ (g : NamedFont). bytes_eq g.name name) fonts) (list_any (λ n. bytes_eq n name) (names_of fonts)) (is_known fonts name)
 
 -- what a search for a font says of the names
-pub known_if : (fonts : List NamedFont) (name : List ℕ) (o : Option (Bor Font)) (b : Bool) → option_copied o ≡ font_named fonts name → is_some o ≡ b → list_any (λ n. bytes_eq n name) (names_of fonts) ≡ b
+pub known_if : (fonts : List NamedFont) (name : List ℕ) (o : Option (Bor Font)) (b : Bool) →
+    option_copied o ≡ font_named fonts name → is_some o ≡ b → list_any (λ n. bytes_eq n name) (names_of fonts) ≡ b
 known_if fonts name None b e h = sym (is_known fonts name) ∙ ap is_some (sym e) ∙ h
 known_if fonts name (Some f) b e h = sym (is_known fonts name) ∙ ap is_some (sym e) ∙ h
 
@@ -75,14 +77,15 @@ module _ (version : ℕ) (names : List (List ℕ)) (k : ℕ) (t : Members) where
   after_range kind h e f g = after_placing kind h e f ∙ ap (λ (x : List StyleFault). x ++ late_faults) g
 
   -- the faults of a class whose fields all have values
-  pub after_margin : (kind : Kind) (font : List ℕ) (min max : Ratio) → look_faults k t ≡ [] → kind_in t ≡ Some kind → placing_faults k (Some kind) t ≡ [] → range_faults k t ≡ [] → margin_faults version k t ≡ []
-      → font_in t ≡ Some font → AreSame (min_in t) (Some min) → AreSame (max_in t) (Some max)
-      → faults_in version names k t ≡ use_faults names k font min max
+  pub after_margin : (kind : Kind) (font : List ℕ) (min max : Ratio) → look_faults k t ≡ [] → kind_in t ≡ Some kind →
+      placing_faults k (Some kind) t ≡ [] → range_faults k t ≡ [] → margin_faults version k t ≡ [] → font_in t ≡ Some font →
+      AreSame (min_in t) (Some min) → AreSame (max_in t) (Some max) → faults_in version names k t ≡ use_faults names k font min max
   after_margin kind font min max h e f g j i a b =
       let m = same_none (min_in t) min a in
       let n = same_none (max_in t) max b in
       let same : is_empty_range (min_in t) (max_in t) ≡ is_at_most max min = rw (m.1, n.1) (same_order m.0 n.0 min max m.2 n.2) in
-      after_range kind h e f g ∙ ap (λ (x : List StyleFault). x ++ last_faults) j ∙ ap (λ (o : Option (List ℕ)). fault_if (is_unknown names o) (UnknownFont k) ++ fault_if (is_empty_range (min_in t) (max_in t)) (EmptyRange k)) i
+      after_range kind h e f g ∙ ap (λ (x : List StyleFault). x ++ last_faults) j
+      ∙ ap (λ (o : Option (List ℕ)). fault_if (is_unknown names o) (UnknownFont k) ++ fault_if (is_empty_range (min_in t) (max_in t)) (EmptyRange k)) i
       ∙ ap (λ (b : Bool). fault_if (is_unknown names (Some font)) (UnknownFont k) ++ fault_if b (EmptyRange k)) same
 
 -- a field that is read for the kind of a class is that of the class

@@ -22,7 +22,8 @@ use Rattle.ml_style.proofs.Refusals.{refuses_on}
 use Rattle.ml_style.specs.declared.fonts.NamedFont.{NamedFont}
 
 -- a key before the keys of a table of fonts is before all of their names
-before_all : (key : String Global) (es : List Entry) (fonts : List NamedFont) → AllByRecursion (λ y. string_cmp key y ≡ Less) (keys_of es) → AreFonts (members_view es) fonts → AllByRecursion (λ y. slice_cmp nat_cmp (string_bytes key) y ≡ Less) (map (λ f. f.name) fonts)
+before_all : (key : String Global) (es : List Entry) (fonts : List NamedFont) → AllByRecursion (λ y. string_cmp key y ≡ Less) (keys_of es) →
+    AreFonts (members_view es) fonts → AllByRecursion (λ y. slice_cmp nat_cmp (string_bytes key) y ≡ Less) (map (λ f. f.name) fonts)
 before_all key [] [] h a = tt
 before_all key [] (f ∷ fonts) h a = absurd a
 before_all key (m ∷ es) [] h a = absurd a
@@ -61,7 +62,8 @@ flipped : (k l : List ℕ) → slice_cmp nat_cmp k l ≡ Less → slice_cmp nat_
 flipped k l h = nat_list_cmp_total.antisymm l k ∙ ap ordering_reverse h
 
 -- a key before the keys of a table comes before all of its names that stand for no font
-before_least : (key : String Global) (es : List Entry) (name : List ℕ) → AllByRecursion (λ y. string_cmp key y ≡ Less) (keys_of es) → least (bad_names (members_view es)) ≡ Some name → slice_cmp nat_cmp name (string_bytes key) ≡ Greater
+before_least : (key : String Global) (es : List Entry) (name : List ℕ) → AllByRecursion (λ y. string_cmp key y ≡ Less) (keys_of es) →
+    least (bad_names (members_view es)) ≡ Some name → slice_cmp nat_cmp name (string_bytes key) ≡ Greater
 before_least key [] name h e = absurd cc
 before_least key (m ∷ es) name h e =
     elim (cases_Bool (is_font (view m.1))) [
@@ -92,7 +94,8 @@ past_font m es none =
     ]
 
 -- the refusal of the first font is that of all
-pub refused_font : (e : StyleFault) (m : Entry) (es : List Entry) → IsStrictlySortedBy string_cmp (keys_of (m ∷ es)) → Refuses e (fault_if (not (is_font (view m.1))) (BadFont (string_bytes m.0))) → Refuses e (font_faults (members_view (m ∷ es)))
+pub refused_font : (e : StyleFault) (m : Entry) (es : List Entry) → IsStrictlySortedBy string_cmp (keys_of (m ∷ es)) →
+    Refuses e (fault_if (not (is_font (view m.1))) (BadFont (string_bytes m.0))) → Refuses e (font_faults (members_view (m ∷ es)))
 refused_font e m es h r =
     elim (cases_Bool (is_font (view m.1))) [
       | inl t ↦ (let none : Refuses e [] = rw t at r in refuses_on e [] (font_faults (members_view (m ∷ es))) none)

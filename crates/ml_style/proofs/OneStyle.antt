@@ -121,7 +121,8 @@ one_rule fields (Some a) None p q = absurd (no_rule_at_all fields a q p)
 one_rule fields (Some a) (Some b) p q =
     ap Some (same_rule a b (one_value _ _ _ p.2 q.2) (p.1 ∙ ap Str (one_value _ _ _ p.3 q.3) ∙ sym q.1))
 
-same_class : (a b : Class) → a.kind ≡ b.kind → a.rule ≡ b.rule → a.font ≡ b.font → a.size ≡ b.size → a.priority ≡ b.priority → a.scale_ref ≡ b.scale_ref → a.dx ≡ b.dx → a.dy ≡ b.dy → a.min ≡ b.min → a.max ≡ b.max → a.margin ≡ b.margin → a ≡ b
+same_class : (a b : Class) → a.kind ≡ b.kind → a.rule ≡ b.rule → a.font ≡ b.font → a.size ≡ b.size → a.priority ≡ b.priority →
+    a.scale_ref ≡ b.scale_ref → a.dx ≡ b.dx → a.dy ≡ b.dy → a.min ≡ b.min → a.max ≡ b.max → a.margin ≡ b.margin → a ≡ b
 same_class a b kind rule font size priority scale_ref dx dy min max margin i =
     record {
       kind = kind i;
@@ -151,7 +152,8 @@ same_class a b kind rule font size priority scale_ref dx dy min max margin i =
 one_class_in : (version : ℕ) (fields : Members) (a b : Class) → IsClassIn version fields a → IsClassIn version fields b → a ≡ b
 one_class_in version fields a b p q =
     same_class a b (one_value _ _ _ p.kind q.kind) (one_rule fields a.rule b.rule p.rule q.rule) (one_value _ _ _ p.font q.font) (one_value _ _ _ p.size q.size) (one_value _ _ _ p.priority q.priority)
-    (one_value _ _ _ p.scale_ref q.scale_ref) (one_value _ _ _ p.dx q.dx) (one_value _ _ _ p.dy q.dy) (one_bound _ a.min b.min p.min q.min) (one_bound _ a.max b.max p.max q.max) (one_value _ _ _ p.margin q.margin)
+    (one_value _ _ _ p.scale_ref q.scale_ref) (one_value _ _ _ p.dx q.dx) (one_value _ _ _ p.dy q.dy)
+    (one_bound _ a.min b.min p.min q.min) (one_bound _ a.max b.max p.max q.max) (one_value _ _ _ p.margin q.margin)
 
 one_class : (version : ℕ) (value : Data) (a b : Class) → IsClassOf version value a → IsClassOf version value b → a ≡ b
 one_class version (table fields) a b p q = one_class_in version fields a b p q

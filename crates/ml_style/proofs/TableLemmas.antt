@@ -26,7 +26,8 @@ abbrev pub after : {X : Type 0} → List X → Option (List X) → Option (List 
 after front rest = option_map (λ xs. front ++ xs) rest
 
 -- one more advance
-pub one_more : (done : List Advance) (a : Advance) (found : Option (ℕ × ℕ)) (rest : Option (List (ℕ × ℕ))) → Some (pair_of a) ≡ found → after (map pair_of (done ++ a ∷ [])) rest ≡ after (map pair_of done) (before found rest)
+pub one_more : (done : List Advance) (a : Advance) (found : Option (ℕ × ℕ)) (rest : Option (List (ℕ × ℕ))) →
+    Some (pair_of a) ≡ found → after (map pair_of (done ++ a ∷ [])) rest ≡ after (map pair_of done) (before found rest)
 one_more done a found None e = rw (← e) refl
 one_more done a found (Some ys) e = rw (← e) (ap Some (ap (λ t. t ++ ys) (map-append pair_of done (a ∷ [])) ∙ append_assoc (map pair_of done) (pair_of a ∷ []) ys))
 
@@ -57,7 +58,8 @@ key_char : (key : List ℕ) (width : Data) (a : Advance) → advance_in key widt
 key_char key width a e = key_char_at (only_char key) (option_and_then (bounded 0 65535) (as_integer width)) a e
 
 -- a character before the first key of a table of advances is before all of its characters
-below_all : (key : String Global) (c : ℕ) (es : List Entry) (as' : List Advance) → string_bytes key ≡ encode c → AllByRecursion (λ y. string_cmp key y ≡ Less) (keys_of es) → advances_of (members_view es) ≡ Some (map pair_of as') → AllByRecursion (λ y. nat_cmp c y ≡ Less) (map (λ a. a.ch) as')
+below_all : (key : String Global) (c : ℕ) (es : List Entry) (as' : List Advance) → string_bytes key ≡ encode c → AllByRecursion (λ y. string_cmp key y ≡ Less) (keys_of es) →
+    advances_of (members_view es) ≡ Some (map pair_of as') → AllByRecursion (λ y. nat_cmp c y ≡ Less) (map (λ a. a.ch) as')
 below_all key c [] [] k h e = tt
 below_all key c [] (a ∷ as') k h e = absurd cc
 below_all key c (m ∷ es) [] k h e =

@@ -48,7 +48,8 @@ fn kind_named(name: &str) -> Option<Kind>
 /// # Errors
 /// BadClass with the part that is none, the key first; out of memory.
 pub(crate) fn rule_in(alloc: Global, k: usize, class: &Table) -> Result<Option<Prop>, StyleFault>
-    ensures rule { Answers result (rule_faults k (table_view class.now)) (IsRuleOf (table_view class.now)) }
+    ensures rule { Answers result (rule_faults k (table_view class.now))
+        (IsRuleOf (table_view class.now)) }
     ensures text { IfOk result IsRule }
 {
     if member_of(class, "key").is_none() && member_of(class, "value").is_none() {
@@ -153,7 +154,8 @@ fn bound(text: &str) -> Option<Ratio>
 // The bound, where it is above 0.
 fn above_zero(bound: Ratio) -> Option<Ratio>
     requires { bound.num ≤ 2 ^ 28 * bound.den }
-    ensures value { (p : ℕ × ℕ) → AreSame (Some p) (Some bound) → AreSame (above_zero_there p) result }
+    ensures value { (p : ℕ × ℕ) → AreSame (Some p) (Some bound) →
+        AreSame (above_zero_there p) result }
     ensures low { IfSome result (λ r. r.num ≤ 2 ^ 28 * r.den) }
 {
     if bound.num() > 0 { Some(bound) } else { None }

@@ -26,7 +26,8 @@ pub(crate) fn read_look<'a>(
     k: usize,
     class: &'a Table,
 ) -> Result<Look<'a>, StyleFault>
-    ensures { Answers result (look_faults k (table_view class.now)) (IsLookIn (table_view class.now)) }
+    ensures { Answers result (look_faults k (table_view class.now))
+        (IsLookIn (table_view class.now)) }
 {
     Ok(Look {
         kind: field(alloc, k, "geometry", kind_in(class))?,
@@ -47,7 +48,8 @@ pub(crate) fn read_placing(
     class: &Table,
     kind: Kind,
 ) -> Result<Placing, StyleFault>
-    ensures { Answers result (placing_faults k (Some kind) (table_view class.now)) (IsPlacingIn kind (table_view class.now)) }
+    ensures { Answers result (placing_faults k (Some kind) (table_view class.now))
+        (IsPlacingIn kind (table_view class.now)) }
 {
     Ok(Placing {
         scale_ref: field(alloc, k, "ref", ref_in(class, kind))?,
@@ -66,7 +68,8 @@ pub(crate) fn read_range(
     k: usize,
     class: &Table,
 ) -> Result<(Ratio, Ratio), StyleFault>
-    ensures range { Answers result (range_faults k (table_view class.now)) (IsRangeIn (table_view class.now)) }
+    ensures range { Answers result (range_faults k (table_view class.now))
+        (IsRangeIn (table_view class.now)) }
     ensures low { IfOk result (λ range. range.1.num ≤ 2 ^ 28 * range.1.den) }
 {
     let min = field(alloc, k, "min", min_in(class))?;
@@ -84,7 +87,8 @@ pub(crate) fn read_margin(
     class: &Table,
     version: u32,
 ) -> Result<u32, StyleFault>
-    ensures margin { Answers result (margin_faults version k (table_view class.now)) (λ margin. margin_for version (table_view class.now) ≡ Some margin) }
+    ensures margin { Answers result (margin_faults version k (table_view class.now))
+        (λ margin. margin_for version (table_view class.now) ≡ Some margin) }
     ensures low { IfOk result (λ margin. margin ≤ 64) }
 {
     field(alloc, k, "margin", margin_in(class, version))

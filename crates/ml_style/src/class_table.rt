@@ -25,7 +25,8 @@ pub(crate) fn read_classes(
     fonts: &[NamedFont],
     values: &[Value],
 ) -> Result<Seq<Class>, StyleFault>
-    ensures classes { Answers result (classes_faults version (names_of fonts.now) 0 (items_view values.now)) (AreClasses version (items_view values.now)) }
+    ensures classes { Answers result (classes_faults version (names_of fonts.now) 0
+        (items_view values.now)) (AreClasses version (items_view values.now)) }
     ensures known { IfOk result (All (HasFont fonts.now)) }
 {
     let mut classes = Seq::new(alloc);
@@ -43,7 +44,8 @@ fn read_class(
     k: usize,
     value: &Value,
 ) -> Result<Class, StyleFault>
-    ensures { Answers result (class_faults version (names_of fonts.now) k (view value.now)) (IsClassOver version fonts.now (view value.now)) }
+    ensures { Answers result (class_faults version (names_of fonts.now) k (view value.now))
+        (IsClassOver version fonts.now (view value.now)) }
 {
     match value.as_table() {
         Some(table) => read_fields(alloc, version, fonts, k, table),
@@ -59,7 +61,8 @@ fn read_fields(
     k: usize,
     table: &Table,
 ) -> Result<Class, StyleFault>
-    ensures { Answers result (faults_in version (names_of fonts.now) k (table_view table.now)) (IsClassWith version fonts.now (table_view table.now)) }
+    ensures { Answers result (faults_in version (names_of fonts.now) k (table_view table.now))
+        (IsClassWith version fonts.now (table_view table.now)) }
 {
     let Look {
         kind,
@@ -95,7 +98,8 @@ fn check(
     min: &Ratio,
     max: &Ratio,
 ) -> Result<(), StyleFault>
-    ensures { Answers result (use_faults (names_of fonts.now) k font.now min.now max.now) (λ _. IsUsable fonts.now font.now min.now max.now) }
+    ensures { Answers result (use_faults (names_of fonts.now) k font.now min.now max.now)
+        (λ _. IsUsable fonts.now font.now min.now max.now) }
 {
     if find_font(fonts, font).is_none() {
         return Err(StyleFault::UnknownFont(k));

@@ -40,7 +40,8 @@ pub(crate) fn read_font(alloc: Global, value: &Value) -> Result<Option<Font>, Al
 
 // The advances of a font's table, of which there need be none.
 fn advances_in(alloc: Global, font: &Table) -> Result<Option<Seq<Advance>>, AllocError>
-    ensures value { IfOk result (λ found. option_map (map pair_of) found ≡ advances_there (table_view font.now)) }
+    ensures value { IfOk result
+        (λ found. option_map (map pair_of) found ≡ advances_there (table_view font.now)) }
     ensures ascending { IfOk result (λ found. MatchOption found (Unit {0}) AreAscending) }
 {
     let Some(value) = member_of(font, "advances") else {
@@ -54,7 +55,8 @@ fn advances_in(alloc: Global, font: &Table) -> Result<Option<Seq<Advance>>, Allo
 
 // The advances of a table of them, if each member is one.
 fn read_advances(alloc: Global, table: &Table) -> Result<Option<Seq<Advance>>, AllocError>
-    ensures value { IfOk result (λ found. option_map (map pair_of) found ≡ advances_of (table_view table.now)) }
+    ensures value { IfOk result
+        (λ found. option_map (map pair_of) found ≡ advances_of (table_view table.now)) }
     ensures ascending { IfOk result (λ found. MatchOption found (Unit {0}) AreAscending) }
 {
     let mut advances = Seq::new(alloc);

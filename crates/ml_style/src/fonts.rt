@@ -35,7 +35,8 @@ pub(crate) fn find_font<'a>(fonts: &'a [NamedFont], name: &str) -> Option<&'a Fo
 /// # Errors
 /// The first member that is no font; out of memory.
 pub(crate) fn read_fonts(alloc: Global, table: &Table) -> Result<Seq<NamedFont>, StyleFault>
-    ensures fonts { Answers result (font_faults (table_view table.now)) (AreFonts (table_view table.now)) }
+    ensures fonts { Answers result (font_faults (table_view table.now))
+        (AreFonts (table_view table.now)) }
     ensures ascending { IfOk result AreAscending }
 {
     let mut fonts = Seq::new(alloc);
@@ -47,7 +48,9 @@ pub(crate) fn read_fonts(alloc: Global, table: &Table) -> Result<Seq<NamedFont>,
 
 // The font of this name that the value writes.
 fn named_font(alloc: Global, name: &str, value: &Value) -> Result<NamedFont, StyleFault>
-    ensures { Answers result (fault_if (not (is_font (view value.now))) (StyleFault.BadFont name.now)) (λ named. (named.name ≡ name.now) × IsFontOf (view value.now) named.font) }
+    ensures { Answers result
+        (fault_if (not (is_font (view value.now))) (StyleFault.BadFont name.now))
+        (λ named. (named.name ≡ name.now) × IsFontOf (view value.now) named.font) }
 {
     let name = Text::of(alloc, name)?;
     match read_font(alloc, value)? {

@@ -36,12 +36,18 @@ pub fn read_style(alloc: Global, bytes: &[u8]) -> Result<Style, StyleFault>
     ensures ok { IfOk result (λ style. IsStyle bytes.now style) }
     ensures accepted { IsFaultless bytes.now → IsOkUnless result StyleFault.Memory }
     ensures fault { IfErr result (IsRefusal bytes.now) }
-    ensures not_toml { RefusesExactly result StyleFault.NotToml StyleFault.Memory (IsNoToml bytes.now) }
-    ensures version { RefusesExactly result StyleFault.Version StyleFault.Memory (IsFirstFault bytes.now StyleFault.Version) }
-    ensures bad_font { (name : List ℕ) → RefusesExactly result (StyleFault.BadFont name) StyleFault.Memory (IsFirstFault bytes.now (StyleFault.BadFont name)) }
-    ensures bad_class { (k : ℕ) (field : List ℕ) → RefusesExactly result (StyleFault.BadClass k field) StyleFault.Memory (IsFirstFault bytes.now (StyleFault.BadClass k field)) }
-    ensures unknown_font { (k : ℕ) → RefusesExactly result (StyleFault.UnknownFont k) StyleFault.Memory (IsFirstFault bytes.now (StyleFault.UnknownFont k)) }
-    ensures empty_range { (k : ℕ) → RefusesExactly result (StyleFault.EmptyRange k) StyleFault.Memory (IsFirstFault bytes.now (StyleFault.EmptyRange k)) }
+    ensures not_toml { RefusesExactly result StyleFault.NotToml StyleFault.Memory
+        (IsNoToml bytes.now) }
+    ensures version { RefusesExactly result StyleFault.Version StyleFault.Memory
+        (IsFirstFault bytes.now StyleFault.Version) }
+    ensures bad_font { (name : List ℕ) → RefusesExactly result (StyleFault.BadFont name)
+        StyleFault.Memory (IsFirstFault bytes.now (StyleFault.BadFont name)) }
+    ensures bad_class { (k : ℕ) (field : List ℕ) → RefusesExactly result (StyleFault.BadClass k
+        field) StyleFault.Memory (IsFirstFault bytes.now (StyleFault.BadClass k field)) }
+    ensures unknown_font { (k : ℕ) → RefusesExactly result (StyleFault.UnknownFont k)
+        StyleFault.Memory (IsFirstFault bytes.now (StyleFault.UnknownFont k)) }
+    ensures empty_range { (k : ℕ) → RefusesExactly result (StyleFault.EmptyRange k)
+        StyleFault.Memory (IsFirstFault bytes.now (StyleFault.EmptyRange k)) }
 {
     read_bytes(alloc, bytes)
 }

@@ -21,7 +21,8 @@ use toml::Table;
 /// # Errors
 /// The first fault; out of memory.
 pub(crate) fn read_table(alloc: Global, table: &Table) -> Result<Style, StyleFault>
-    ensures { Answers result (style_faults (table_view table.now)) (IsStyleIn (table_view table.now)) }
+    ensures { Answers result (style_faults (table_view table.now))
+        (IsStyleIn (table_view table.now)) }
 {
     let Some(version) = count_at(table, "version", 1, 2) else {
         return Err(StyleFault::Version);
@@ -40,7 +41,8 @@ pub(crate) fn read_table(alloc: Global, table: &Table) -> Result<Style, StyleFau
 
 // The fonts of the style: none where there is no table of them.
 fn fonts_of(alloc: Global, style: &Table) -> Result<Seq<NamedFont>, StyleFault>
-    ensures fonts { Answers result (font_faults (fonts_in (table_view style.now))) (AreFonts (fonts_in (table_view style.now))) }
+    ensures fonts { Answers result (font_faults (fonts_in (table_view style.now)))
+        (AreFonts (fonts_in (table_view style.now))) }
     ensures ascending { IfOk result AreAscending }
 {
     let Some(value) = member_of(style, "fonts") else {
@@ -59,7 +61,8 @@ fn classes_of(
     fonts: &Seq<NamedFont>,
     style: &Table,
 ) -> Result<Seq<Class>, StyleFault>
-    ensures classes { Answers result (classes_faults_in version (names_of fonts.now) (table_view style.now)) (AreClasses version (items_in (table_view style.now))) }
+    ensures classes { Answers result (classes_faults_in version (names_of fonts.now)
+        (table_view style.now)) (AreClasses version (items_in (table_view style.now))) }
     ensures known { IfOk result (All (HasFont fonts.now)) }
 {
     let Some(value) = member_of(style, "class") else {

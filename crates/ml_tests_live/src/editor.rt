@@ -217,7 +217,8 @@ fn prepared<L: Ledger>(
     words: &str,
     steps: &mut Steps<L>,
 ) -> Result<Ready, EditFault>
-    ensures { IfOk result (λ ready. IsReady ready editor.new.state editor.new.engine.rows × HasRoomFor ready editor.new) }
+    ensures { IfOk result (λ ready.
+        IsReady ready editor.new.state editor.new.engine.rows × HasRoomFor ready editor.new) }
 {
     match word {
         "add" => {

@@ -111,6 +111,7 @@ module _ (font : Font) where
   clusters_joined text u = pieces (graphemes true text) ∙ concat-segments (is_grapheme_break true) text u
 
 -- what holds of the clusters holds of an answer that has them
-pub of_answer : {E : Type 0} (P : List Cluster → Type 0) (font : Font) (text shown : List ℕ) (r : Result (List Cluster) E) → shown ≡ text → P (clusters_of font text) → IfOk r (λ all. all ≡ clusters_of font shown) → IfOk r P
+pub of_answer : {E : Type 0} (P : List Cluster → Type 0) (font : Font) (text shown : List ℕ) (r : Result (List Cluster) E) →
+    shown ≡ text → P (clusters_of font text) → IfOk r (λ all. all ≡ clusters_of font shown) → IfOk r P
 of_answer P font text shown (Ok all) same h is = subst P (sym (is ∙ ap (clusters_of font) same)) h
 of_answer P font text shown (Err e) same h is = tt

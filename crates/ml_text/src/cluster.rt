@@ -26,7 +26,8 @@ pub fn clusters(alloc: Global, font: &Font, text: &Text) -> Result<Seq<Cluster>,
     ensures value { IfOk result (λ all. all ≡ clusters_of font.now text.now) }
     ensures joined { IfOk result (λ all. concat (map (λ c. c.text) all) ≡ text.now) }
     ensures low { IfOk result (λ all. sum_by (λ c. c.advance) all ≤ 65535 * length text.now) }
-    ensures total { IfOk result (λ all. advance_sum_of font.now text.now < 2 ^ 64 → sum_by (λ c. c.advance) all ≡ advance_sum_of font.now text.now) }
+    ensures total { IfOk result (λ all. advance_sum_of font.now text.now < 2 ^ 64 →
+        sum_by (λ c. c.advance) all ≡ advance_sum_of font.now text.now) }
 {
     cut(alloc, font, text.as_str())
 }

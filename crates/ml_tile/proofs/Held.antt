@@ -83,12 +83,14 @@ promoted_last es front key body d e =
     ap (promoted (same_key key)) e ∙ rw (f.0, f.1) refl
 
 -- the tile that is found, between the others
-cut_found : (key : TileKey) (es : List HeldTile) (e : HeldTile) → lookup_entry (same_key key) es ≡ Some e → (front : List HeldTile) × (back : List HeldTile) × (es ≡ front ++ e ∷ back) × (remove_entry (same_key key) es ≡ front ++ back)
+cut_found : (key : TileKey) (es : List HeldTile) (e : HeldTile) → lookup_entry (same_key key) es ≡ Some e →
+    (front : List HeldTile) × (back : List HeldTile) × (es ≡ front ++ e ∷ back) × (remove_entry (same_key key) es ≡ front ++ back)
 cut_found key [] e h = cc
-cut_found key (f ∷ es) e h = (elim (same_key key f.0) as (λ y. same_key key f.0 ≡ y → (front : List HeldTile) × (back : List HeldTile) × (f ∷ es ≡ front ++ e ∷ back) × (remove_entry (same_key key) (f ∷ es) ≡ front ++ back)) [
-  | true ↦ λ t. let h' = rw t at h in let same : f ≡ e = cc in ([], es, ap (λ g. g ∷ es) same, rw t refl)
-  | false ↦ λ t. let on = cut_found key es e (rw t at h) in (f ∷ on.0, on.1, ap (λ l. f ∷ l) on.2, rw t (ap (λ l. f ∷ l) on.3))
-]) refl
+cut_found key (f ∷ es) e h =
+    (elim (same_key key f.0) as (λ y. same_key key f.0 ≡ y → (front : List HeldTile) × (back : List HeldTile) × (f ∷ es ≡ front ++ e ∷ back) × (remove_entry (same_key key) (f ∷ es) ≡ front ++ back)) [
+      | true ↦ λ t. let h' = rw t at h in let same : f ≡ e = cc in ([], es, ap (λ g. g ∷ es) same, rw t refl)
+      | false ↦ λ t. let on = cut_found key es e (rw t at h) in (f ∷ on.0, on.1, ap (λ l. f ∷ l) on.2, rw t (ap (λ l. f ∷ l) on.3))
+    ]) refl
 
 hit_by : (key : TileKey) (es : List HeldTile) (o : Option HeldTile) → lookup_entry (same_key key) es ≡ o → is_some o ≡ true → (body : List ℕ) × ComesFirst key body es (promoted (same_key key) es)
 hit_by key es None h some = absurd (false≢true some)

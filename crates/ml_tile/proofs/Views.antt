@@ -55,7 +55,8 @@ one_view key v u p q =
     (same_ratio v.scale u.scale (p.num_is ∙ sym q.num_is) (p.den_is ∙ sym q.den_is))
 
 -- a label that is not active at the scale of the tile's view is not shown in it
-pub not_active : (label : Label) (span : Span) (key : TileKey) (v : View) → IsTileView key.z key.i key.j v → ¬ (ActiveBetween (value_of span.min) (value_of span.until) (value_of v.scale)) → ¬ (ShowsIn label span key)
+pub not_active : (label : Label) (span : Span) (key : TileKey) (v : View) → IsTileView key.z key.i key.j v →
+    ¬ (ActiveBetween (value_of span.min) (value_of span.until) (value_of v.scale)) → ¬ (ShowsIn label span key)
 not_active label span key v p never s = never (subst (λ u. ActiveBetween (value_of span.min) (value_of span.until) (value_of u.scale)) (one_view key s.0 v s.1 p) s.2)
 
 -- a label that is active there is shown in the tile just where it is in the view

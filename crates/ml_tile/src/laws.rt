@@ -12,7 +12,10 @@ ghost use Rattle.ml_tile.specs.declared.key.TileKey.{TileKey};
 /// that meets the open rectangle which some of these tiles, side by side, cover, is shown in at least one
 /// of them.
 pub fn l7()
-    ensures { (label : Label) (span : Span) (z : ℕ) (i k j m : ℤ) → i ≤ℤ k → j ≤ℤ m → AreTiles z i k j m →
-        ActiveBetween (value_of span.min) (value_of span.until) (scale z) → IsInArea label z i k j m →
-        (key : TileKey) × (key.z ≡ z) × IsBetween key.i i k × IsBetween key.j j m × ShowsIn label span key }
+    ensures { (label : Label) (span : Span) (z : ℕ) (i k j m : ℤ) →
+        i ≤ℤ k → j ≤ℤ m → AreTiles z i k j m →
+        ActiveBetween (value_of span.min) (value_of span.until) (scale z) →
+        IsInArea label z i k j m →
+        (key : TileKey) × (key.z ≡ z) × IsBetween key.i i k
+        × IsBetween key.j j m × ShowsIn label span key }
 {}

@@ -83,14 +83,16 @@ impl Tiles {
 
     /// Whether the tile is held.
     pub fn held(&self, key: &TileKey) -> bool
-        ensures { MatchBool result (IsHeld key.now self.now.tiles) (¬ (IsHeld key.now self.now.tiles)) }
+        ensures { MatchBool result (IsHeld key.now self.now.tiles)
+            (¬ (IsHeld key.now self.now.tiles)) }
     {
         self.held.contains(key)
     }
 
     /// The body of the tile, if it is held. Nothing changes: it is no hit, and the tile stays in its place.
     pub fn peek(&self, key: &TileKey) -> Option<&Seq<u8>>
-        ensures { MatchOption result (¬ (IsHeld key.now self.now.tiles)) (λ body. Contains self.now.tiles (key.now, body.now)) }
+        ensures { MatchOption result (¬ (IsHeld key.now self.now.tiles))
+            (λ body. Contains self.now.tiles (key.now, body.now)) }
     {
         self.held.peek(key)
     }
@@ -98,7 +100,8 @@ impl Tiles {
     /// The body of the tile, if it is held: then this is a hit, and the tile comes to the front.
     pub fn find(&mut self, key: &TileKey) -> Option<&Seq<u8>>
         ensures* ends { sem 𝓛 (EndsFound key.now self.entry result) }
-        ensures held { MatchOption result (¬ (IsHeld key.now self.old.tiles)) (λ body. Contains self.old.tiles (key.now, body.now)) }
+        ensures held { MatchOption result (¬ (IsHeld key.now self.old.tiles))
+            (λ body. Contains self.old.tiles (key.now, body.now)) }
     {
         if !self.touch(key) {
             return None;
@@ -108,7 +111,8 @@ impl Tiles {
 
     /// Whether the tile is held: then this is a hit, and the tile comes to the front.
     pub fn touch(&mut self, key: &TileKey) -> bool
-        ensures { MatchBool result ((body : List ℕ) × IsHit key.now body self.old self.new) ((¬ (IsHeld key.now self.old.tiles)) × (self.new ≡ self.old)) }
+        ensures { MatchBool result ((body : List ℕ) × IsHit key.now body self.old self.new)
+            ((¬ (IsHeld key.now self.old.tiles)) × (self.new ≡ self.old)) }
     {
         if !self.held.promote(key) {
             return false;
@@ -125,9 +129,11 @@ impl Tiles {
     pub fn keep(&mut self, key: TileKey, body: &Seq<u8>) -> Result<bool, AllocError>
         requires { ¬ (IsHeld key self.old.tiles) }
         ensures ok { IfOk result (λ kept. MatchBool kept
-            ((length body.now ≤ longest_body) × (self.new ≡ record self.old { tiles = take most_tiles ((key, body.now) ∷ self.old.tiles) }))
+            ((length body.now ≤ longest_body) × (self.new
+            ≡ record self.old { tiles = take most_tiles ((key, body.now) ∷ self.old.tiles) }))
             ((longest_body < length body.now) × (self.new ≡ self.old))) }
-        ensures err { OnErr result ((length body.now ≤ longest_body) × (self.new ≡ record self.old { skips = one_more self.old.skips })) }
+        ensures err { OnErr result ((length body.now ≤ longest_body)
+            × (self.new ≡ record self.old { skips = one_more self.old.skips })) }
     {
         if body.len() > LONGEST_BODY {
             return Ok(false);
@@ -179,7 +185,8 @@ fn store(
 ) -> Result<(), AllocError>
     requires new { ¬ (IsHeld key held.old.entries) }
     requires most { held.old.cap ≡ most_tiles }
-    ensures ok { OnOk result (held.new.entries ≡ take most_tiles ((key, body.now) ∷ held.old.entries)) }
+    ensures ok { OnOk result
+        (held.new.entries ≡ take most_tiles ((key, body.now) ∷ held.old.entries)) }
     ensures err { OnErr result (held.new ≡ held.old) }
     ensures most { held.new.cap ≡ most_tiles }
 {
@@ -210,7 +217,8 @@ fn turn(held: &mut LruCache<TileKey, Seq<u8>>, label: &Label, span: &Span)
 // The tile that was asked for least recently.
 fn last_key(held: &LruCache<TileKey, Seq<u8>>) -> Option<TileKey>
     ensures { MatchOption result (held.now.entries ≡ [])
-        (λ key. (front : List HeldTile) × (body : List ℕ) × (held.now.entries ≡ front ++ (key, body) ∷ [])) }
+        (λ key. (front : List HeldTile) × (body : List ℕ)
+        × (held.now.entries ≡ front ++ (key, body) ∷ [])) }
 {
     match held.peek_lru() {
         Some((key, _body)) => Some(*key),
@@ -220,7 +228,8 @@ fn last_key(held: &LruCache<TileKey, Seq<u8>>) -> Option<TileKey>
 
 // Whether the label, active in the span, is shown in the tile.
 fn shows(key: &TileKey, label: &Label, span: &Span) -> bool
-    ensures { MatchBool result (ShowsIn label.now span.now key.now) (¬ (ShowsIn label.now span.now key.now)) }
+    ensures { MatchBool result (ShowsIn label.now span.now key.now)
+        (¬ (ShowsIn label.now span.now key.now)) }
 {
     let view = key.view();
     active(span, &view.scale) && meets(label, &view)

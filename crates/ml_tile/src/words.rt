@@ -30,7 +30,8 @@ pub fn read_tile(z: &str, i: &str, j: &str) -> Result<TileKey, usize>
 
 // A depth of tiles.
 fn read_depth(word: &str) -> Option<u8>
-    ensures { MatchOption result ((z : ℕ) → ¬ (IsDepthWord word.now z)) (λ z. IsDepthWord word.now z) }
+    ensures { MatchOption result ((z : ℕ) → ¬ (IsDepthWord word.now z))
+        (λ z. IsDepthWord word.now z) }
 {
     match read_whole(word) {
         Some(z) => {
@@ -47,7 +48,8 @@ fn read_depth(word: &str) -> Option<u8>
 // A column, or row, of the tiles of depth `z`.
 fn read_column(z: u8, word: &str) -> Option<i64>
     requires { z ≤ 21 }
-    ensures { MatchOption result ((i : ℤ) → ¬ (IsColumnWord z word.now i)) (λ i. IsColumnWord z word.now i) }
+    ensures { MatchOption result ((i : ℤ) → ¬ (IsColumnWord z word.now i))
+        (λ i. IsColumnWord z word.now i) }
 {
     match read_whole(word) {
         Some(i) => { if has_column(z, i) { Some(i) } else { None } }

@@ -36,12 +36,14 @@ overlap_turned a b s both =
     (other.0, other.1, other.2, other.3, (both.0, both.1, both.2, both.3, boxes_turned a both.1 b other.1 s other.4))
 
 -- of two labels that are active at a scale, the later does not overlap the earlier
-later_clear : (labels : List Label) (c : Choice) (v : View) → IsConflictFree labels c → (j i : ℕ) (d : Label) → j < i → IsShown labels c v j → IsShown labels c v i → ¬ (Overlap (get_or labels i d) (get_or labels j d) (value_of v.scale))
+later_clear : (labels : List Label) (c : Choice) (v : View) → IsConflictFree labels c → (j i : ℕ) (d : Label) → j < i →
+    IsShown labels c v j → IsShown labels c v i → ¬ (Overlap (get_or labels i d) (get_or labels j d) (value_of v.scale))
 unfolding Allows
 later_clear labels c v free j i d less early late = free j i d less late.0 (value_of v.scale) v.above (late.1 d).0 (early.1 d).0
 
 -- no two labels that a view shows overlap at the view's scale
-pub l1 : (labels : List Label) (c : Choice) (v : View) (places : List ℕ) → IsConflictFree labels c → AreShown labels c v places → (i j : ℕ) (d : Label) → Contains places i → Contains places j → i ≢ j → ¬ (Overlap (get_or labels i d) (get_or labels j d) (value_of v.scale))
+pub l1 : (labels : List Label) (c : Choice) (v : View) (places : List ℕ) → IsConflictFree labels c → AreShown labels c v places →
+    (i j : ℕ) (d : Label) → Contains places i → Contains places j → i ≢ j → ¬ (Overlap (get_or labels i d) (get_or labels j d) (value_of v.scale))
 l1 labels c v places free are i j d i_listed j_listed differ both =
     let i_shown = listed_shown labels c v places are i i_listed in
     let j_shown = listed_shown labels c v places are j j_listed in
@@ -61,7 +63,8 @@ active_same a e s t same active =
     (at_most_trans (value_of a.min) s t active.0 up, at_most_less t s e down active.1)
 
 -- a label that one view shows, and another of the same scale does not, has no box in the window of the other
-pub l2 : (labels : List Label) (c : Choice) (v w : View) (in_v in_w : List ℕ) → IsSame (value_of v.scale) (value_of w.scale) → AreShown labels c v in_v → AreShown labels c w in_w → (i : ℕ) (d : Label) → Contains in_v i → ¬ (Contains in_w i) → ¬ (IsInView (get_or labels i d) w)
+pub l2 : (labels : List Label) (c : Choice) (v w : View) (in_v in_w : List ℕ) → IsSame (value_of v.scale) (value_of w.scale) → AreShown labels c v in_v →
+    AreShown labels c w in_w → (i : ℕ) (d : Label) → Contains in_v i → ¬ (Contains in_w i) → ¬ (IsInView (get_or labels i d) w)
 l2 labels c v w in_v in_w same are_v are_w i d listed missing meets =
     let shown = listed_shown labels c v in_v are_v i listed in
     let there : IsShown labels c w i =

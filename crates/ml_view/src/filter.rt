@@ -35,7 +35,8 @@ pub fn shown(
 
 // Whether the label with this slot is shown.
 fn is_shown(label: &Label, slot: &Slot, view: &View) -> bool
-    ensures { IsTrue result ↔ (ActiveUntil label.now (value_of slot.now.until) (value_of view.now.scale) × IsInView label.now view.now) }
+    ensures { IsTrue result ↔ (ActiveUntil label.now (value_of slot.now.until)
+        (value_of view.now.scale) × IsInView label.now view.now) }
 {
     let span = Span {
         min: label.min(),

@@ -40,7 +40,8 @@ pub fn read_view(cx: &str, cy: &str, w: &str, h: &str, scale: &str) -> Result<Vi
 
 // A coordinate of the world.
 fn read_coordinate(word: &str) -> Option<i64>
-    ensures { MatchOption result ((z : ℤ) → ¬ (IsCoordinate word.now z)) (λ z. IsCoordinate word.now z) }
+    ensures { MatchOption result ((z : ℤ) → ¬ (IsCoordinate word.now z))
+        (λ z. IsCoordinate word.now z) }
 {
     match read_whole(word) {
         Some(x) => { if is_in_world(x) { Some(x) } else { None } }
@@ -50,7 +51,8 @@ fn read_coordinate(word: &str) -> Option<i64>
 
 // The side of a window, in pixels.
 fn read_side(word: &str) -> Option<u32>
-    ensures { MatchOption result ((n : ℕ) → ¬ (IsSideWord word.now n)) (λ n. IsSideWord word.now n) }
+    ensures { MatchOption result ((n : ℕ) → ¬ (IsSideWord word.now n))
+        (λ n. IsSideWord word.now n) }
 {
     match read_whole(word) {
         Some(side) => {
@@ -66,7 +68,8 @@ fn read_side(word: &str) -> Option<u32>
 
 // A scale, in world units a pixel.
 fn read_scale(word: &str) -> Option<Ratio>
-    ensures { MatchOption result ((r : Ratio) → ¬ (IsScaleWord word.now r)) (λ r. IsScaleWord word.now r) }
+    ensures { MatchOption result ((r : Ratio) → ¬ (IsScaleWord word.now r))
+        (λ r. IsScaleWord word.now r) }
 {
     match Ratio::read(word) {
         Some(scale) => { if scale.is_scale() { Some(scale) } else { None } }

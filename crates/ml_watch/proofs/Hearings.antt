@@ -79,7 +79,8 @@ all_hear_twice hearing xs ys a b c first second = record {
 }
 
 -- a watcher that was told the first i changes, and has a fault: it is told no more
-pub hears_front : {W : Type 0} (hearing : W → Hearing) (a b : W) (changes : List Change) (i : ℕ) → Grew (hearing a) (hearing b) (take i changes) [] → (hearing b).faults ≡ (hearing a).faults → (0 < (hearing a).faults → b ≡ a) → 0 < (hearing b).faults → Hears hearing a b changes
+pub hears_front : {W : Type 0} (hearing : W → Hearing) (a b : W) (changes : List Change) (i : ℕ) → Grew (hearing a) (hearing b) (take i changes) [] →
+    (hearing b).faults ≡ (hearing a).faults → (0 < (hearing a).faults → b ≡ a) → 0 < (hearing b).faults → Hears hearing a b changes
 hears_front hearing a b changes i grew same silent some = record {
   front = take i changes;
   rest = drop i changes;
@@ -93,14 +94,17 @@ hears_front hearing a b changes i grew same silent some = record {
 }
 
 -- the next change failed
-pub hears_cut : {W : Type 0} (hearing : W → Hearing) (a b c : W) (changes : List Change) (i n : ℕ) (d : Change) → i < length changes → Grew (hearing a) (hearing b) (take i changes) [] → (hearing b).faults ≡ (hearing a).faults → (hearing b).faults ≡ 0 → Grew (hearing b) (hearing c) [] (take n (change_line (get_or changes i d))) → 0 < (hearing c).faults → Hears hearing a c changes
+pub hears_cut : {W : Type 0} (hearing : W → Hearing) (a b c : W) (changes : List Change) (i n : ℕ) (d : Change) → i < length changes →
+    Grew (hearing a) (hearing b) (take i changes) [] → (hearing b).faults ≡ (hearing a).faults → (hearing b).faults ≡ 0 →
+    Grew (hearing b) (hearing c) [] (take n (change_line (get_or changes i d))) → 0 < (hearing c).faults → Hears hearing a c changes
 hears_cut hearing a b c changes i n d within grew same none more some = record {
   front = take i changes;
   rest = drop i changes;
   part = take n (change_line (get_or changes i d));
   parts = sym (take-append-drop i changes);
   cut = rw (drop-cons changes i d within) (n, refl);
-  grew = grew_so (hearing a) (hearing c) (take i changes ++ []) (take i changes) (take n (change_line (get_or changes i d))) (take n (change_line (get_or changes i d))) (append-nil (take i changes)) refl
+  grew = grew_so (hearing a) (hearing c) (take i changes ++ []) (take i changes) (take n (change_line (get_or changes i d)))
+      (take n (change_line (get_or changes i d))) (append-nil (take i changes)) refl
       (grew_twice (hearing a) (hearing b) (hearing c) (take i changes) [] (take n (change_line (get_or changes i d))) grew more);
   all = λ after. absurd (omega (arith, after, some));
   silent = λ before. absurd (omega (arith, before, same, none));
@@ -108,7 +112,8 @@ hears_cut hearing a b c changes i n d within grew same none more some = record {
 }
 
 -- all changes were told
-pub hears_all : {W : Type 0} (hearing : W → Hearing) (a b : W) (changes : List Change) → Grew (hearing a) (hearing b) changes [] → (hearing b).faults ≡ (hearing a).faults → (0 < (hearing a).faults → b ≡ a) → Hears hearing a b changes
+pub hears_all : {W : Type 0} (hearing : W → Hearing) (a b : W) (changes : List Change) → Grew (hearing a) (hearing b) changes [] →
+    (hearing b).faults ≡ (hearing a).faults → (0 < (hearing a).faults → b ≡ a) → Hears hearing a b changes
 hears_all hearing a b changes grew same silent = record {
   front = changes;
   rest = [];
@@ -122,5 +127,6 @@ hears_all hearing a b changes grew same silent = record {
 }
 
 -- one more change was told
-pub grew_one : (a b c : Hearing) (changes : List Change) (i : ℕ) (d : Change) → i < length changes → Grew a b (take i changes) [] → Grew b c (get_or changes i d ∷ []) [] → Grew a c (take (i + 1) changes) []
+pub grew_one : (a b c : Hearing) (changes : List Change) (i : ℕ) (d : Change) → i < length changes →
+    Grew a b (take i changes) [] → Grew b c (get_or changes i d ∷ []) [] → Grew a c (take (i + 1) changes) []
 grew_one a b c changes i d within so_far more = rw (take_more changes i d within) (grew_twice a b c (take i changes) (get_or changes i d ∷ []) [] so_far more)

@@ -1,5 +1,6 @@
 -- Texts that are put one behind the other.
-use Rattle.std.proofs.Common.{◌≡◌, ℕ, ◌+◌, ◌<◌, ◌≤◌, List, [], ◌∷◌, ◌++◌, length, take, drop, get_or, flat_map, Option, Some, None, Ok, Err, refl, sym, ap, subst, ◌∙◌, append_assoc, append-nil, arith, length-append}
+use Rattle.std.proofs.Common.{◌≡◌, ℕ, ◌+◌, ◌<◌, ◌≤◌, List, [], ◌∷◌, ◌++◌, length, take, drop, get_or, flat_map, Option, Some}
+use Rattle.std.proofs.Common.{None, Ok, Err, refl, sym, ap, subst, ◌∙◌, append_assoc, append-nil, arith, length-append}
 use Rattle.std.specs.Prelude.{Result, OnOk}
 use Rattle.std.proofs.Math.Seq.{take-append-add, take-append_seam, take-length}
 use Rattle.std.proofs.lemmas.List.{take-append-le, take-append-drop, take_more, append_cancel_left}
@@ -11,7 +12,8 @@ use Rattle.ml_watch.specs.Puts.{Puts, HeldPuts, Grows, with_held}
 use Rattle.ml_watch.proofs.Told.{appends_twice, appends_nothing}
 
 -- a text, and then another
-pub puts_then : {E : Type 0} (old mid new : Option (List ℕ)) (before between now : ℕ) (p q : List ℕ) (r : Result (Unit {0}) E) → Appends old mid p → between ≡ before → Puts mid new between now q r → Puts old new before now (p ++ q) r
+pub puts_then : {E : Type 0} (old mid new : Option (List ℕ)) (before between now : ℕ) (p q : List ℕ) (r : Result (Unit {0}) E) →
+    Appends old mid p → between ≡ before → Puts mid new between now q r → Puts old new before now (p ++ q) r
 puts_then {E} old mid new before between now p q (Ok u) first same second = record {
   ok = appends_twice old mid new p q first second.ok;
   err = tt;
@@ -21,12 +23,17 @@ puts_then {E} old mid new before between now p q (Err e) first same second =
     let cut = second.err in
     record {
       ok = tt;
-      err = (length p + cut.0, omega (arith, cut.1, length-append p q), subst (λ (t : List ℕ). Appends old new t) (sym (take-append-add p q cut.0)) (appends_twice old mid new p (take cut.0 q) first cut.2));
+      err = (
+        length p + cut.0,
+        omega (arith, cut.1, length-append p q),
+        subst (λ (t : List ℕ). Appends old new t) (sym (take-append-add p q cut.0)) (appends_twice old mid new p (take cut.0 q) first cut.2),
+      );
       cause = record { later = omega (arith, second.cause.later, same); fine = tt; failed = second.cause.failed ∙ ap one_more same };
     }
 
 -- a text of which a part alone was put, and another that was not begun
-pub puts_cut : {E : Type 0} (old new : Option (List ℕ)) (before now : ℕ) (p q : List ℕ) (r s : Result (Unit {0}) E) → Puts old new before now p r → OnOk r ⊥ → OnOk s ⊥ → Puts old new before now (p ++ q) s
+pub puts_cut : {E : Type 0} (old new : Option (List ℕ)) (before now : ℕ) (p q : List ℕ) (r s : Result (Unit {0}) E) →
+    Puts old new before now p r → OnOk r ⊥ → OnOk s ⊥ → Puts old new before now (p ++ q) s
 puts_cut old new before now p q (Ok u) s first h k = absurd h
 puts_cut old new before now p q (Err e) (Ok u) first h k = absurd k
 puts_cut old new before now p q (Err e) (Err f) first h k =
@@ -54,7 +61,8 @@ held_nothing {E} old held before u = record {
 }
 
 -- what is well is well whatever faults there may be
-pub held_well : {E F : Type 0} {old new : Option (List ℕ)} {held kept : List ℕ} {before now : ℕ} {text : List ℕ} {u : Unit {0}} → HeldPuts {E = E} old new held kept before now text (Ok u) → (v : Unit {0}) → HeldPuts {E = F} old new held kept before now text (Ok v)
+pub held_well : {E F : Type 0} {old new : Option (List ℕ)} {held kept : List ℕ} {before now : ℕ} {text : List ℕ} {u : Unit {0}} →
+    HeldPuts {E = E} old new held kept before now text (Ok u) → (v : Unit {0}) → HeldPuts {E = F} old new held kept before now text (Ok v)
 held_well h v = record { grows = h.grows; puts = record { ok = h.puts.ok; err = tt; cause = record { later = h.puts.cause.later; fine = h.puts.cause.fine; failed = tt } } }
 
 -- a text that was put whole, and then another
@@ -74,7 +82,8 @@ held_cut {old = old} {new = new} {held = held} {kept = kept} {before = before} {
 }
 
 -- what was put of a text was put of one that is the same
-pub held_so : {E : Type 0} {old new : Option (List ℕ)} {held kept : List ℕ} {before now : ℕ} {p : List ℕ} {r : Result (Unit {0}) E} (q : List ℕ) → p ≡ q → HeldPuts old new held kept before now p r → HeldPuts old new held kept before now q r
+pub held_so : {E : Type 0} {old new : Option (List ℕ)} {held kept : List ℕ} {before now : ℕ} {p : List ℕ} {r : Result (Unit {0}) E} (q : List ℕ) →
+    p ≡ q → HeldPuts old new held kept before now p r → HeldPuts old new held kept before now q r
 held_so {old = old} {new = new} {held = held} {kept = kept} {before = before} {now = now} {r = r} q same h = subst (λ (t : List ℕ). HeldPuts old new held kept before now t r) same h
 
 -- texts of a list, one by one: the texts of the first i were put
@@ -139,7 +148,8 @@ some_held [] none = absurd (none refl)
 some_held (b ∷ held) none = omega arith
 
 -- one more byte is held back
-pushed : (old mid : Option (List ℕ)) (held kept last : List ℕ) (byte : ℕ) → with_held mid kept ≡ with_held old held → last ≡ kept ++ byte ∷ [] → Appends (with_held old held) (with_held mid last) (byte ∷ [])
+pushed : (old mid : Option (List ℕ)) (held kept last : List ℕ) (byte : ℕ) → with_held mid kept ≡ with_held old held →
+    last ≡ kept ++ byte ∷ [] → Appends (with_held old held) (with_held mid last) (byte ∷ [])
 pushed None None held kept last byte same is = refl
 pushed None (Some ys) held kept last byte same is = absurd (cc)
 pushed (Some xs) None held kept last byte same is = absurd (cc)
@@ -148,7 +158,8 @@ pushed (Some xs) (Some ys) held kept last byte same is =
     ap (λ (t : List ℕ). Some (ys ++ t)) is ∙ ap Some (sym (append_assoc ys kept (byte ∷ []))) ∙ ap (λ (t : List ℕ). Some (t ++ byte ∷ [])) lists
 
 -- a byte that is held back behind the others is put
-pub held_pushed : {E : Type 0} (old mid : Option (List ℕ)) (held kept last : List ℕ) (byte before now : ℕ) → with_held mid kept ≡ with_held old held → Grows old mid → now ≡ before → last ≡ kept ++ byte ∷ [] → (v : Unit {0}) →
+pub held_pushed : {E : Type 0} (old mid : Option (List ℕ)) (held kept last : List ℕ) (byte before now : ℕ) →
+    with_held mid kept ≡ with_held old held → Grows old mid → now ≡ before → last ≡ kept ++ byte ∷ [] → (v : Unit {0}) →
     HeldPuts {E = E} old mid held last before now (byte ∷ []) (Ok v)
 held_pushed old mid held kept last byte before now same grows calm is v = record {
   grows = grows;
@@ -156,7 +167,8 @@ held_pushed old mid held kept last byte before now same grows calm is v = record
 }
 
 -- there was no room for it
-pub held_failed : {E F : Type 0} (old new : Option (List ℕ)) (held kept text : List ℕ) (before now : ℕ) (r : Result (Unit {0}) F) (s : Result (Unit {0}) E) → with_held new kept ≡ with_held old held → Grows old new → HasCause before now r → OnOk r ⊥ → OnOk s ⊥ →
+pub held_failed : {E F : Type 0} (old new : Option (List ℕ)) (held kept text : List ℕ) (before now : ℕ) (r : Result (Unit {0}) F) (s : Result (Unit {0}) E) →
+    with_held new kept ≡ with_held old held → Grows old new → HasCause before now r → OnOk r ⊥ → OnOk s ⊥ →
     HeldPuts {E = E} old new held kept before now text s
 held_failed old new held kept text before now (Ok u) s same grows cause bad none = absurd bad
 held_failed old new held kept text before now (Err e) (Ok u) same grows cause bad none = absurd none
@@ -179,7 +191,8 @@ first_part t k line n e =
     (omega arith, ap (take (length t)) whole ∙ take-append_seam t (k ++ drop n line))
 
 -- of what a sink and the bytes held back have, the sink has a first part
-sink_part : (old new joined : Option (List ℕ)) (kept line : List ℕ) (n : ℕ) → Grows old new → with_held new kept ≡ joined → Appends (with_held old []) joined (take n line) → (m : ℕ) × (m ≤ length line) × Appends old new (take m line)
+sink_part : (old new joined : Option (List ℕ)) (kept line : List ℕ) (n : ℕ) → Grows old new → with_held new kept ≡ joined →
+    Appends (with_held old []) joined (take n line) → (m : ℕ) × (m ≤ length line) × Appends old new (take m line)
 sink_part None new joined kept line n grows same put = (0, omega arith, grows.1)
 sink_part (Some xs) new joined kept line n grows same put =
     let t : List ℕ = grows.0 in
@@ -200,7 +213,8 @@ sink_whole (Some xs) (Some ys) joined last line none same put =
     ap Some (sym (append-nil ys) ∙ ap (λ (s : List ℕ). ys ++ s) (sym none) ∙ lists ∙ ap (λ (s : List ℕ). s ++ line) (append-nil xs))
 
 -- the line was put, and then what was held back was given away
-pub line_given : {E F : Type 0} {old mid : Option (List ℕ)} {kept : List ℕ} {before between : ℕ} {line : List ℕ} {u : Unit {0}} (new : Option (List ℕ)) (last : List ℕ) (now : ℕ) (r : Result (Unit {0}) E) →
+pub line_given : {E F : Type 0} {old mid : Option (List ℕ)} {kept : List ℕ} {before between : ℕ} {line : List ℕ} {u : Unit {0}}
+    (new : Option (List ℕ)) (last : List ℕ) (now : ℕ) (r : Result (Unit {0}) E) →
     HeldPuts {E = F} old mid [] kept before between line (Ok u) → OnOk r (last ≡ []) → with_held new last ≡ with_held mid kept → Grows mid new → HasCause between now r → Puts old new before now line r
 line_given {old = old} {mid = mid} {kept = kept} {before = before} {between = between} {line = line} new last now (Ok u) h none same grows cause =
     let fine = h.puts.cause.fine in
@@ -215,12 +229,14 @@ line_given {old = old} {mid = mid} {kept = kept} {before = before} {between = be
     let later = cause.later in
     record {
       ok = tt;
-      err = sink_part old new (with_held mid kept) last line (length line) (grows_twice old mid new h.grows grows) same (subst (λ (t : List ℕ). Appends (with_held old []) (with_held mid kept) t) (sym (take-length line)) h.puts.ok);
+      err = sink_part old new (with_held mid kept) last line (length line) (grows_twice old mid new h.grows grows) same
+          (subst (λ (t : List ℕ). Appends (with_held old []) (with_held mid kept) t) (sym (take-length line)) h.puts.ok);
       cause = record { later = omega arith; fine = tt; failed = cause.failed ∙ ap one_more fine };
     }
 
 -- a part of the line was put, and nothing was given away behind it
-pub line_cut : {E : Type 0} {old new : Option (List ℕ)} {kept : List ℕ} {before now : ℕ} {line : List ℕ} {r : Result (Unit {0}) E} (s : Result (Unit {0}) E) → HeldPuts old new [] kept before now line r → OnOk r ⊥ → OnOk s ⊥ → Puts old new before now line s
+pub line_cut : {E : Type 0} {old new : Option (List ℕ)} {kept : List ℕ} {before now : ℕ} {line : List ℕ} {r : Result (Unit {0}) E} (s : Result (Unit {0}) E) →
+    HeldPuts old new [] kept before now line r → OnOk r ⊥ → OnOk s ⊥ → Puts old new before now line s
 line_cut {old = old} {new = new} {kept = kept} {line = line} {r = Ok u} s h bad none = absurd bad
 line_cut {old = old} {new = new} {kept = kept} {line = line} {r = Err e} (Ok u) h bad none = absurd none
 line_cut {old = old} {new = new} {kept = kept} {line = line} {r = Err e} (Err f) h bad none =

@@ -24,14 +24,16 @@ strict cmp (k ∷ ks) h = (all k ks (λ j d lt. h zero (suc j) d (omega arith) (
     all k (x ∷ ks) h = (h zero x (omega arith), all k ks (λ j d lt. h (suc j) d (omega arith)))
 
 -- once changes of which no two have one id are sorted by id, their ids strictly rise
-pub sorted_changes : {F : Type 0} {g : Mut F (Bor Change × (Bor Change × Unit {0})) Ordering} {f : F} (changes ordered : List Change) → AllPairs (λ one other. one.id ≢ other.id) changes
-    → IsPermutation changes ordered → IsSortedByClosure g f ordered
-    → ((f : F) (a : Bor Change × (Bor Change × Unit {0})) (r : Ordering) (f' : F) → Called g f a r f' → r ≡ slice_cmp nat_cmp a.0.now.id a.1.0.now.id) → IsStrictlySortedBy (slice_cmp nat_cmp) (map (λ c. c.id) ordered)
+pub sorted_changes : {F : Type 0} {g : Mut F (Bor Change × (Bor Change × Unit {0})) Ordering} {f : F} (changes ordered : List Change) →
+    AllPairs (λ one other. one.id ≢ other.id) changes → IsPermutation changes ordered → IsSortedByClosure g f ordered →
+    ((f : F) (a : Bor Change × (Bor Change × Unit {0})) (r : Ordering) (f' : F) → Called g f a r f' → r ≡ slice_cmp nat_cmp a.0.now.id a.1.0.now.id) →
+    IsStrictlySortedBy (slice_cmp nat_cmp) (map (λ c. c.id) ordered)
 sorted_changes {g = g} {f = f} changes ordered differ moved up calls =
     let pairs = sorted_by_key (λ (c : Change). c.id) {g = g} {f = f} changes ordered differ moved up calls in
     let many = length-map ordered (λ (c : Change). c.id) in
     strict (slice_cmp nat_cmp) (map (λ c. c.id) ordered) (λ i j d below within. keyed ordered i j d pairs below (omega arith))
   where
-    keyed : (xs : List Change) (i j : ℕ) (d : List ℕ) → AllPairs (λ one other. slice_cmp nat_cmp one.id other.id ≡ Less) xs → i < j → j < length xs → slice_cmp nat_cmp (get_or (map (λ (c : Change). c.id) xs) i d) (get_or (map (λ (c : Change). c.id) xs) j d) ≡ Less
+    keyed : (xs : List Change) (i j : ℕ) (d : List ℕ) → AllPairs (λ one other. slice_cmp nat_cmp one.id other.id ≡ Less) xs → i < j →
+        j < length xs → slice_cmp nat_cmp (get_or (map (λ (c : Change). c.id) xs) i d) (get_or (map (λ (c : Change). c.id) xs) j d) ≡ Less
     keyed [] i j d h below within = absurd (omega arith)
     keyed (x ∷ xs) i j d h below within = rw (get_or-map (λ (c : Change). c.id) (x ∷ xs) i x d (omega arith), get_or-map (λ (c : Change). c.id) (x ∷ xs) j x d within) (h i j x below within)

@@ -27,7 +27,8 @@ encode_bytes : (c : ℕ) → scalar c ≡ true → AreBytes (encode c)
 unfolding encode
 encode_bytes c ok = by_size (ltb c 128) (ltb c 2048) (ltb c 65536) refl refl refl
   where
-    by_size : (x y z : Bool) → ltb c 128 ≡ x → ltb c 2048 ≡ y → ltb c 65536 ≡ z → AreBytes (cond x (c ∷ []) (cond y ((192 + c / 64) ∷ (128 + c % 64) ∷ []) (cond z ((224 + c / 4096) ∷ (128 + c / 64 % 64) ∷ (128 + c % 64) ∷ []) ((240 + c / 262144) ∷ (128 + c / 4096 % 64) ∷ (128 + c / 64 % 64) ∷ (128 + c % 64) ∷ []))))
+    by_size : (x y z : Bool) → ltb c 128 ≡ x → ltb c 2048 ≡ y → ltb c 65536 ≡ z → AreBytes (cond x (c ∷ []) (cond y ((192 + c / 64) ∷ (128 + c % 64) ∷ [])
+        (cond z ((224 + c / 4096) ∷ (128 + c / 64 % 64) ∷ (128 + c % 64) ∷ []) ((240 + c / 262144) ∷ (128 + c / 4096 % 64) ∷ (128 + c / 64 % 64) ∷ (128 + c % 64) ∷ []))))
     by_size true y z e f g = let h : c < 128 = grind (arith, nat_tests) in (omega arith, tt)
     by_size false true z e f g = let h : c < 2048 = grind (arith, nat_tests) in (omega arith, (omega arith, tt))
     by_size false false true e f g = let h : c < 65536 = grind (arith, nat_tests) in (omega arith, (omega arith, (omega arith, tt)))
@@ -81,7 +82,8 @@ not_lone b (x ∷ rest) e = refl
 first_spelled : (b : ℕ) (rest : List ℕ) → spelled (byte_text b ++ rest) ≡ bytes_spelled (byte_text b ++ rest)
 first_spelled b rest = by_test (is_plain b) refl
   where
-    by_test : (t : Bool) → is_plain b ≡ t → spelled (cond t (b ∷ []) (37 ∷ hex_digit (b / 16) ∷ hex_digit (b % 16) ∷ []) ++ rest) ≡ bytes_spelled (cond t (b ∷ []) (37 ∷ hex_digit (b / 16) ∷ hex_digit (b % 16) ∷ []) ++ rest)
+    by_test : (t : Bool) → is_plain b ≡ t → spelled (cond t (b ∷ []) (37 ∷ hex_digit (b / 16) ∷ hex_digit (b % 16) ∷ []) ++ rest)
+        ≡ bytes_spelled (cond t (b ∷ []) (37 ∷ hex_digit (b / 16) ∷ hex_digit (b % 16) ∷ []) ++ rest)
     by_test true e = not_lone b rest (plain_byte b e)
     by_test false e = refl
 

@@ -67,7 +67,8 @@ pub(crate) fn hex_digit(n: u8) -> u8
 /// # Errors
 /// Out of memory.
 pub fn read_id(alloc: Global, text: &str) -> Result<Option<Text>, AllocError>
-    ensures { IfOk result (λ answer. MatchOption answer ((id : List ℕ) → ¬ (Spells text.now id)) (Spells text.now)) }
+    ensures { IfOk result
+        (λ answer. MatchOption answer ((id : List ℕ) → ¬ (Spells text.now id)) (Spells text.now)) }
 {
     let bytes = spelled_by(alloc, text.as_bytes())?;
     let Ok(id) = std::str::from_utf8(&bytes) else {
@@ -107,7 +108,9 @@ fn all_spelled_by(alloc: Global, text: &[u8]) -> Result<Vec<u8>, AllocError>
 
 // The first byte that a text would spell, and the text behind it; none where there is none.
 fn next_spelled(text: &[u8]) -> Option<(u8, &[u8])>
-    ensures { MatchOption result (text.now ≡ []) (λ p. (bytes_spelled text.now ≡ p.0 ∷ bytes_spelled p.1.now) × (length p.1.now < length text.now)) }
+    ensures { MatchOption result (text.now ≡ [])
+        (λ p. (bytes_spelled text.now ≡ p.0 ∷ bytes_spelled p.1.now)
+        × (length p.1.now < length text.now)) }
 {
     match text {
         [b'%', high, low, after @ ..] => Some((hex_value(*high) * 16 + hex_value(*low), after)),

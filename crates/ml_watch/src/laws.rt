@@ -16,7 +16,8 @@ pub fn hear_nothing<W: Watcher>()
 /// Watchers that were told some changes and then others were told them all.
 pub fn hear_twice<W: Watcher>()
     ensures { (first second : List Change) (old between new : List W) →
-        AllHear W.hearing first old between → AllHear W.hearing second between new → AllHear W.hearing (first ++ second) old new }
+        AllHear W.hearing first old between → AllHear W.hearing second between new →
+        AllHear W.hearing (first ++ second) old new }
 {}
 
 /// A text spells one id at most.

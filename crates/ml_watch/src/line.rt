@@ -14,7 +14,8 @@ use ml_io::{Failed, Sink};
 /// Writes the line of a change: `ID BEFORE AFTER` and LF. The bytes are given to the sink in pieces of 256 and
 /// what is left.
 pub(crate) fn put_line<K: Sink>(sink: &mut K, change: &Change) -> Result<(), Failed>
-    ensures { Puts (K.written sink.old) (K.written sink.new) (K.faults sink.old) (K.faults sink.new) (change_line change.now) result }
+    ensures { Puts (K.written sink.old) (K.written sink.new) (K.faults sink.old)
+        (K.faults sink.new) (change_line change.now) result }
 {
     let mut held = Held::new();
     match put_change(sink, &mut held, change) {
@@ -26,7 +27,8 @@ pub(crate) fn put_line<K: Sink>(sink: &mut K, change: &Change) -> Result<(), Fai
 // Gives the bytes that are held back to the sink. After a fault those that it did not take are held still.
 fn give<K: Sink>(sink: &mut K, held: &mut Held) -> Result<(), Failed>
     ensures ok { OnOk result (held.new ≡ []) }
-    ensures same { with_held (K.written sink.new) held.new ≡ with_held (K.written sink.old) held.old }
+    ensures same { with_held (K.written sink.new) held.new
+        ≡ with_held (K.written sink.old) held.old }
     ensures grows { Grows (K.written sink.old) (K.written sink.new) }
     ensures cause { HasCause (K.faults sink.old) (K.faults sink.new) result }
 {
@@ -43,7 +45,8 @@ fn give<K: Sink>(sink: &mut K, held: &mut Held) -> Result<(), Failed>
 // Makes room for another byte.
 fn make_room<K: Sink>(sink: &mut K, held: &mut Held) -> Result<(), Failed>
     ensures room { OnOk result (length held.new < 256) }
-    ensures same { with_held (K.written sink.new) held.new ≡ with_held (K.written sink.old) held.old }
+    ensures same { with_held (K.written sink.new) held.new
+        ≡ with_held (K.written sink.old) held.old }
     ensures grows { Grows (K.written sink.old) (K.written sink.new) }
     ensures cause { HasCause (K.faults sink.old) (K.faults sink.new) result }
 {
@@ -56,7 +59,8 @@ fn make_room<K: Sink>(sink: &mut K, held: &mut Held) -> Result<(), Failed>
 
 // Writes a change: `ID BEFORE AFTER` and LF.
 fn put_change<K: Sink>(sink: &mut K, held: &mut Held, change: &Change) -> Result<(), Failed>
-    ensures { HeldPuts (K.written sink.old) (K.written sink.new) held.old held.new (K.faults sink.old) (K.faults sink.new) (change_line change.now) result }
+    ensures { HeldPuts (K.written sink.old) (K.written sink.new) held.old held.new
+        (K.faults sink.old) (K.faults sink.new) (change_line change.now) result }
 {
     match put_id(sink, held, change.id.as_str()) {
         Ok(()) => put_spans(sink, held, change.before, change.after),
@@ -71,7 +75,8 @@ fn put_spans<K: Sink>(
     before: Option<Span>,
     after: Option<Span>,
 ) -> Result<(), Failed>
-    ensures { HeldPuts (K.written sink.old) (K.written sink.new) held.old held.new (K.faults sink.old) (K.faults sink.new)
+    ensures { HeldPuts (K.written sink.old) (K.written sink.new) held.old held.new
+        (K.faults sink.old) (K.faults sink.new)
         (spaced_span before ++ (spaced_span after ++ codes "\n")) result }
 {
     match put_span(sink, held, before) {
@@ -82,7 +87,8 @@ fn put_spans<K: Sink>(
 
 // Writes the last span, behind a blank, and LF.
 fn put_last<K: Sink>(sink: &mut K, held: &mut Held, after: Option<Span>) -> Result<(), Failed>
-    ensures { HeldPuts (K.written sink.old) (K.written sink.new) held.old held.new (K.faults sink.old) (K.faults sink.new)
+    ensures { HeldPuts (K.written sink.old) (K.written sink.new) held.old held.new
+        (K.faults sink.old) (K.faults sink.new)
         (spaced_span after ++ codes "\n") result }
 {
     match put_span(sink, held, after) {
@@ -93,7 +99,8 @@ fn put_last<K: Sink>(sink: &mut K, held: &mut Held, after: Option<Span>) -> Resu
 
 // Writes a span behind a blank; a missing one is `-`.
 fn put_span<K: Sink>(sink: &mut K, held: &mut Held, span: Option<Span>) -> Result<(), Failed>
-    ensures { HeldPuts (K.written sink.old) (K.written sink.new) held.old held.new (K.faults sink.old) (K.faults sink.new) (spaced_span span) result }
+    ensures { HeldPuts (K.written sink.old) (K.written sink.new) held.old held.new
+        (K.faults sink.old) (K.faults sink.new) (spaced_span span) result }
 {
     let Some(span) = span else {
         return put_text(sink, held, " -");
@@ -115,7 +122,8 @@ fn put_span<K: Sink>(sink: &mut K, held: &mut Held, span: Option<Span>) -> Resul
 
 // Writes pieces of text, one behind the other.
 fn put_pieces<K: Sink>(sink: &mut K, held: &mut Held, pieces: &[&str]) -> Result<(), Failed>
-    ensures { HeldPuts (K.written sink.old) (K.written sink.new) held.old held.new (K.faults sink.old) (K.faults sink.new)
+    ensures { HeldPuts (K.written sink.old) (K.written sink.new) held.old held.new
+        (K.faults sink.old) (K.faults sink.new)
         (flat_map (λ piece. piece.now) pieces.now) result }
 {
     for piece in pieces {
@@ -129,7 +137,8 @@ fn put_pieces<K: Sink>(sink: &mut K, held: &mut Held, pieces: &[&str]) -> Result
 
 // Writes an id; an empty one is `%`.
 fn put_id<K: Sink>(sink: &mut K, held: &mut Held, id: &str) -> Result<(), Failed>
-    ensures { HeldPuts (K.written sink.old) (K.written sink.new) held.old held.new (K.faults sink.old) (K.faults sink.new) (id_text id.now) result }
+    ensures { HeldPuts (K.written sink.old) (K.written sink.new) held.old held.new
+        (K.faults sink.old) (K.faults sink.new) (id_text id.now) result }
 {
     if id.is_empty() {
         put_text(sink, held, "%")
@@ -140,7 +149,8 @@ fn put_id<K: Sink>(sink: &mut K, held: &mut Held, id: &str) -> Result<(), Failed
 
 // Writes the bytes of an id.
 fn put_bytes<K: Sink>(sink: &mut K, held: &mut Held, bytes: &[u8]) -> Result<(), Failed>
-    ensures { HeldPuts (K.written sink.old) (K.written sink.new) held.old held.new (K.faults sink.old) (K.faults sink.new)
+    ensures { HeldPuts (K.written sink.old) (K.written sink.new) held.old held.new
+        (K.faults sink.old) (K.faults sink.new)
         (flat_map byte_text bytes.now) result }
 {
     for byte in bytes {
@@ -154,7 +164,8 @@ fn put_bytes<K: Sink>(sink: &mut K, held: &mut Held, bytes: &[u8]) -> Result<(),
 
 // Writes a byte of an id: as it is, or as `%` and two upper-case hexadecimal digits.
 fn put_byte<K: Sink>(sink: &mut K, held: &mut Held, byte: u8) -> Result<(), Failed>
-    ensures { HeldPuts (K.written sink.old) (K.written sink.new) held.old held.new (K.faults sink.old) (K.faults sink.new) (byte_text byte) result }
+    ensures { HeldPuts (K.written sink.old) (K.written sink.new) held.old held.new
+        (K.faults sink.old) (K.faults sink.new) (byte_text byte) result }
 {
     if is_plain(byte) {
         put_piece(sink, held, &[byte])
@@ -169,14 +180,16 @@ fn put_byte<K: Sink>(sink: &mut K, held: &mut Held, byte: u8) -> Result<(), Fail
 
 // Writes a text.
 fn put_text<K: Sink>(sink: &mut K, held: &mut Held, text: &str) -> Result<(), Failed>
-    ensures { HeldPuts (K.written sink.old) (K.written sink.new) held.old held.new (K.faults sink.old) (K.faults sink.new) text.now result }
+    ensures { HeldPuts (K.written sink.old) (K.written sink.new) held.old held.new
+        (K.faults sink.old) (K.faults sink.new) text.now result }
 {
     put_piece(sink, held, text.as_bytes())
 }
 
 // Writes bytes.
 fn put_piece<K: Sink>(sink: &mut K, held: &mut Held, piece: &[u8]) -> Result<(), Failed>
-    ensures { HeldPuts (K.written sink.old) (K.written sink.new) held.old held.new (K.faults sink.old) (K.faults sink.new) piece.now result }
+    ensures { HeldPuts (K.written sink.old) (K.written sink.new) held.old held.new
+        (K.faults sink.old) (K.faults sink.new) piece.now result }
 {
     for byte in piece {
         match put_one(sink, held, *byte) {
@@ -189,7 +202,8 @@ fn put_piece<K: Sink>(sink: &mut K, held: &mut Held, piece: &[u8]) -> Result<(),
 
 // Writes one byte.
 fn put_one<K: Sink>(sink: &mut K, held: &mut Held, byte: u8) -> Result<(), Failed>
-    ensures { HeldPuts (K.written sink.old) (K.written sink.new) held.old held.new (K.faults sink.old) (K.faults sink.new) (byte ∷ []) result }
+    ensures { HeldPuts (K.written sink.old) (K.written sink.new) held.old held.new
+        (K.faults sink.old) (K.faults sink.new) (byte ∷ []) result }
 {
     match make_room(sink, held) {
         Ok(()) => {

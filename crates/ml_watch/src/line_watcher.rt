@@ -48,11 +48,22 @@ impl<K: Sink + Drop> Watcher for LineWatcher<K> {
 
     fn tell(&mut self, change: &Change) -> Result<(), Failed>
         ensures told { Told
-            (record { told = None; text = K.written self.old.sink; heard = self.old.heard; faults = self.old.faults })
-            (record { told = None; text = K.written self.new.sink; heard = self.new.heard; faults = self.new.faults })
+            (record {
+              told = None;
+              text = K.written self.old.sink;
+              heard = self.old.heard;
+              faults = self.old.faults;
+            })
+            (record {
+              told = None;
+              text = K.written self.new.sink;
+              heard = self.new.heard;
+              faults = self.new.faults;
+            })
             change.now result }
         ensures cause { OnErr result (Rose (K.faults self.old.sink) (K.faults self.new.sink)) }
-        ensures counted { self.new.faults ≡ (if is_ok result then self.old.faults else one_more self.old.faults) }
+        ensures counted { self.new.faults
+            ≡ (if is_ok result then self.old.faults else one_more self.old.faults) }
     {
         match put_line(&mut self.sink, change) {
             Ok(()) => {

@@ -79,8 +79,18 @@ impl Watcher for MemWatcher {
     /// and there is room.
     fn tell(&mut self, change: &Change) -> Result<(), Failed>
         ensures told { Told
-            (record { told = Some self.old.kept; text = None; heard = self.old.heard; faults = self.old.faults })
-            (record { told = Some self.new.kept; text = None; heard = self.new.heard; faults = self.new.faults })
+            (record {
+              told = Some self.old.kept;
+              text = None;
+              heard = self.old.heard;
+              faults = self.old.faults;
+            })
+            (record {
+              told = Some self.new.kept;
+              text = None;
+              heard = self.new.heard;
+              faults = self.new.faults;
+            })
             change.now result }
         ensures accepted { IsOk result ↔ Accepts self.old change.now }
         ensures same { TellLeaves self.old self.new result }

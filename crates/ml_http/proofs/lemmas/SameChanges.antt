@@ -17,7 +17,8 @@ SameEnds labels slots others = (p : ℕ) → p < length labels → (get_or slots
 pub turned : (labels : List Label) (slots others : List Slot) → SameEnds labels slots others → SameEnds labels others slots
 turned labels slots others same p within = sym (same p within)
 
-state_moved : (labels : List Label) (slots others : List Slot) → SameEnds labels slots others → (id : List ℕ) (state : Option Ranged) → IsStateOf labels slots id state → IsStateOf labels others id state
+state_moved : (labels : List Label) (slots others : List Slot) → SameEnds labels slots others →
+    (id : List ℕ) (state : Option Ranged) → IsStateOf labels slots id state → IsStateOf labels others id state
 state_moved labels slots others same id None is = is
 state_moved labels slots others same id (Some one) is = record {
   place = is.place;
@@ -40,10 +41,13 @@ change_moved labels slots others new_labels new_slots new_others same new_same c
 }
 
 -- changes between labels with their slots are those with other slots of the same ends
-pub changes_moved : (labels : List Label) (slots others : List Slot) (new_labels : List Label) (new_slots new_others : List Slot) → SameEnds labels slots others → SameEnds new_labels new_slots new_others →
-    (changes : List Change) → AreChanges labels slots new_labels new_slots changes → AreChanges labels others new_labels new_others changes
+pub changes_moved : (labels : List Label) (slots others : List Slot) (new_labels : List Label) (new_slots new_others : List Slot) →
+    SameEnds labels slots others → SameEnds new_labels new_slots new_others → (changes : List Change) →
+    AreChanges labels slots new_labels new_slots changes → AreChanges labels others new_labels new_others changes
 changes_moved labels slots others new_labels new_slots new_others same new_same changes are = record {
   ascending = are.ascending;
-  sound = All-weaker (IsChange labels slots new_labels new_slots) (IsChange labels others new_labels new_others) (change_moved labels slots others new_labels new_slots new_others same new_same) changes are.sound;
-  whole = λ change is. are.whole change (change_moved labels others slots new_labels new_others new_slots (turned labels slots others same) (turned new_labels new_slots new_others new_same) change is);
+  sound = All-weaker (IsChange labels slots new_labels new_slots) (IsChange labels others new_labels new_others)
+      (change_moved labels slots others new_labels new_slots new_others same new_same) changes are.sound;
+  whole = λ change is. are.whole change (change_moved labels others slots new_labels new_others new_slots
+      (turned labels slots others same) (turned new_labels new_slots new_others new_same) change is);
 }

@@ -107,7 +107,8 @@ scale_above a s h =
     ]
 
 -- the greater of two
-pub greater_of : (a b : Fraction) → (m : Fraction) × IsAtMost a m × IsAtMost b m × ((x : Fraction) → IsAtMost a x → IsAtMost b x → IsAtMost m x) × ((x : Fraction) → IsLess a x → IsLess b x → IsLess m x)
+pub greater_of : (a b : Fraction) → (m : Fraction) × IsAtMost a m × IsAtMost b m
+    × ((x : Fraction) → IsAtMost a x → IsAtMost b x → IsAtMost m x) × ((x : Fraction) → IsLess a x → IsLess b x → IsLess m x)
 greater_of a b =
     elim (cases_lt (a.num * b.den) (b.num * a.den)) [
       | inl h ↦ (b, omega arith, omega arith, λ x p q. q, λ x p q. q)

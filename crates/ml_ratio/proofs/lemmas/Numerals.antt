@@ -83,7 +83,8 @@ whole_plain (byte ∷ rest) none =
     rw differ refl
 
 -- whether an element passes, by the place of the first that does
-passes_at : (t : Bool) (p : ℕ → Bool) (b : ℕ) (bytes : List ℕ) → p b ≡ t → (position_or_len p bytes < length bytes → list_any p bytes ≡ true) → position_or_len p (b ∷ bytes) < length (b ∷ bytes) → list_any p (b ∷ bytes) ≡ true
+passes_at : (t : Bool) (p : ℕ → Bool) (b : ℕ) (bytes : List ℕ) → p b ≡ t → (position_or_len p bytes < length bytes → list_any p bytes ≡ true) →
+    position_or_len p (b ∷ bytes) < length (b ∷ bytes) → list_any p (b ∷ bytes) ≡ true
 passes_at true p b bytes e rest h = rw e refl
 passes_at false p b bytes e rest h =
     let f : position_or_len p (b ∷ bytes) ≡ 1 + position_or_len p bytes = rw e refl in
@@ -100,7 +101,8 @@ unfolding ratio_parts
 parts_split bytes h = rw (some_passes is_slash bytes h) refl
 
 -- a text writes one fraction at most, by value
-same_by : (o : Option (ℕ × ℕ)) (r s : Ratio) → MatchOption o (Some r ≡ None) (λ p. IsRatioOf p.0 p.1 (Some r)) → MatchOption o (Some s ≡ None) (λ p. IsRatioOf p.0 p.1 (Some s)) → IsSame (value_of r) (value_of s)
+same_by : (o : Option (ℕ × ℕ)) (r s : Ratio) → MatchOption o (Some r ≡ None) (λ p. IsRatioOf p.0 p.1 (Some r)) →
+    MatchOption o (Some s ≡ None) (λ p. IsRatioOf p.0 p.1 (Some s)) → IsSame (value_of r) (value_of s)
 same_by None r s h k = absurd (cc)
 same_by (Some p) r s h k =
     let one : r.num * p.1 ≡ p.0 * r.den = h.1 in

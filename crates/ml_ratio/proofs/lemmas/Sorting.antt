@@ -57,16 +57,20 @@ module _ {X : Type 0} (key : X → List ℕ) where
   -- elements whose keys differ keep them apart when they change places
   pub still_differ : (xs ys : List X) → IsPermutation xs ys → AllPairs (λ x y. key x ≢ key y) xs → AllPairs (λ x y. key x ≢ key y) ys
   still_differ xs ys moved h =
-      elements_differ ys (AllPairs-from_IsDistinct keys_decide (map key ys) (IsDistinct-IsPermutation (pointwise nat_eq) nat_list_eq_equiv.symm (map key xs) (map key ys) (IsPermutation-map key xs ys moved) (IsDistinct-from_AllPairs keys_decide (map key xs) (keys_differ xs h))))
+      elements_differ ys (AllPairs-from_IsDistinct keys_decide (map key ys) (IsDistinct-IsPermutation (pointwise nat_eq) nat_list_eq_equiv.symm
+      (map key xs) (map key ys) (IsPermutation-map key xs ys moved) (IsDistinct-from_AllPairs keys_decide (map key xs) (keys_differ xs h))))
 
   -- once they are sorted by their keys, each stands before all later ones
-  pub sorted_by_key : {F : Type 0} {g : Mut F (Bor X × (Bor X × Unit {0})) Ordering} {f : F} (xs ys : List X) → AllPairs (λ x y. key x ≢ key y) xs → IsPermutation xs ys → IsSortedByClosure g f ys
-      → ((f : F) (a : Bor X × (Bor X × Unit {0})) (r : Ordering) (f' : F) → Called g f a r f' → r ≡ slice_cmp nat_cmp (key a.0.now) (key a.1.0.now)) → AllPairs (λ x y. slice_cmp nat_cmp (key x) (key y) ≡ Less) ys
+  pub sorted_by_key : {F : Type 0} {g : Mut F (Bor X × (Bor X × Unit {0})) Ordering} {f : F} (xs ys : List X) →
+      AllPairs (λ x y. key x ≢ key y) xs → IsPermutation xs ys → IsSortedByClosure g f ys →
+      ((f : F) (a : Bor X × (Bor X × Unit {0})) (r : Ordering) (f' : F) → Called g f a r f' → r ≡ slice_cmp nat_cmp (key a.0.now) (key a.1.0.now)) →
+      AllPairs (λ x y. slice_cmp nat_cmp (key x) (key y) ≡ Less) ys
   sorted_by_key {g = g} {f = f} xs ys differ moved up calls i j d below within =
       let one = key (get_or ys i d) in
       let other = key (get_or ys j d) in
       let turn = nat_list_cmp_total.antisymm one other in
       let apart = still_differ xs ys moved differ i j d below within in
-      let sorted = up (λ x y. is_lt (slice_cmp nat_cmp (key x) (key y))) (ranks_by nat_list_cmp_total key) (answers_always g (λ a r. is_lt r ≡ is_lt (slice_cmp nat_cmp (key a.0.now) (key a.1.0.now))) f (λ f a r f' call. ap is_lt (calls f a r f' call))) in
+      let sorted = up (λ x y. is_lt (slice_cmp nat_cmp (key x) (key y))) (ranks_by nat_list_cmp_total key)
+      (answers_always g (λ a r. is_lt r ≡ is_lt (slice_cmp nat_cmp (key a.0.now) (key a.1.0.now))) f (λ f a r f' call. ap is_lt (calls f a r f' call))) in
       let above = sorted_far _ (ranks_by nat_list_cmp_total key) ys sorted i j d (omega arith) within in
       turn ∙ turned_less (slice_cmp nat_cmp other one) above (λ tie. apart (tied_keys one other (turn ∙ tie)))

@@ -1,5 +1,6 @@
 -- A stream that goes on begins with the same events.
-use Rattle.std.proofs.Common.{◌≡◌, ℕ, ◌+◌, ◌-◌, ◌≤◌, Bool, true, false, List, [], ◌∷◌, ◌++◌, length, take, drop, refl, ap, ◌∙◌, sym, subst, arith, inl, inr, length-append, Option, Some, None, Result, Ok, Err, ◌==◌, MatchBool}
+use Rattle.std.proofs.Common.{◌≡◌, ℕ, ◌+◌, ◌-◌, ◌≤◌, Bool, true, false, List, [], ◌∷◌, ◌++◌, length, take, drop, refl, ap, ◌∙◌, sym}
+use Rattle.std.proofs.Common.{subst, arith, inl, inr, length-append, Option, Some, None, Result, Ok, Err, ◌==◌, MatchBool}
 use Rattle.std.proofs.lemmas.List.{take-append-le, drop-append-le, length-drop}
 use Rattle.httparse.proofs.GrammarLemmas.{request_unique}
 use Rattle.httparse.specs.Grammar.{RequestHead}
@@ -8,7 +9,8 @@ use Rattle.ml_request.specs.declared.request.Event.{Event}
 use Rattle.ml_request.specs.declared.request.Event.TheVariants.{Whole, Refused}
 use Rattle.ml_request.specs.Request.{RequestParts, HeadParts}
 use Rattle.ml_request.specs.Heads.{IsJudged, IsReading, judgement}
-use Rattle.ml_request.specs.Stream.{HasNoMark, BeginsWithHead, IsHeadTooLong, EndsInHead, EndsInBody, HasNoEvent, request_of, BeginsWithRequest, BeginsRefused, BeginsWith, closes, AreEvents, AreFirstEvents}
+use Rattle.ml_request.specs.Stream.{HasNoMark, BeginsWithHead, IsHeadTooLong, EndsInHead, EndsInBody, HasNoEvent, request_of}
+use Rattle.ml_request.specs.Stream.{BeginsWithRequest, BeginsRefused, BeginsWith, closes, AreEvents, AreFirstEvents}
 use Rattle.ml_request.proofs.Marks.{size_fits, size_grows, one_size, no_mark_short}
 
 -- bytes are at most one head
@@ -50,7 +52,8 @@ too_long_grows bytes more long =
     (omega (arith, long.0, length-append bytes more), subst HasNoMark (sym (take-append-le 16384 bytes more long.0)) long.1)
 
 -- a request at the front stays there, and what follows goes behind the rest
-pub request_grows : (last : Bool) (bytes more : List ℕ) (request : RequestParts) (rest : List ℕ) → BeginsWithRequest last bytes request rest → BeginsWithRequest last (bytes ++ more) request (rest ++ more)
+pub request_grows : (last : Bool) (bytes more : List ℕ) (request : RequestParts) (rest : List ℕ) →
+    BeginsWithRequest last bytes request rest → BeginsWithRequest last (bytes ++ more) request (rest ++ more)
 request_grows last bytes more request rest found =
     let fits : found.size ≤ length bytes = size_fits bytes found.size found.head.ends in
     let room : found.parts.length ≤ length (drop found.size bytes) = omega (arith, length-drop found.size bytes, found.whole) in
@@ -129,7 +132,9 @@ abbrev Continues : List Event → List Event → Type 0
 Continues few all = (others : List Event) × (all ≡ few ++ others)
 
 -- the events behind one event that both streams bring
-go_on : (left : ℕ) (b : Bool) (rest more other : List ℕ) (few all : List Event) → (b ≡ false → rest ++ more ≡ other) → (AreEvents left rest few → AreEvents left (rest ++ more) all → Continues few all) → MatchBool b (few ≡ []) (AreEvents left rest few) → MatchBool b (all ≡ []) (AreEvents left other all) → Continues few all
+go_on : (left : ℕ) (b : Bool) (rest more other : List ℕ) (few all : List Event) → (b ≡ false → rest ++ more ≡ other) →
+    (AreEvents left rest few → AreEvents left (rest ++ more) all → Continues few all) →
+    MatchBool b (few ≡ []) (AreEvents left rest few) → MatchBool b (all ≡ []) (AreEvents left other all) → Continues few all
 go_on left true rest more other few all same later p q = (all, ap (λ xs. xs ++ all) (sym p))
 go_on left false rest more other few all same later p q = later p (subst (λ bytes. AreEvents left bytes all) (sym (same refl)) q)
 

@@ -16,7 +16,8 @@ pub numbered_inserted : (rows : List Row) (at : ℕ) (r : Row) → AreNumbered r
 numbered_inserted rows at r numbered le few fresh low = record {
   few = (let n = length-insert rows at r le in omega arith);
   differ = differ_inserted rows at r numbered.differ le fresh;
-  low = rw (map_insert (λ (s : Row). s.number) rows at r) (All-permutation (λ n. n < 32768) (r.number ∷ numbers_in rows) (insert (numbers_in rows) at r.number) (IsPermutation-insert (numbers_in rows) at r.number) (All-cons (λ n. n < 32768) r.number (numbers_in rows) low numbered.low));
+  low = rw (map_insert (λ (s : Row). s.number) rows at r) (All-permutation (λ n. n < 32768) (r.number ∷ numbers_in rows) (insert (numbers_in rows) at r.number)
+      (IsPermutation-insert (numbers_in rows) at r.number) (All-cons (λ n. n < 32768) r.number (numbers_in rows) low numbered.low));
 }
 
 -- rows with low numbers of their own still have such when one row is taken out
@@ -27,7 +28,8 @@ numbered_removed rows at numbered lt =
     record {
       few = (let m = length-remove rows at lt in let f = numbered.few in omega arith);
       differ = differ_removed rows at numbered.differ lt;
-      low = rw (map_remove (λ (s : Row). s.number) rows at) (All-tail (λ n. n < 32768) n (remove (numbers_in rows) at) (All-permutation (λ n. n < 32768) (numbers_in rows) (n ∷ remove (numbers_in rows) at) (IsPermutation-remove (numbers_in rows) at n (omega arith) (get_or_default (numbers_in rows) at 0 n (omega arith))) numbered.low));
+      low = rw (map_remove (λ (s : Row). s.number) rows at) (All-tail (λ n. n < 32768) n (remove (numbers_in rows) at) (All-permutation (λ n. n < 32768) (numbers_in rows)
+          (n ∷ remove (numbers_in rows) at) (IsPermutation-remove (numbers_in rows) at n (omega arith) (get_or_default (numbers_in rows) at 0 n (omega arith))) numbered.low));
     }
 
 -- not too many rows whose numbers are their places have low numbers of their own

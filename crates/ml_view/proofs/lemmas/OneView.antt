@@ -32,7 +32,8 @@ one_whole word y z first second = let e : Some y ≡ Some z = sym first ∙ seco
 pub one_side : (word : Option ℤ) (m n : ℕ) → word ≡ Some (pos m) → word ≡ Some (pos n) → m ≡ n
 one_side word m n first second = let e : pos m ≡ pos n = one_whole word (pos m) (pos n) first second in cc
 
-same_value : (o : Option (ℕ × ℕ)) (r s : Ratio) → MatchOption o (Some r ≡ None) (λ p. IsRatioOf p.0 p.1 (Some r)) → MatchOption o (Some s ≡ None) (λ p. IsRatioOf p.0 p.1 (Some s)) → IsSame (value_of r) (value_of s)
+same_value : (o : Option (ℕ × ℕ)) (r s : Ratio) → MatchOption o (Some r ≡ None) (λ p. IsRatioOf p.0 p.1 (Some r)) →
+    MatchOption o (Some s ≡ None) (λ p. IsRatioOf p.0 p.1 (Some s)) → IsSame (value_of r) (value_of s)
 same_value None r s h k = absurd (cc)
 same_value (Some p) r s h k =
     let one : r.num * p.1 ≡ p.0 * r.den = h.1 in

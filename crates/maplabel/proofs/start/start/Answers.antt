@@ -8,7 +8,8 @@ pub returns : goal.returns
 returns g c =
     let words : map string_bytes c.words_of-words.result.now ≡ words_given c.args.values = elim c.match-values.branch [
       | in-Ok w ↦ ap (λ vs. map string_bytes vs) (c.words_of-words.ensures ∙ ap (λ vs. drop 1 vs) (c.deref.ensures.value ∙ ap (λ v. v.items) w.given-is)) ∙ ap words_given (sym w.in-Ok.is)
-      | in-Err+in_default w ↦ ap (λ vs. map string_bytes vs) (c.words_of-words.ensures ∙ ap (λ vs. drop 1 vs) (c.deref.ensures.value ∙ ap (λ v. v.items) w.given-is ∙ w.new.ensures.items)) ∙ ap words_given (sym w.in-Err.is)
+      | in-Err+in_default w ↦ ap (λ vs. map string_bytes vs) (c.words_of-words.ensures
+          ∙ ap (λ vs. drop 1 vs) (c.deref.ensures.value ∙ ap (λ v. v.items) w.given-is ∙ w.new.ensures.items)) ∙ ap words_given (sym w.in-Err.is)
     ] in
     let given : ¬ (IsMissing c.args.values) = elim c.match-values.branch [
       | in-Ok w ↦ λ missing. (let none = rw w.in-Ok.is at missing in none)

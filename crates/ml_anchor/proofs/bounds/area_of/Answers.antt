@@ -36,5 +36,6 @@ returns c =
     let x : FitsSigned w128 (c.bounds_of-bounds.result.east -ℤ c.bounds_of-bounds.result.west) = omega (arith, ints) in
     let y : FitsSigned w128 (c.bounds_of-bounds.result.north -ℤ c.bounds_of-bounds.result.south) = omega (arith, ints) in
     let p = area_fits c.bounds_of-bounds.result.west c.bounds_of-bounds.result.east c.bounds_of-bounds.result.south c.bounds_of-bounds.result.north o.west_in o.east_in o.south_in o.north_in in
-    let q : (c.bounds_of-bounds.result.east -ℤ c.bounds_of-bounds.result.west) *ℤ (c.bounds_of-bounds.result.north -ℤ c.bounds_of-bounds.result.south) ≡ box_area c.args.ring.now = simp (m.west_is, m.east_is, m.south_is, m.north_is) in
+    let q : (c.bounds_of-bounds.result.east -ℤ c.bounds_of-bounds.result.west) *ℤ (c.bounds_of-bounds.result.north -ℤ c.bounds_of-bounds.result.south) ≡ box_area c.args.ring.now =
+    simp (m.west_is, m.east_is, m.south_is, m.north_is) in
     simp to_z-of_z q

@@ -9,7 +9,8 @@ pub loop-i-preserved : goal.loop-i-preserved
 loop-i-preserved c =
     let e = c.in_ok-add.ensures in
     e ∙ (ap (λ (o : Option ℤ). c.loop-i.found.items ++ option_to_list o) c.crossing.ensures
-    ∙ edges_more (to_z w64 (of_z w64 c.args.h)) c.args.ring.now c.loop-i.i c.index-ring-i.result c.index-ring-i-in-loop-i.result c.args.found.now.items c.loop-i.found.items (omega arith) (omega arith) c.index-ring-i.is c.index-ring-i-in-loop-i.is c.loop-i.invariant)
+    ∙ edges_more (to_z w64 (of_z w64 c.args.h)) c.args.ring.now c.loop-i.i c.index-ring-i.result c.index-ring-i-in-loop-i.result
+    c.args.found.now.items c.loop-i.found.items (omega arith) (omega arith) c.index-ring-i.is c.index-ring-i-in-loop-i.is c.loop-i.invariant)
 
 pub returns : goal.returns
 returns c =

@@ -16,5 +16,6 @@ loop-from-preserved c =
     let few = c.loop-from.invariant.cut.few in
     record {
       within = within;
-      cut = cut_more labels spots c.loop-from.strips c.loop-from.many c.loop-from.from strip (omega arith) refl (strip_of labels spots strip (omega arith) within c.requires c.end_of-to.ensures.rising c.area_of.ensures) c.loop-from.invariant.cut;
+      cut = cut_more labels spots c.loop-from.strips c.loop-from.many c.loop-from.from strip (omega arith) refl
+          (strip_of labels spots strip (omega arith) within c.requires c.end_of-to.ensures.rising c.area_of.ensures) c.loop-from.invariant.cut;
     }

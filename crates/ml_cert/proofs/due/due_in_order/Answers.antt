@@ -6,7 +6,8 @@ use Rattle.ml_cert.proofs.due.due_in_order.Goals.{in-Some+else-is_less+then-is_n
 pub loop-j-preserved : goal.loop-j-preserved
 loop-j-preserved c =
     let known = c.known_limits.ensures in
-    let pair = pair_of c.args.labels.now c.args.slots.now c.args.i c.loop-j.j c.index-labels-i.result c.index-labels-j.result c.index-slots-i.result c.index-slots-j.result (omega arith) c.requires.at c.requires.lengths c.index-labels-i.is c.index-labels-j.is c.requires.end in
+    let pair = pair_of c.args.labels.now c.args.slots.now c.args.i c.loop-j.j c.index-labels-i.result c.index-labels-j.result c.index-slots-i.result c.index-slots-j.result
+    (omega arith) c.requires.at c.requires.lengths c.index-labels-i.is c.index-labels-j.is c.requires.end in
     elim c.match-limit_up_to.branch [
       | in-Some+else-is_less+then-is_none w ↦
           rw w.due-is (due_more known pair c.loop-j.invariant w.in-Some.ensures.some w.in-Some.ensures.below.0 (omega (arith, w.if-is_less.ensures, w.in-Some.ensures.below.1)) w.if-is_none.ensures)
@@ -17,7 +18,8 @@ loop-j-preserved c =
 pub returns-then-is_less : goal.returns-then-is_less
 returns-then-is_less c =
     let known = c.known_limits.ensures in
-    let pair = pair_of c.args.labels.now c.args.slots.now c.args.i c.loop-j.j c.index-labels-i.result c.index-labels-j.result c.index-slots-i.result c.index-slots-j.result (omega arith) c.requires.at c.requires.lengths c.index-labels-i.is c.index-labels-j.is c.requires.end in
+    let pair = pair_of c.args.labels.now c.args.slots.now c.args.i c.loop-j.j c.index-labels-i.result c.index-labels-j.result c.index-slots-i.result c.index-slots-j.result
+    (omega arith) c.requires.at c.requires.lengths c.index-labels-i.is c.index-labels-j.is c.requires.end in
     clash_at known pair c.loop-j.invariant c.in-Some.limit c.in-Some.ensures.some c.if-is_less.ensures
 
 pub returns : goal.returns

@@ -8,7 +8,8 @@ use Rattle.ml_cert.specs.SlotLine.{WritesBlocker}
 use Rattle.ml_cert.proofs.slot_line.read_blocker.Goals as goal
 
 -- a word that is neither `-` nor an id writes no blocker
-no_blocker : (labels : List Label) (word : List ℕ) (found : Option ℕ) → MatchOption found (IsNoId labels word) (IsPlaceOf labels word) → found ≡ None → ¬ (word ≡ codes "-") → (b : Option ℕ) → ¬ (WritesBlocker labels word b)
+no_blocker : (labels : List Label) (word : List ℕ) (found : Option ℕ) → MatchOption found (IsNoId labels word) (IsPlaceOf labels word) →
+    found ≡ None → ¬ (word ≡ codes "-") → (b : Option ℕ) → ¬ (WritesBlocker labels word b)
 no_blocker labels word None none e differ None h = differ h
 no_blocker labels word None none e differ (Some j) h = none j h
 no_blocker labels word (Some k) none e differ b h = cc

@@ -11,7 +11,8 @@ loop-state-init g c =
     let are : into_iter_items c.into_iter-state-iterator.result ≡ c.args.states = c.into_iter-state-iterator.ensures.into_iter_gives.0 ∙ c.into_vec-state-items.ensures in
     record {
       good = rw are c.requires.good;
-      so_far = rw are (at_start g.W.Watcher.hearing c.args.follower.now c.args.states c.args.crowd.now (g.K.Sink.written c.args.out.now) (g.K.Sink.faults c.args.out.now) (c.hear_nothing.ensures c.args.crowd.now));
+      so_far = rw are (at_start g.W.Watcher.hearing c.args.follower.now c.args.states c.args.crowd.now
+          (g.K.Sink.written c.args.out.now) (g.K.Sink.faults c.args.out.now) (c.hear_nothing.ensures c.args.crowd.now));
     }
 
 pub loop-state-preserved-then-all : goal.loop-state-preserved-then-all
@@ -20,7 +21,8 @@ loop-state-preserved-then-all g c =
     let steps : into_iter_items c.loop-state.state-iterator ≡ c.in-Some.state ∷ rest = c.in-Some.ensures.steps.0 in
     let good = rw steps at c.loop-state.invariant.good in
     let so_far = rw steps at c.loop-state.invariant.so_far in
-    let more = next_turn g.W.Watcher.hearing c.hear_twice.ensures c.args.follower.now c.args.states c.in-Some.state rest _ _ _ _ _ _ _ _ so_far _ _ _ (g.K.Sink.faults c.offer.new.out) c.in-Ok.adopted c.in-Ok.ensures.turn in
+    let more = next_turn g.W.Watcher.hearing c.hear_twice.ensures c.args.follower.now c.args.states c.in-Some.state rest _ _ _ _ _ _ _ _ so_far _ _ _
+    (g.K.Sink.faults c.offer.new.out) c.in-Ok.adopted c.in-Ok.ensures.turn in
     record {
       good = All-tail IsGood c.in-Some.state rest good;
       so_far = rw c.if-all.true at more;
@@ -32,7 +34,8 @@ loop-state-preserved g c =
     let steps : into_iter_items c.loop-state.state-iterator ≡ c.in-Some.state ∷ rest = c.in-Some.ensures.steps.0 in
     let good = rw steps at c.loop-state.invariant.good in
     let so_far = rw steps at c.loop-state.invariant.so_far in
-    let more = next_turn g.W.Watcher.hearing c.hear_twice.ensures c.args.follower.now c.args.states c.in-Some.state rest _ _ _ _ _ _ _ _ so_far _ _ _ (g.K.Sink.faults c.offer.new.out) c.in-Ok.adopted c.in-Ok.ensures.turn in
+    let more = next_turn g.W.Watcher.hearing c.hear_twice.ensures c.args.follower.now c.args.states c.in-Some.state rest _ _ _ _ _ _ _ _ so_far _ _ _
+    (g.K.Sink.faults c.offer.new.out) c.in-Ok.adopted c.in-Ok.ensures.turn in
     record {
       good = All-tail IsGood c.in-Some.state rest good;
       so_far = rw c.if-all.false (rw c.if-all.false at more);

@@ -6,7 +6,8 @@ pub returns-in_err-features-clause-stop : goal.returns-in_err-features-clause-st
 returns-in_err-features-clause-stop g c =
     let one = seen g.F.Files.told g.F.Files.faults g.F.Files.failed_name c.args.files.now c.load_style.new.files in
     let two = seen g.F.Files.told g.F.Files.faults g.F.Files.failed_name c.load_style.new.files c.load_map.new.files in
-    map_stopped one two c.args.style.now c.args.map.now c.in_ok-classes.classes c.from_residual-in_err-features.result c.in_err-features.field-0.0 c.in_ok-classes.ensures.same c.in_ok-classes.ensures.kept.0 c.in_ok-classes.ensures.ok c.from_residual-in_err-features.ensures.1 c.in_err-features.ensures.stop
+    map_stopped one two c.args.style.now c.args.map.now c.in_ok-classes.classes c.from_residual-in_err-features.result c.in_err-features.field-0.0
+    c.in_ok-classes.ensures.same c.in_ok-classes.ensures.kept.0 c.in_ok-classes.ensures.ok c.from_residual-in_err-features.ensures.1 c.in_err-features.ensures.stop
 
 pub returns-clause-ok : goal.returns-clause-ok
 returns-clause-ok g c = (

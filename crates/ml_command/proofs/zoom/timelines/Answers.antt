@@ -10,7 +10,8 @@ pub loop-i-preserved : goal.loop-i-preserved
 loop-i-preserved c =
     let within : c.loop-i.i < length c.args.labels.now = omega arith in
     rw c.in_ok-push.ensures.ok
-    (more_stays c.args.labels.now c.args.slots.now c.args.window.now c.loop-i.i c.loop-i.all c.index-labels-i.result c.index-slots-i.result c.in_ok-its.its c.loop-i.invariant within c.requires.one_each
+    (more_stays c.args.labels.now c.args.slots.now c.args.window.now c.loop-i.i c.loop-i.all c.index-labels-i.result
+    c.index-slots-i.result c.in_ok-its.its c.loop-i.invariant within c.requires.one_each
     c.index-labels-i.is c.index-slots-i.is c.in_ok-its.ensures.stays c.in_ok-its.ensures.apart)
 
 pub returns-clause-timelines : goal.returns-clause-timelines

@@ -86,7 +86,8 @@ overflow_add-place c =
     let fu : FitsSigned w32 c.args.u = c.ranges.u in
     let fw : FitsSigned w64 c.args.u = wide_fits c.args.u c.requires.u_in_reach in
     let fp : FitsSigned w64 c.pixel_of.result = search rules in
-    let fo : FitsSigned w64 (c.args.u *ℤ c.pixel_of.result) = rw (c.pixel_of.ensures) (offset_fits c.args.u (2 ^ (c.args.band + 1)) c.requires.u_in_reach (pixel_low c.args.band c.requires.low_band)) in
+    let fo : FitsSigned w64 (c.args.u *ℤ c.pixel_of.result) =
+    rw (c.pixel_of.ensures) (offset_fits c.args.u (2 ^ (c.args.band + 1)) c.requires.u_in_reach (pixel_low c.args.band c.requires.low_band)) in
     simp to_z-of_z (rw (c.pixel_of.ensures) (place_fits c.args.x c.args.u (2 ^ (c.args.band + 1)) c.requires.x_in_world c.requires.u_in_reach (pixel_low c.args.band c.requires.low_band)))
 
 pub overflow_cast-result : goal.overflow_cast-result
@@ -97,8 +98,10 @@ overflow_cast-result c =
     let fp : FitsSigned w64 c.pixel_of.result = search rules in
     let low = pixel_low c.args.band c.requires.low_band in
     let fo : FitsSigned w64 (c.args.u *ℤ c.pixel_of.result) = rw (c.pixel_of.ensures) (offset_fits c.args.u (2 ^ (c.args.band + 1)) c.requires.u_in_reach low) in
-    let fq : FitsSigned w64 (c.args.x +ℤ (c.args.u *ℤ c.pixel_of.result)) = rw (c.pixel_of.ensures) (place_fits c.args.x c.args.u (2 ^ (c.args.band + 1)) c.requires.x_in_world c.requires.u_in_reach low) in
-    let narrow : FitsSigned w32 (shr_z (c.args.x +ℤ (c.args.u *ℤ c.pixel_of.result)) (2 ^ (c.args.cells + 10))) = rw (c.pixel_of.ensures) (shifted_fits c.args.x c.args.u c.args.band c.args.cells c.requires.x_in_world c.requires.u_in_reach c.requires.low_band) in
+    let fq : FitsSigned w64 (c.args.x +ℤ (c.args.u *ℤ c.pixel_of.result)) =
+    rw (c.pixel_of.ensures) (place_fits c.args.x c.args.u (2 ^ (c.args.band + 1)) c.requires.x_in_world c.requires.u_in_reach low) in
+    let narrow : FitsSigned w32 (shr_z (c.args.x +ℤ (c.args.u *ℤ c.pixel_of.result)) (2 ^ (c.args.cells + 10))) =
+    rw (c.pixel_of.ensures) (shifted_fits c.args.x c.args.u c.args.band c.args.cells c.requires.x_in_world c.requires.u_in_reach c.requires.low_band) in
     let fs : FitsSigned w64 (shr_z (c.args.x +ℤ (c.args.u *ℤ c.pixel_of.result)) (2 ^ (c.args.cells + 10))) = wider _ narrow in
     simp to_z-of_z narrow
 
@@ -110,7 +113,9 @@ returns c =
     let fp : FitsSigned w64 c.pixel_of.result = search rules in
     let low = pixel_low c.args.band c.requires.low_band in
     let fo : FitsSigned w64 (c.args.u *ℤ c.pixel_of.result) = rw (c.pixel_of.ensures) (offset_fits c.args.u (2 ^ (c.args.band + 1)) c.requires.u_in_reach low) in
-    let fq : FitsSigned w64 (c.args.x +ℤ (c.args.u *ℤ c.pixel_of.result)) = rw (c.pixel_of.ensures) (place_fits c.args.x c.args.u (2 ^ (c.args.band + 1)) c.requires.x_in_world c.requires.u_in_reach low) in
-    let narrow : FitsSigned w32 (shr_z (c.args.x +ℤ (c.args.u *ℤ c.pixel_of.result)) (2 ^ (c.args.cells + 10))) = rw (c.pixel_of.ensures) (shifted_fits c.args.x c.args.u c.args.band c.args.cells c.requires.x_in_world c.requires.u_in_reach c.requires.low_band) in
+    let fq : FitsSigned w64 (c.args.x +ℤ (c.args.u *ℤ c.pixel_of.result)) =
+    rw (c.pixel_of.ensures) (place_fits c.args.x c.args.u (2 ^ (c.args.band + 1)) c.requires.x_in_world c.requires.u_in_reach low) in
+    let narrow : FitsSigned w32 (shr_z (c.args.x +ℤ (c.args.u *ℤ c.pixel_of.result)) (2 ^ (c.args.cells + 10))) =
+    rw (c.pixel_of.ensures) (shifted_fits c.args.x c.args.u c.args.band c.args.cells c.requires.x_in_world c.requires.u_in_reach c.requires.low_band) in
     let fs : FitsSigned w64 (shr_z (c.args.x +ℤ (c.args.u *ℤ c.pixel_of.result)) (2 ^ (c.args.cells + 10))) = wider _ narrow in
     simp to_z-of_z (rw c.pixel_of.ensures (shifted_is (c.args.x +ℤ (c.args.u *ℤ pos (2 ^ (c.args.band + 1)))) c.args.cells))

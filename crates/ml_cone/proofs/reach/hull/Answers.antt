@@ -16,7 +16,8 @@ back : (u v : ℤ) → FitsSigned w32 u → u ≡ v → IsReach v → IsReach (t
 back u v f e h = simp to_z-of_z (rw e h)
 
 -- a column, from its bits
-column_back : (x u v r : ℤ) (k : ℕ) → FitsSigned w64 x → FitsSigned w32 u → FitsSigned w32 r → r ≡ cell_at (to_z w64 (of_z w64 x)) (to_z w32 (of_z w32 u)) k → u ≡ v → to_z w32 (of_z w32 r) ≡ cell_at x v k
+column_back : (x u v r : ℤ) (k : ℕ) → FitsSigned w64 x → FitsSigned w32 u → FitsSigned w32 r →
+    r ≡ cell_at (to_z w64 (of_z w64 x)) (to_z w32 (of_z w32 u)) k → u ≡ v → to_z w32 (of_z w32 r) ≡ cell_at x v k
 column_back x u v r k fx fu fr e d = let h = simp to_z-of_z at e in to_z-of_z w32 r fr ∙ h ∙ ap (λ (t : ℤ). cell_at x t k) d
 
 pub column-requires-clause-u_in_reach : goal.column-requires-clause-u_in_reach

@@ -15,7 +15,8 @@ loop-feature-preserved c =
     let k = c.loop-feature.feature-index in
     let f = c.feature-item.result in
     let lt : k < length fs = omega arith in
-    let more = one_more_change c.args.old.now.rows c.args.new.now.rows (take k fs) f c.loop-feature.out.items c.push_change.new.out.items (new_at fs k f lt (sym c.feature-item.is) c.requires.differ) c.loop-feature.invariant c.in_ok-push_change.ensures in
+    let more = one_more_change c.args.old.now.rows c.args.new.now.rows (take k fs) f c.loop-feature.out.items c.push_change.new.out.items
+    (new_at fs k f lt (sym c.feature-item.is) c.requires.differ) c.loop-feature.invariant c.in_ok-push_change.ensures in
     let P : List Feature → Type 0 = λ xs. AreChangesAt c.args.old.now.rows c.args.new.now.rows xs c.push_change.new.out.items in
     rw (take_more fs k f lt) (subst P (ap (λ g. take k fs ++ g ∷ []) c.feature-item.is) more)
 

@@ -15,4 +15,5 @@ returns-in_err-number c =
 pub returns : goal.returns
 returns c =
     let row = c.in_ok-number.ensures in
-    stands_so c.args.engine.now.rows row.0 c.args.id.now c.label_at-label.result.now c.min.result c.slot_at.result row.1 row.2 (c.label_at-label.ensures row.0 row.1 row.3) c.min.ensures (c.slot_at.ensures.slot row.0 row.1 row.3)
+    stands_so c.args.engine.now.rows row.0 c.args.id.now c.label_at-label.result.now c.min.result c.slot_at.result row.1 row.2
+    (c.label_at-label.ensures row.0 row.1 row.3) c.min.ensures (c.slot_at.ensures.slot row.0 row.1 row.3)

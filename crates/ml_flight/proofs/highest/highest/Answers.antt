@@ -26,6 +26,7 @@ loop-k-preserved c =
     let count : (d : Place) → (c.loop-k.k + 1) - c.ended_by.result ≡ open_at c.args.begins.now c.args.ends.now c.loop-k.k d =
     λ d. ap (λ (n : ℕ). (c.loop-k.k + 1) - n) c.ended_by.ensures ∙ ap (λ (p : Place). (c.loop-k.k + 1) - ended c.args.ends.now (value_of p.mark)) (at d) in
     elim (cases_lt c.loop-k.best.count ((c.loop-k.k + 1) - c.ended_by.result)) [
-      | inl more ↦ rw (c.better-best.ensures.more more) (highest_take c.args.begins.now c.args.ends.now c.loop-k.k c.loop-k.best _ c.loop-k.invariant more count (λ d. ap (λ (p : Place). p.mark) (at d)) (λ d. ap (λ (p : Place). p.after) (at d)))
+      | inl more ↦ rw (c.better-best.ensures.more more) (highest_take c.args.begins.now c.args.ends.now c.loop-k.k c.loop-k.best _ c.loop-k.invariant more count
+          (λ d. ap (λ (p : Place). p.mark) (at d)) (λ d. ap (λ (p : Place). p.after) (at d)))
       | inr few ↦ rw (c.better-best.ensures.kept few) (highest_keep c.args.begins.now c.args.ends.now c.loop-k.k c.loop-k.best c.loop-k.invariant (λ d. rw (← count d) few))
     ]

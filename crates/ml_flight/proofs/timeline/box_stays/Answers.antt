@@ -14,8 +14,10 @@ loop-p-preserved c =
       | in-Some-box_stay+in_ok-push w ↦
           let e : c.match-box_stay.pieces.items ≡ c.loop-p.pieces.items ++ w.in-Some-box_stay.piece ∷ [] = rw w.pieces-is w.in_ok-push.ensures.items in
           subst (λ (l : List Stay). Pieces (λ p s. BoxInWindow c.args.label.now c.args.at.now p s) c.in-Some.whole c.args.label.now.boxes (c.loop-p.p-index + 1) l) (sym e)
-          (pieces_more (λ p s. BoxInWindow c.args.label.now c.args.at.now p s) c.in-Some.whole c.args.label.now.boxes _ c.loop-p.p-index _ c.loop-p.pieces.items w.in-Some-box_stay.piece same (omega arith) c.loop-p.invariant w.in-Some-box_stay.ensures)
-      | in_default-box_stay w ↦ rw w.pieces-is (pieces_same (λ p s. BoxInWindow c.args.label.now c.args.at.now p s) c.in-Some.whole c.args.label.now.boxes _ c.loop-p.p-index _ c.loop-p.pieces.items same (omega arith) c.loop-p.invariant
+          (pieces_more (λ p s. BoxInWindow c.args.label.now c.args.at.now p s) c.in-Some.whole c.args.label.now.boxes _ c.loop-p.p-index
+          _ c.loop-p.pieces.items w.in-Some-box_stay.piece same (omega arith) c.loop-p.invariant w.in-Some-box_stay.ensures)
+      | in_default-box_stay w ↦ rw w.pieces-is (pieces_same (λ p s. BoxInWindow c.args.label.now c.args.at.now p s)
+          c.in-Some.whole c.args.label.now.boxes _ c.loop-p.p-index _ c.loop-p.pieces.items same (omega arith) c.loop-p.invariant
           (λ s. (w.in_default-box_stay.ensures s).1))
     ]
 

@@ -15,10 +15,12 @@ loop-piece-preserved c =
     let at = c.piece-item.is in
     elim c.if-joins.branch [
       | then-joins w ↦
-          rw (w.stays-is, w.current-is) (join_more c.args.pieces.now c.loop-piece.piece-index c.loop-piece.stays c.loop-piece.current w.joined_with-current.result c.piece-item.result c.loop-piece.invariant (omega arith)
+          rw (w.stays-is, w.current-is) (join_more c.args.pieces.now c.loop-piece.piece-index c.loop-piece.stays
+          c.loop-piece.current w.joined_with-current.result c.piece-item.result c.loop-piece.invariant (omega arith)
           (rw (← at) w.joined_with-current.ensures.scales) w.joined_with-current.ensures.from w.joined_with-current.ensures.from_in)
       | else-joins+in_ok-push w ↦
-          rw (w.stays-is, w.current-is, w.in_ok-push.ensures.ok, at) (join_next c.args.pieces.now c.loop-piece.piece-index c.loop-piece.stays c.loop-piece.current c.piece-item.result c.loop-piece.invariant (omega arith) c.requires
+          rw (w.stays-is, w.current-is, w.in_ok-push.ensures.ok, at)
+          (join_next c.args.pieces.now c.loop-piece.piece-index c.loop-piece.stays c.loop-piece.current c.piece-item.result c.loop-piece.invariant (omega arith) c.requires
           (subst (λ (a : Stay). IsApart c.loop-piece.current a) at w.if-joins.ensures))
     ]
 

@@ -21,7 +21,8 @@ use Rattle.ml_flight.proofs.timeline.stays.Goals as goal
 
 pub joined-requires : goal.joined-requires
 joined-requires c =
-    let sorted : IsSortedBy (λ x y. is_lt (place_cmp (begin_of x) (begin_of y))) c.sort_unstable_by_key.new.self.items = c.sort_unstable_by_key.ensures.sorted begin_of (answers_always _ (λ a r. r ≡ begin_of a.0.now) _ (λ f a r f' k. search rules)) in
+    let sorted : IsSortedBy (λ x y. is_lt (place_cmp (begin_of x) (begin_of y))) c.sort_unstable_by_key.new.self.items =
+    c.sort_unstable_by_key.ensures.sorted begin_of (answers_always _ (λ a r. r ≡ begin_of a.0.now) _ (λ f a r f' k. search rules)) in
     subst (λ (l : List Stay). AllPairs BeginsBy l) (sym c.as_slice.ensures.value) (sorted_begin_by c.sort_unstable_by_key.new.self.items sorted)
 
 pub returns-clause-scales : goal.returns-clause-scales
@@ -33,12 +34,14 @@ returns-clause-scales c =
       λ h. any_permutation (λ a. HoldsScale a s) before after c.sort_unstable_by_key.ensures.permutation ((c.in_ok-pieces.ensures s).0 h),
       λ h. (c.in_ok-pieces.ensures s).1 (any_permutation (λ a. HoldsScale a s) after before (IsPermutation-sym before after c.sort_unstable_by_key.ensures.permutation) h),
     ) in
-    IfOk-weaker c.joined.result (λ l. (s : Fraction) → HaveScale l s ↔ HaveScale c.as_slice.result.now s) (λ l. (s : Fraction) → IsShownAt c.args.label.now c.args.span.now c.args.at.now s ↔ HaveScale l s)
+    IfOk-weaker c.joined.result (λ l. (s : Fraction) → HaveScale l s ↔ HaveScale c.as_slice.result.now s)
+    (λ l. (s : Fraction) → IsShownAt c.args.label.now c.args.span.now c.args.at.now s ↔ HaveScale l s)
     (λ l same s. (λ h. (same s).1 ((pieces s).0 h), λ h. (pieces s).1 ((same s).0 h))) c.joined.ensures.same
 
 pub returns-clause-stays : goal.returns-clause-stays
 returns-clause-stays c =
-    ok_both c.joined.result (λ l. (s : Fraction) → IsShownAt c.args.label.now c.args.span.now c.args.at.now s ↔ HaveScale l s) AreApart (AreMaximal (IsShownAt c.args.label.now c.args.span.now c.args.at.now))
+    ok_both c.joined.result (λ l. (s : Fraction) → IsShownAt c.args.label.now c.args.span.now c.args.at.now s ↔ HaveScale l s) AreApart
+    (AreMaximal (IsShownAt c.args.label.now c.args.span.now c.args.at.now))
     (λ l scales apart. apart_maximal l apart (IsShownAt c.args.label.now c.args.span.now c.args.at.now) scales) (returns-clause-scales c) c.joined.ensures.apart
 
 pub returns-clause-views : goal.returns-clause-views

@@ -11,7 +11,8 @@ loop-label-init c = all_start c.args.old.now c.args.new.now c.requires.old c.in_
 pub loop-label-preserved : goal.loop-label-preserved
 loop-label-preserved c =
     let taken = subst (λ (id : List ℕ). IsTakenIfGone c.args.old.now c.args.new.now id c.loop-label.out.items c.push_gone.new.out.items) c.id.ensures c.in_ok-push_gone.ensures in
-    all_step c.args.old.now c.args.new.now c.requires.old c.loop-label.label-index c.label-item.result c.loop-label-test.true (sym c.label-item.is) c.loop-label.out.items c.push_gone.new.out.items c.loop-label.invariant taken
+    all_step c.args.old.now c.args.new.now c.requires.old c.loop-label.label-index c.label-item.result c.loop-label-test.true
+    (sym c.label-item.is) c.loop-label.out.items c.push_gone.new.out.items c.loop-label.invariant taken
 
 pub returns : goal.returns
 returns c =

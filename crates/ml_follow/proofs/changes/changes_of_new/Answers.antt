@@ -6,4 +6,5 @@ use Rattle.ml_follow.proofs.changes.changes_of_new.Goals as goal
 pub loop-label-preserved : goal.loop-label-preserved
 loop-label-preserved c =
     let taken = subst (λ (id : List ℕ). IsTakenIn c.args.old.now c.args.new.now id c.loop-label.out.items c.push_change.new.out.items) c.id.ensures c.in_ok-push_change.ensures in
-    new_step c.args.old.now c.args.new.now c.requires.new c.loop-label.label-index c.label-item.result c.loop-label.out.items c.push_change.new.out.items c.loop-label-test.true (sym c.label-item.is) c.loop-label.invariant taken
+    new_step c.args.old.now c.args.new.now c.requires.new c.loop-label.label-index c.label-item.result c.loop-label.out.items
+    c.push_change.new.out.items c.loop-label-test.true (sym c.label-item.is) c.loop-label.invariant taken

@@ -17,7 +17,8 @@ known (Some j) labels id h e = (j, h)
 pub returns-in_ok-push_change : goal.returns-in_ok-push_change
 returns-in_ok-push_change c =
     let new = c.args.new.now in
-    let found = subst (λ (id : List ℕ). MatchOption (find_place new.places id) (IsNoId new.labels.now id) (IsPlaceOf new.labels.now id)) c.as_str.ensures.bytes (c.requires.new.finds c.as_str.result.now) in
+    let found = subst (λ (id : List ℕ). MatchOption (find_place new.places id) (IsNoId new.labels.now id) (IsPlaceOf new.labels.now id)) c.as_str.ensures.bytes
+    (c.requires.new.finds c.as_str.result.now) in
     let place : find_place new.places c.args.id.now ≡ c.place_of.result = ap (find_place new.places) (sym c.as_str.ensures.bytes) ∙ sym c.place_of.ensures in
     let e : is_some (find_place new.places c.args.id.now) ≡ false = ap is_some place ∙ c.is_none.ensures ∙ ap not c.if-is_none.true in
     inr (gone (find_place new.places c.args.id.now) new.labels.now c.args.id.now found e, c.in_ok-push_change.ensures)
@@ -25,7 +26,8 @@ returns-in_ok-push_change c =
 pub returns-else-is_none : goal.returns-else-is_none
 returns-else-is_none c =
     let new = c.args.new.now in
-    let found = subst (λ (id : List ℕ). MatchOption (find_place new.places id) (IsNoId new.labels.now id) (IsPlaceOf new.labels.now id)) c.as_str.ensures.bytes (c.requires.new.finds c.as_str.result.now) in
+    let found = subst (λ (id : List ℕ). MatchOption (find_place new.places id) (IsNoId new.labels.now id) (IsPlaceOf new.labels.now id)) c.as_str.ensures.bytes
+    (c.requires.new.finds c.as_str.result.now) in
     let place : find_place new.places c.args.id.now ≡ c.place_of.result = ap (find_place new.places) (sym c.as_str.ensures.bytes) ∙ sym c.place_of.ensures in
     let e : is_some (find_place new.places c.args.id.now) ≡ true = ap is_some place ∙ c.is_none.ensures ∙ ap not c.if-is_none.false in
     inl (known (find_place new.places c.args.id.now) new.labels.now c.args.id.now found e, refl)

@@ -18,5 +18,13 @@ returns c =
     let new = new_id c.args.opened.state.labels c.args.opened.taken c.args.label.order.id c.contains.result c.requires found c.if-contains.false in
     let own : c.in_ok-copy.field-0 ≡ c.args.label.order.id = c.in_ok-copy.ensures ∙ c.id-2.ensures in
     let updates = subst (λ (id : List ℕ). Updates (slice_cmp nat_cmp) c.args.opened.taken c.insert.new.self id _) own c.in_ok-insert.ensures.updates in
-    let more = ids_more c.args.opened.state.labels c.args.label c.args.opened.taken c.insert.new.self c.requires updates in
-    (new, record { labels_are = c.in_ok-push.ensures.ok; slots_are = c.in_ok-push-2.ensures.ok; ids = subst (λ (ls : List Label). HasIds ls c.insert.new.self) (sym c.in_ok-push.ensures.ok) more; same_count = refl; same_rev = refl })
+    let more = ids_more c.args.opened.state.labels c.args.label c.args.opened.taken c.insert.new.self c.requires updates in (
+      new,
+      record {
+        labels_are = c.in_ok-push.ensures.ok;
+        slots_are = c.in_ok-push-2.ensures.ok;
+        ids = subst (λ (ls : List Label). HasIds ls c.insert.new.self) (sym c.in_ok-push.ensures.ok) more;
+        same_count = refl;
+        same_rev = refl;
+      },
+    )

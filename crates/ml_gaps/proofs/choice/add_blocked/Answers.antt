@@ -14,7 +14,8 @@ returns-then-is_apart c =
       each = All-nil (IsPairPiece c.args.label.now c.args.other.now c.args.gap.now);
       union = λ s. (
         λ h. absurd (any_none (λ p. HoldsScale p s) h),
-        λ h. absurd (c.is_apart.ensures c.if-is_apart.true c.args.label.now c.args.other.now (value_of c.args.label.now.max) (value_of c.args.gap.now.until) c.requires.own c.requires.near s h.1.1 h.2.1 h.3),
+        λ h. absurd (c.is_apart.ensures c.if-is_apart.true c.args.label.now c.args.other.now (value_of c.args.label.now.max)
+            (value_of c.args.gap.now.until) c.requires.own c.requires.near s h.1.1 h.2.1 h.3),
       );
       few = omega arith;
     }

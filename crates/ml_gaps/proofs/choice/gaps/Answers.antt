@@ -20,7 +20,8 @@ pieces_of-requires-clause-strips c =
     let labels = c.args.labels.now in
     let a : Label = c.label-item.result in
     rw (c.as_slice.ensures, c.as_slice-in-loop-label-2.ensures.value) (
-    subst (λ (b : Label). AreStrips c.parting_axis-axis.result b labels c.loop-label.gaps c.loop-label.strips.items) (sym c.label-item.is) (c.loop-label.invariant.strips c.loop-label.label-index a c.loop-label-test.true))
+    subst (λ (b : Label). AreStrips c.parting_axis-axis.result b labels c.loop-label.gaps c.loop-label.strips.items)
+    (sym c.label-item.is) (c.loop-label.invariant.strips c.loop-label.label-index a c.loop-label-test.true))
 
 pub loop-label-init : goal.loop-label-init
 loop-label-init c = record {
@@ -40,18 +41,24 @@ loop-label-preserved c =
     let so_far = c.loop-label.invariant.chosen in
     let one : length gaps ≡ i = so_far.one_each in
     let blocks : (s : Fraction) → HaveScale c.in_ok-pieces.pieces.items s ↔ IsBlockedBy a labels gaps i s =
-    λ s. subst (λ (n : ℕ). HaveScale c.in_ok-pieces.pieces.items s ↔ IsBlockedBy a labels gaps n s) one (subst (λ (l : List Gap). HaveScale c.in_ok-pieces.pieces.items s ↔ IsBlockedBy a labels l (length l) s) c.as_slice.ensures (c.in_ok-pieces.ensures s)) in
+    λ s. subst (λ (n : ℕ). HaveScale c.in_ok-pieces.pieces.items s ↔ IsBlockedBy a labels gaps n s) one
+    (subst (λ (l : List Gap). HaveScale c.in_ok-pieces.pieces.items s ↔ IsBlockedBy a labels l (length l) s) c.as_slice.ensures (c.in_ok-pieces.ensures s)) in
     let own : (d : Label) → slice_index_or labels i d ≡ a = λ d. get_or_default labels i d a c.loop-label-test.true ∙ sym c.label-item.is in
     let last : (d : Label) → slice_index_or labels (length gaps) d ≡ a = λ d. subst (λ (n : ℕ). slice_index_or labels n d ≡ a) (sym one) (own d) in
     let best = longest_free labels gaps i a own c.loop-label-test.true (omega arith) (value_of c.longest_of-gap.result.from) (value_of c.longest_of-gap.result.until)
-    (longest_like a (HaveScale c.in_ok-pieces.pieces.items) (IsBlockedBy a labels gaps i) blocks (value_of c.longest_of-gap.result.from) (value_of c.longest_of-gap.result.until) c.longest_of-gap.ensures) in
-    let reach_a : Reaches axis a c.greatest_reach-reach.result = subst (λ (b : Label). Reaches axis b c.greatest_reach-reach.result) (own a) (c.greatest_reach-reach.ensures.reaches i a c.loop-label-test.true) in
+    (longest_like a (HaveScale c.in_ok-pieces.pieces.items) (IsBlockedBy a labels gaps i) blocks
+    (value_of c.longest_of-gap.result.from) (value_of c.longest_of-gap.result.until) c.longest_of-gap.ensures) in
+    let reach_a : Reaches axis a c.greatest_reach-reach.result =
+    subst (λ (b : Label). Reaches axis b c.greatest_reach-reach.result) (own a) (c.greatest_reach-reach.ensures.reaches i a c.loop-label-test.true) in
     record {
       chosen = rw c.in_ok-push-2.ensures.ok (chosen_more labels i gaps c.longest_of-gap.result so_far best);
       empty = c.clear.ensures.items;
-      nears = rw (c.in_ok-push-2.ensures.ok, c.in_ok-push.ensures.items) (nears_more labels gaps c.loop-label.nears.items i a c.longest_of-gap.result c.of-near.result one c.loop-label-test.true c.label-item.is c.loop-label.invariant.nears c.of-near.ensures);
+      nears = rw (c.in_ok-push-2.ensures.ok, c.in_ok-push.ensures.items) (nears_more labels gaps c.loop-label.nears.items i a
+          c.longest_of-gap.result c.of-near.result one c.loop-label-test.true c.label-item.is c.loop-label.invariant.nears c.of-near.ensures);
       strips = λ m d lt.
           rw c.in_ok-push-2.ensures.ok (
-          strips_more axis (slice_index_or labels m d) labels gaps c.loop-label.strips.items (c.loop-label.invariant.strips m d lt) c.longest_of-gap.result a c.about-strip.result c.add_strip.new.strips.items last (c.about-strip.ensures.place ∙ c.len.ensures)
-          (c.about-strip.ensures.far (value_of c.longest_of-gap.result.until) c.of-near.ensures (slice_index_or labels m d) reach_a (c.greatest_reach-reach.ensures.reaches m d lt)) c.in_ok-add_strip.ensures);
+          strips_more axis (slice_index_or labels m d) labels gaps c.loop-label.strips.items (c.loop-label.invariant.strips m d lt)
+          c.longest_of-gap.result a c.about-strip.result c.add_strip.new.strips.items last (c.about-strip.ensures.place ∙ c.len.ensures)
+          (c.about-strip.ensures.far (value_of c.longest_of-gap.result.until) c.of-near.ensures
+          (slice_index_or labels m d) reach_a (c.greatest_reach-reach.ensures.reaches m d lt)) c.in_ok-add_strip.ensures);
     }

@@ -39,7 +39,8 @@ loop-k-preserved c =
           let few = c.requires.few in
           let in' : strip.place < length labels = omega arith in
           rw w.pieces-is (
-          among_more a labels gaps strips k strip at c.loop-k-test.true _ c.loop-k.pieces w.add_blocked.new.pieces label gap (get_or_default labels strip.place w.index-before-j-then-not-is_past.result label in')
+          among_more a labels gaps strips k strip at c.loop-k-test.true _ c.loop-k.pieces w.add_blocked.new.pieces label gap
+          (get_or_default labels strip.place w.index-before-j-then-not-is_past.result label in')
           (get_or_default gaps strip.place w.index-before-j-then-not-is_past-2.result gap lt) in' lt w.in_ok-add_blocked.ensures c.loop-k.invariant)
       | else-not-is_past w ↦
           let world = c.anchor_on-coordinate.ensures.world in

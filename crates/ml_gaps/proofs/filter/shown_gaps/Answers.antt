@@ -30,7 +30,10 @@ loop-i-preserved c =
       | else-is_shown w ↦
           let fails : ¬ (P i) = λ is.
           let both = is.1 c.index-labels-i.result c.index-gaps-i.result in
-          let shown = c.is_shown.ensures.1 (subst (λ (g : Gap). IsActive g (value_of view.scale)) (sym (gap c.index-gaps-i.result)) both.0, subst (λ (a : Label). IsInView a view) (sym (label c.index-labels-i.result)) both.1) in
+          let shown = c.is_shown.ensures.1 (
+            subst (λ (g : Gap). IsActive g (value_of view.scale)) (sym (gap c.index-gaps-i.result)) both.0,
+            subst (λ (a : Label). IsInView a view) (sym (label c.index-labels-i.result)) both.1,
+          ) in
           let never = sym w.if-is_shown.false ∙ shown in
           absurd (cc) in
           rw w.places-is (found_skip P i c.loop-i.places c.loop-i.invariant fails)

@@ -35,7 +35,8 @@ edit_all-requires g c =
     let P : Group → Type 0 = λ group. HasFeature c.in_ok-editor.editor.state.features (id_of group (codes "a")) in
     let long : length c.deref.result.now ≡ c.args.groups = ap (λ (gs : List Group). length gs) (c.deref.ensures.value ∙ c.in_ok-all.ensures.groups) ∙ groups_long c.args.groups c.args.seed in
     let long_again : length c.deref-2.result.now ≡ c.args.groups = ap (λ (gs : List Group). length gs) (c.deref-2.ensures.value ∙ c.in_ok-all.ensures.groups) ∙ groups_long c.args.groups c.args.seed in
-    let whole : c.deref-2.result.now ≡ groups_in (length c.deref-2.result.now) c.args.seed = c.deref-2.ensures.value ∙ c.in_ok-all.ensures.groups ∙ ap (λ (n : ℕ). groups_in n c.args.seed) (sym long_again) in
+    let whole : c.deref-2.result.now ≡ groups_in (length c.deref-2.result.now) c.args.seed =
+    c.deref-2.ensures.value ∙ c.in_ok-all.ensures.groups ∙ ap (λ (n : ℕ). groups_in n c.args.seed) (sym long_again) in
     let in_order : c.deref-3.result.now ≡ order (length c.deref-2.result.now) c.args.seed = c.deref-3.ensures.value ∙ c.in_ok-order.ensures.order in
     let each : All P c.deref-2.result.now = subst (All P) (c.deref.ensures.value ∙ sym c.deref-2.ensures.value) c.in_ok-editor.ensures.there in
     let order_is : length c.deref-3.result.now ≡ length c.deref-2.result.now = ap (λ (gs : List Group). length gs) in_order ∙ order_long (length c.deref-2.result.now) c.args.seed in
@@ -72,8 +73,10 @@ returns g c =
       each = c.deref-4.result.now;
       last = c.edit_all.new.editor.state;
       run =
-          run_same c.in_ok-editor.editor.state (first_state c.args.style read) c.edit_all.new.editor.state (map goes c.deref-3.result.now ++ map comes c.deref-3.result.now) (turns c.args.groups c.args.seed)
-          c.in_ok-each.each.items c.deref-4.result.now c.in_ok-editor.ensures.state.2 (ap (λ (gs : List Group). map goes gs ++ map comes gs) in_order) (sym c.deref-4.ensures.value) c.in_ok-each.ensures.run;
+          run_same c.in_ok-editor.editor.state (first_state c.args.style read) c.edit_all.new.editor.state
+          (map goes c.deref-3.result.now ++ map comes c.deref-3.result.now) (turns c.args.groups c.args.seed)
+          c.in_ok-each.each.items c.deref-4.result.now c.in_ok-editor.ensures.state.2
+          (ap (λ (gs : List Group). map goes gs ++ map comes gs) in_order) (sym c.deref-4.ensures.value) c.in_ok-each.ensures.run;
       groups = c.totals_of.ensures.groups;
       numbers = c.totals_of.ensures.numbers;
       sums = c.totals_of.ensures.sums;

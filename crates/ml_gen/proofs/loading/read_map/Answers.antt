@@ -31,5 +31,6 @@ returns-clause-there c =
 pub returns-clause-number : goal.returns-clause-number
 returns-clause-number c =
     IfOk-weaker c.read_back.result (λ read. read ≡ c.in_ok-made.made) (λ read. length read ≡ length c.args.groups.now * 5)
-    (λ read same. ap (λ (fs : List Feature). length fs) same ∙ sym (length-map c.in_ok-made.made thing_of) ∙ ap (λ (things : List Thing). length things) c.in_ok-made.ensures ∙ five_each c.args.groups.now)
+    (λ read same. ap (λ (fs : List Feature). length fs) same ∙ sym (length-map c.in_ok-made.made thing_of)
+    ∙ ap (λ (things : List Thing). length things) c.in_ok-made.ensures ∙ five_each c.args.groups.now)
     c.read_back.ensures.same

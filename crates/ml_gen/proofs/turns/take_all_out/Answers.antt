@@ -16,7 +16,8 @@ loop-group-preserved g c =
     let new = c.take_out.new.editor.state in
     let goes_out = c.in_ok-take_out.ensures.state in
     let items : c.push.new.self.items ≡ c.loop-group.each.items ++ c.in_ok-take_out.field-0 ∷ [] = c.in_ok-push.ensures.items in
-    let fewer = one_fewer groups c.requires.own c.requires.placed k one lt is old new goes_out (c.loop-group.invariant.there c.loop-group.group-index (record { number = 0; x = pos 0; y = pos 0 }) (omega arith) lt) in
+    let fewer = one_fewer groups c.requires.own c.requires.placed k one lt is old new goes_out
+    (c.loop-group.invariant.there c.loop-group.group-index (record { number = 0; x = pos 0; y = pos 0 }) (omega arith) lt) in
     let next = next_rev groups c.requires.own c.requires.placed k one lt is old new goes_out in
     record {
       run =

@@ -7,7 +7,8 @@ use Rattle.ml_geojson.proofs.laws.trees_read_back.Goals as goal
 
 pub returns : goal.returns
 returns c =
-    let laws : JsonLaws = record { back = c.coordinates_read_back.ensures; number = c.coordinates_are_numbers.ensures; known = c.known_numbers.ensures; ascending = c.ascending_members_stay.ensures } in
+    let laws : JsonLaws =
+    record { back = c.coordinates_read_back.ensures; number = c.coordinates_are_numbers.ensures; known = c.known_numbers.ensures; ascending = c.ascending_members_stay.ensures } in
     record {
       feature_prints = λ f. printable 6 (feature_tree f) (omega arith) (feature_flat laws f);
       feature_reads = feature_back laws 0;

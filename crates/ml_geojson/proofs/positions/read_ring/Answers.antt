@@ -7,9 +7,11 @@ use Rattle.ml_geojson.proofs.positions.read_ring.Goals as goal
 
 pub returns-then-len-lt4-clause-places : goal.returns-then-len-lt4-clause-places
 returns-then-len-lt4-clause-places c =
-    ap (then_read (λ places. long_ring c.args.k (closed places))) c.in-Ok.ensures ∙ ap (long_ring c.args.k) (sym c.in_ok-close-in-Ok.ensures.places) ∙ short c.args.k c.close.new.ring (grind (arith, nat_tests)) (grind (arith, nat_tests))
+    ap (then_read (λ places. long_ring c.args.k (closed places))) c.in-Ok.ensures ∙ ap (long_ring c.args.k) (sym c.in_ok-close-in-Ok.ensures.places)
+    ∙ short c.args.k c.close.new.ring (grind (arith, nat_tests)) (grind (arith, nat_tests))
 
 pub returns-else-len-gt0-clause-places : goal.returns-else-len-gt0-clause-places
 returns-else-len-gt0-clause-places c =
     ap (then_read (λ places. long_ring c.args.k (closed places))) c.in-Ok.ensures ∙ ap (long_ring c.args.k) (sym c.in_ok-close-in-Ok.ensures.places)
-    ∙ long c.args.k c.close.new.ring (elim c.else-len-gt0.branch [ else-len-gt0-via-then-len-gt0+else-len-lt4 w ↦ λ some. grind (arith, nat_tests) | else-len-gt0-via-else-len-gt0 w ↦ λ some. grind (arith, nat_tests) ])
+    ∙ long c.args.k c.close.new.ring
+    (elim c.else-len-gt0.branch [ else-len-gt0-via-then-len-gt0+else-len-lt4 w ↦ λ some. grind (arith, nat_tests) | else-len-gt0-via-else-len-gt0 w ↦ λ some. grind (arith, nat_tests) ])

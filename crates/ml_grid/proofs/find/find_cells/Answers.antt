@@ -21,7 +21,8 @@ loop-i-preserved c =
     let ex = sum_back s.x0 i i f0 (let few = c.span_len-i-end.ensures.few in omega arith) g refl in
     let h : Finds (IsInColumn s (s.x0 +ℤ pos i)) c.args.tree.now.entries c.loop-i.found c.find_column.new.found =
     subst (λ (z : ℤ). Finds (IsInColumn s z) c.args.tree.now.entries c.loop-i.found c.find_column.new.found) ex c.in_ok-find_column.ensures.ok in
-    finds_both (IsAmongFirst s i) (IsInColumn s (s.x0 +ℤ pos i)) (IsAmongFirst s (i + 1)) c.args.tree.now.entries c.args.found.now c.loop-i.found c.find_column.new.found c.loop-i.invariant h (first_more s i)
+    finds_both (IsAmongFirst s i) (IsInColumn s (s.x0 +ℤ pos i))
+    (IsAmongFirst s (i + 1)) c.args.tree.now.entries c.args.found.now c.loop-i.found c.find_column.new.found c.loop-i.invariant h (first_more s i)
 
 pub returns : goal.returns
 returns c =

@@ -21,7 +21,8 @@ loop-i-preserved c =
     let ex = sum_back s.x0 i i f0 (let few = c.span_len-i-end.ensures.few in omega arith) g refl in
     let h : Finds (IsInColumnFrom s (s.x0 +ℤ pos i) c.args.scale.now) c.args.tree.now.entries c.loop-i.found c.find_column_from.new.found =
     subst (λ (z : ℤ). Finds (IsInColumnFrom s z c.args.scale.now) c.args.tree.now.entries c.loop-i.found c.find_column_from.new.found) ex c.in_ok-find_column_from.ensures.ok in
-    finds_both (IsAmongFirstFrom s c.args.scale.now i) (IsInColumnFrom s (s.x0 +ℤ pos i) c.args.scale.now) (IsAmongFirstFrom s c.args.scale.now (i + 1)) c.args.tree.now.entries c.args.found.now c.loop-i.found c.find_column_from.new.found c.loop-i.invariant h (first_more_from s c.args.scale.now i)
+    finds_both (IsAmongFirstFrom s c.args.scale.now i) (IsInColumnFrom s (s.x0 +ℤ pos i) c.args.scale.now) (IsAmongFirstFrom s c.args.scale.now (i + 1))
+    c.args.tree.now.entries c.args.found.now c.loop-i.found c.find_column_from.new.found c.loop-i.invariant h (first_more_from s c.args.scale.now i)
 
 pub returns : goal.returns
 returns c =
@@ -30,4 +31,7 @@ returns c =
     let f0 : FitsSigned w32 s.x0 = search rules in
     let f1 : FitsSigned w32 s.x1 = search rules in
     let n = rows_back s.x0 s.x1 c.span_len-i-end.result f0 f1 c.span_len-i-end.ensures.len in
-    record { ok = finds_same (IsAmongFirstFrom s c.args.scale.now i) (IsAmongFrom s c.args.scale.now) c.args.tree.now.entries c.args.found.now c.loop-i.found c.loop-i.invariant (first_all_from s c.args.scale.now i c.requires.few.0 (omega arith)) }
+    record {
+      ok = finds_same (IsAmongFirstFrom s c.args.scale.now i) (IsAmongFrom s c.args.scale.now) c.args.tree.now.entries c.args.found.now c.loop-i.found c.loop-i.invariant
+          (first_all_from s c.args.scale.now i c.requires.few.0 (omega arith));
+    }

@@ -14,6 +14,7 @@ returns c =
     record {
       ok = on_ok c.range.result _ _
           (finds_tested test
-          (IsInColumn c.args.cells.now c.args.x) c.args.tree.now.entries c.args.found.now c.range.new.out (λ e. rw (ends.first, ends.last, to_z-of_z w32 c.args.x c.ranges.x) (column_tests c.args.cells.now c.args.x e)))
+          (IsInColumn c.args.cells.now c.args.x) c.args.tree.now.entries c.args.found.now c.range.new.out
+          (λ e. rw (ends.first, ends.last, to_z-of_z w32 c.args.x c.ranges.x) (column_tests c.args.cells.now c.args.x e)))
           c.range.ensures.members;
     }

@@ -15,6 +15,7 @@ returns c =
     record {
       ok = on_ok c.stab.result _ _
           (finds_tested test
-          (IsInColumnFrom c.args.cells.now c.args.x c.args.scale.now) c.args.tree.now.entries c.args.found.now c.stab.new.out (λ e. rw (ends.first, ends.last, to_z-of_z w32 c.args.x c.ranges.x) (column_from_tests c.args.cells.now c.args.x c.args.scale.now e)))
+          (IsInColumnFrom c.args.cells.now c.args.x c.args.scale.now) c.args.tree.now.entries c.args.found.now c.stab.new.out
+          (λ e. rw (ends.first, ends.last, to_z-of_z w32 c.args.x c.ranges.x) (column_from_tests c.args.cells.now c.args.x c.args.scale.now e)))
           c.stab.ensures.members;
     }

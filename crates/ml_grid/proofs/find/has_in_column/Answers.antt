@@ -12,5 +12,6 @@ pub returns : goal.returns
 returns c =
     let ends = c.column_ends.ensures in
     let test : Entry → Bool = is_stabbed cell_cmp ratio_cmp c.column_ends.result.0 c.column_ends.result.1 c.args.scale.now in
-    let has = some_tested test (IsInColumnFrom c.args.cells.now c.args.x c.args.scale.now) c.args.tree.now.entries (λ e. rw (ends.first, ends.last, to_z-of_z w32 c.args.x c.ranges.x) (column_from_tests c.args.cells.now c.args.x c.args.scale.now e)) in
+    let has = some_tested test (IsInColumnFrom c.args.cells.now c.args.x c.args.scale.now) c.args.tree.now.entries
+    (λ e. rw (ends.first, ends.last, to_z-of_z w32 c.args.x c.ranges.x) (column_from_tests c.args.cells.now c.args.x c.args.scale.now e)) in
     (λ holds. has.0 (c.is_stabbed.ensures.0 holds), λ there. c.is_stabbed.ensures.1 (has.1 there))

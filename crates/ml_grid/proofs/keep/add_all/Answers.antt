@@ -30,7 +30,8 @@ add_band-requires-clause-new c e here there =
 
 pub loop-band-preserved : goal.loop-band-preserved
 loop-band-preserved c = record {
-  entries = adds_both (IsEntryBelow c.args.number c.args.label.now c.args.until c.loop-band.band) (IsEntryAt c.args.number c.args.label.now c.args.until c.loop-band.band) (IsEntryBelow c.args.number c.args.label.now c.args.until (c.loop-band.band + 1))
+  entries = adds_both (IsEntryBelow c.args.number c.args.label.now c.args.until c.loop-band.band)
+      (IsEntryAt c.args.number c.args.label.now c.args.until c.loop-band.band) (IsEntryBelow c.args.number c.args.label.now c.args.until (c.loop-band.band + 1))
       c.args.tree.now.entries c.loop-band.tree.entries c.add_band.new.tree.entries c.loop-band.invariant.entries c.add_band.ensures.entries
       (below_more c.args.number c.args.label.now c.args.until c.loop-band.band);
   spare = let n = below_next c.args.label.now c.loop-band.band in let s = c.loop-band.invariant.spare in let t = c.add_band.ensures.spare in omega arith;
@@ -41,7 +42,8 @@ returns-clause-entries c =
     let e : c.loop-band.band ≡ 28 = omega arith in
     let h : Adds (IsEntryBelow c.args.number c.args.label.now c.args.until 28) c.args.tree.now.entries c.loop-band.tree.entries =
     subst (λ (n : ℕ). Adds (IsEntryBelow c.args.number c.args.label.now c.args.until n) c.args.tree.now.entries c.loop-band.tree.entries) e c.loop-band.invariant.entries in
-    adds_same (IsEntryBelow c.args.number c.args.label.now c.args.until 28) (IsEntryOf c.args.number c.args.label.now c.args.until) c.args.tree.now.entries c.loop-band.tree.entries h (below_all c.args.number c.args.label.now c.args.until)
+    adds_same (IsEntryBelow c.args.number c.args.label.now c.args.until 28)
+    (IsEntryOf c.args.number c.args.label.now c.args.until) c.args.tree.now.entries c.loop-band.tree.entries h (below_all c.args.number c.args.label.now c.args.until)
 
 pub returns-clause-spare : goal.returns-clause-spare
 returns-clause-spare c =

@@ -22,7 +22,8 @@ add_cells-requires-clause-new c =
     let k = c.args.band in
     let new : (i : ℕ) → i < cell_count (hull_of a k) → ¬ (Contains c.args.tree.now.entries (entry_of (cell_in (hull_of a k) i) c.args.until c.args.number)) =
     λ i low. c.requires.new (entry_of (cell_in (hull_of a k) i) c.args.until c.args.number)
-    ((at_is_placed c.hulls_are_few.ensures c.args.number a c.args.until k c.requires.low (sym c.if-is_kept.ensures) (entry_of (cell_in (hull_of a k) i) c.args.until c.args.number)).1 (i, low, refl)) in
+    ((at_is_placed c.hulls_are_few.ensures c.args.number a c.args.until k c.requires.low (sym c.if-is_kept.ensures)
+    (entry_of (cell_in (hull_of a k) i) c.args.until c.args.number)).1 (i, low, refl)) in
     subst (λ (s : Cells). (i : ℕ) → i < cell_count s → ¬ (Contains c.args.tree.now.entries (entry_of (cell_in s i) c.args.until c.args.number))) (sym c.hull.ensures.hull) new
 
 pub returns-then-is_kept-clause-entries : goal.returns-then-is_kept-clause-entries

@@ -19,7 +19,8 @@ put_in-requires-clause-new c h =
 
 pub loop-i-preserved : goal.loop-i-preserved
 loop-i-preserved c = record {
-  entries = adds_both (IsEntryAmong c.args.number c.args.until c.args.cells.now c.loop-i.i) (λ e. e ≡ (entry_of c.cell_at.result c.args.until c.args.number)) (IsEntryAmong c.args.number c.args.until c.args.cells.now (c.loop-i.i + 1))
+  entries = adds_both (IsEntryAmong c.args.number c.args.until c.args.cells.now c.loop-i.i)
+      (λ e. e ≡ (entry_of c.cell_at.result c.args.until c.args.number)) (IsEntryAmong c.args.number c.args.until c.args.cells.now (c.loop-i.i + 1))
       c.args.tree.now.entries c.loop-i.tree.entries c.put_in.new.tree.entries c.loop-i.invariant.entries c.put_in.ensures.entries
       (placed_more c.args.number c.args.until c.args.cells.now c.loop-i.i c.cell_at.result c.cell_at.ensures);
   spare = let a = c.loop-i.invariant.spare in let b = c.put_in.ensures.spare in omega arith;

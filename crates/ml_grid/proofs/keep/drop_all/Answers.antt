@@ -20,7 +20,8 @@ drop_band-requires-clause-there c e here =
 
 pub loop-band-preserved : goal.loop-band-preserved
 loop-band-preserved c = record {
-  entries = drops_both (IsEntryBelow c.args.number c.args.label.now c.args.until c.loop-band.band) (IsEntryAt c.args.number c.args.label.now c.args.until c.loop-band.band) (IsEntryBelow c.args.number c.args.label.now c.args.until (c.loop-band.band + 1))
+  entries = drops_both (IsEntryBelow c.args.number c.args.label.now c.args.until c.loop-band.band)
+      (IsEntryAt c.args.number c.args.label.now c.args.until c.loop-band.band) (IsEntryBelow c.args.number c.args.label.now c.args.until (c.loop-band.band + 1))
       c.args.tree.now.entries c.loop-band.tree.entries c.drop_band.new.tree.entries c.loop-band.invariant.entries c.drop_band.ensures.entries
       (below_more c.args.number c.args.label.now c.args.until c.loop-band.band);
   spare = let n = below_next c.args.label.now c.loop-band.band in let s = c.loop-band.invariant.spare in let t = c.drop_band.ensures.spare in omega arith;
@@ -31,7 +32,8 @@ returns-clause-entries c =
     let e : c.loop-band.band ≡ 28 = omega arith in
     let h : LosesEntries (IsEntryBelow c.args.number c.args.label.now c.args.until 28) c.args.tree.now.entries c.loop-band.tree.entries =
     subst (λ (n : ℕ). LosesEntries (IsEntryBelow c.args.number c.args.label.now c.args.until n) c.args.tree.now.entries c.loop-band.tree.entries) e c.loop-band.invariant.entries in
-    drops_same (IsEntryBelow c.args.number c.args.label.now c.args.until 28) (IsEntryOf c.args.number c.args.label.now c.args.until) c.args.tree.now.entries c.loop-band.tree.entries h (below_all c.args.number c.args.label.now c.args.until)
+    drops_same (IsEntryBelow c.args.number c.args.label.now c.args.until 28)
+    (IsEntryOf c.args.number c.args.label.now c.args.until) c.args.tree.now.entries c.loop-band.tree.entries h (below_all c.args.number c.args.label.now c.args.until)
 
 pub returns-clause-spare : goal.returns-clause-spare
 returns-clause-spare c =

@@ -16,7 +16,8 @@ drop_cells-requires-clause-there c =
     let k = c.args.band in
     let there : (i : ℕ) → i < cell_count (hull_of a k) → Contains c.args.tree.now.entries (entry_of (cell_in (hull_of a k) i) c.args.until c.args.number) =
     λ i low. c.requires.there (entry_of (cell_in (hull_of a k) i) c.args.until c.args.number)
-    ((at_is_placed c.hulls_are_few.ensures c.args.number a c.args.until k c.requires.low (sym c.if-is_kept.ensures) (entry_of (cell_in (hull_of a k) i) c.args.until c.args.number)).1 (i, low, refl)) in
+    ((at_is_placed c.hulls_are_few.ensures c.args.number a c.args.until k c.requires.low (sym c.if-is_kept.ensures)
+    (entry_of (cell_in (hull_of a k) i) c.args.until c.args.number)).1 (i, low, refl)) in
     subst (λ (s : Cells). (i : ℕ) → i < cell_count s → Contains c.args.tree.now.entries (entry_of (cell_in s i) c.args.until c.args.number)) (sym c.hull.ensures.hull) there
 
 pub returns-then-is_kept-clause-entries : goal.returns-then-is_kept-clause-entries
@@ -24,7 +25,8 @@ returns-then-is_kept-clause-entries c =
     let a = c.args.label.now in
     let k = c.args.band in
     let h : LosesEntries (IsEntryAmong c.args.number c.args.until (hull_of a k) (cell_count (hull_of a k))) c.args.tree.now.entries c.drop_cells.new.tree.entries =
-    subst (λ (s : Cells). LosesEntries (IsEntryAmong c.args.number c.args.until s (cell_count s)) c.args.tree.now.entries c.drop_cells.new.tree.entries) c.hull.ensures.hull c.drop_cells.ensures.entries in
+    subst (λ (s : Cells). LosesEntries (IsEntryAmong c.args.number c.args.until s (cell_count s)) c.args.tree.now.entries c.drop_cells.new.tree.entries)
+    c.hull.ensures.hull c.drop_cells.ensures.entries in
     drops_same (IsEntryAmong c.args.number c.args.until (hull_of a k) (cell_count (hull_of a k))) (IsEntryAt c.args.number a c.args.until k) c.args.tree.now.entries c.drop_cells.new.tree.entries h
     (at_is_placed c.hulls_are_few.ensures c.args.number a c.args.until k c.requires.low (sym c.if-is_kept.ensures))
 

@@ -18,14 +18,18 @@ take_out-requires c =
 
 pub loop-i-preserved : goal.loop-i-preserved
 loop-i-preserved c = record {
-  entries = drops_both (IsEntryAmong c.args.number c.args.until c.args.cells.now c.loop-i.i) (λ e. e ≡ (entry_of c.cell_at.result c.args.until c.args.number)) (IsEntryAmong c.args.number c.args.until c.args.cells.now (c.loop-i.i + 1))
+  entries = drops_both (IsEntryAmong c.args.number c.args.until c.args.cells.now c.loop-i.i)
+      (λ e. e ≡ (entry_of c.cell_at.result c.args.until c.args.number)) (IsEntryAmong c.args.number c.args.until c.args.cells.now (c.loop-i.i + 1))
       c.args.tree.now.entries c.loop-i.tree.entries c.take_out.new.tree.entries c.loop-i.invariant.entries c.take_out.ensures.entries
       (placed_more c.args.number c.args.until c.args.cells.now c.loop-i.i c.cell_at.result c.cell_at.ensures);
   spare = let a = c.loop-i.invariant.spare in let b = c.take_out.ensures.spare in omega arith;
 }
 
 pub loop-i-init : goal.loop-i-init
-loop-i-init c = record { entries = drops_none (IsEntryAmong c.args.number c.args.until c.args.cells.now 0) c.args.tree.now.entries (none_placed c.args.number c.args.until c.args.cells.now); spare = omega arith }
+loop-i-init c = record {
+  entries = drops_none (IsEntryAmong c.args.number c.args.until c.args.cells.now 0) c.args.tree.now.entries (none_placed c.args.number c.args.until c.args.cells.now);
+  spare = omega arith;
+}
 
 pub returns-clause-entries : goal.returns-clause-entries
 returns-clause-entries c =

@@ -37,12 +37,16 @@ mark_one-requires-clause-row c =
 pub loop-i-preserved : goal.loop-i-preserved
 loop-i-preserved c = record {
   apart = c.in_ok-mark_one.ensures.apart;
-  entries = adds_both (IsEntryAmong c.args.number (end_by c.args.ends.now c.args.number) c.args.cells.now c.loop-i.i) (λ e. e ≡ (entry_of c.cell_at.result (end_by c.args.ends.now c.args.number) c.args.number)) (IsEntryAmong c.args.number (end_by c.args.ends.now c.args.number) c.args.cells.now (c.loop-i.i + 1))
-      (marked c.args.ends.now c.args.marks.now.items) (marked c.args.ends.now c.loop-i.marks.items) (marked c.args.ends.now c.mark_one.new.marks.items) c.loop-i.invariant.entries c.in_ok-mark_one.ensures.entries
+  entries = adds_both (IsEntryAmong c.args.number (end_by c.args.ends.now c.args.number) c.args.cells.now c.loop-i.i)
+      (λ e. e ≡ (entry_of c.cell_at.result (end_by c.args.ends.now c.args.number) c.args.number))
+      (IsEntryAmong c.args.number (end_by c.args.ends.now c.args.number) c.args.cells.now (c.loop-i.i + 1))
+      (marked c.args.ends.now c.args.marks.now.items) (marked c.args.ends.now c.loop-i.marks.items)
+      (marked c.args.ends.now c.mark_one.new.marks.items) c.loop-i.invariant.entries c.in_ok-mark_one.ensures.entries
       (placed_more c.args.number (end_by c.args.ends.now c.args.number) c.args.cells.now c.loop-i.i c.cell_at.result c.cell_at.ensures);
 }
 
 pub returns-clause-entries : goal.returns-clause-entries
 returns-clause-entries c =
     let e : c.loop-i.i ≡ cell_count c.args.cells.now = omega (arith, c.cells_of-i-end.ensures.count) in
-    subst (λ (n : ℕ). Adds (IsEntryAmong c.args.number (end_by c.args.ends.now c.args.number) c.args.cells.now n) (marked c.args.ends.now c.args.marks.now.items) (marked c.args.ends.now c.loop-i.marks.items)) e c.loop-i.invariant.entries
+    subst (λ (n : ℕ). Adds (IsEntryAmong c.args.number (end_by c.args.ends.now c.args.number) c.args.cells.now n)
+    (marked c.args.ends.now c.args.marks.now.items) (marked c.args.ends.now c.loop-i.marks.items)) e c.loop-i.invariant.entries

@@ -37,8 +37,10 @@ overflow_cast-result c =
     let half : c.args.w ≡ 2 * (c.args.w / 2) = (let e = c.requires.even_w in omega arith) in
     let positive : 0 < cell_side c.args.band * s.den = mul-lt 0 0 (cell_side c.args.band) s.den (side_pos c.args.band) s.positive in
     let middle = c.middle_of-middle.ensures.is ∙ ap (λ (z : ℤ). z *ℤ pos c.args.scale.now.den) (to_z-of_z w64 c.args.c c.ranges.c) in
-    let first = floor_is c.first_column-first.result c.middle_of-middle.result c.half_of-half.result c.side_at-side.result _ _ _ (search rules) (search rules) (search rules) middle c.half_of-half.ensures.is c.side_at-side.ensures.is c.first_column-first.ensures in
-    let last = last_is c.last_column-last.result c.middle_of-middle.result c.half_of-half.result c.side_at-side.result _ _ _ (search rules) (search rules) (search rules) middle c.half_of-half.ensures.is c.side_at-side.ensures.is c.last_column-last.ensures in
+    let first = floor_is c.first_column-first.result c.middle_of-middle.result c.half_of-half.result c.side_at-side.result _ _ _ (search rules)
+    (search rules) (search rules) middle c.half_of-half.ensures.is c.side_at-side.ensures.is c.first_column-first.ensures in
+    let last = last_is c.last_column-last.result c.middle_of-middle.result c.half_of-half.result c.side_at-side.result _ _ _ (search rules)
+    (search rules) (search rules) middle c.half_of-half.ensures.is c.side_at-side.ensures.is c.last_column-last.ensures in
     let few = window_few c.args.c c.args.w (c.args.w / 2) c.args.band s half c.requires.some_w c.requires.low_w c.requires.above c.requires.in_band.below positive in
     let fit = columns_fit c.args.c s.den (c.args.w / 2 * s.num) (cell_side c.args.band * s.den) c.requires.c_in_world s.positive (side_wide c.args.band s.den) few in
     narrow_fits c.first_column-first.result _ first (search rules) fit.0
@@ -49,8 +51,10 @@ overflow_cast-result-2 c =
     let half : c.args.w ≡ 2 * (c.args.w / 2) = (let e = c.requires.even_w in omega arith) in
     let positive : 0 < cell_side c.args.band * s.den = mul-lt 0 0 (cell_side c.args.band) s.den (side_pos c.args.band) s.positive in
     let middle = c.middle_of-middle.ensures.is ∙ ap (λ (z : ℤ). z *ℤ pos c.args.scale.now.den) (to_z-of_z w64 c.args.c c.ranges.c) in
-    let first = floor_is c.first_column-first.result c.middle_of-middle.result c.half_of-half.result c.side_at-side.result _ _ _ (search rules) (search rules) (search rules) middle c.half_of-half.ensures.is c.side_at-side.ensures.is c.first_column-first.ensures in
-    let last = last_is c.last_column-last.result c.middle_of-middle.result c.half_of-half.result c.side_at-side.result _ _ _ (search rules) (search rules) (search rules) middle c.half_of-half.ensures.is c.side_at-side.ensures.is c.last_column-last.ensures in
+    let first = floor_is c.first_column-first.result c.middle_of-middle.result c.half_of-half.result c.side_at-side.result _ _ _ (search rules)
+    (search rules) (search rules) middle c.half_of-half.ensures.is c.side_at-side.ensures.is c.first_column-first.ensures in
+    let last = last_is c.last_column-last.result c.middle_of-middle.result c.half_of-half.result c.side_at-side.result _ _ _ (search rules)
+    (search rules) (search rules) middle c.half_of-half.ensures.is c.side_at-side.ensures.is c.last_column-last.ensures in
     let few = window_few c.args.c c.args.w (c.args.w / 2) c.args.band s half c.requires.some_w c.requires.low_w c.requires.above c.requires.in_band.below positive in
     let fit = columns_fit c.args.c s.den (c.args.w / 2 * s.num) (cell_side c.args.band * s.den) c.requires.c_in_world s.positive (side_wide c.args.band s.den) few in
     narrow_fits c.last_column-last.result _ last (search rules) fit.1
@@ -61,8 +65,10 @@ returns-clause-few c =
     let half : c.args.w ≡ 2 * (c.args.w / 2) = (let e = c.requires.even_w in omega arith) in
     let positive : 0 < cell_side c.args.band * s.den = mul-lt 0 0 (cell_side c.args.band) s.den (side_pos c.args.band) s.positive in
     let middle = c.middle_of-middle.ensures.is ∙ ap (λ (z : ℤ). z *ℤ pos c.args.scale.now.den) (to_z-of_z w64 c.args.c c.ranges.c) in
-    let first = floor_is c.first_column-first.result c.middle_of-middle.result c.half_of-half.result c.side_at-side.result _ _ _ (search rules) (search rules) (search rules) middle c.half_of-half.ensures.is c.side_at-side.ensures.is c.first_column-first.ensures in
-    let last = last_is c.last_column-last.result c.middle_of-middle.result c.half_of-half.result c.side_at-side.result _ _ _ (search rules) (search rules) (search rules) middle c.half_of-half.ensures.is c.side_at-side.ensures.is c.last_column-last.ensures in
+    let first = floor_is c.first_column-first.result c.middle_of-middle.result c.half_of-half.result c.side_at-side.result _ _ _ (search rules)
+    (search rules) (search rules) middle c.half_of-half.ensures.is c.side_at-side.ensures.is c.first_column-first.ensures in
+    let last = last_is c.last_column-last.result c.middle_of-middle.result c.half_of-half.result c.side_at-side.result _ _ _ (search rules)
+    (search rules) (search rules) middle c.half_of-half.ensures.is c.side_at-side.ensures.is c.last_column-last.ensures in
     let few = window_few c.args.c c.args.w (c.args.w / 2) c.args.band s half c.requires.some_w c.requires.low_w c.requires.above c.requires.in_band.below positive in
     let fit = columns_fit c.args.c s.den (c.args.w / 2 * s.num) (cell_side c.args.band * s.den) c.requires.c_in_world s.positive (side_wide c.args.band s.den) few in
     rw (narrow_back c.first_column-first.result _ first (search rules) fit.0, narrow_back c.last_column-last.result _ last (search rules) fit.1) few
@@ -73,8 +79,10 @@ returns-clause-meets c x =
     let half : c.args.w ≡ 2 * (c.args.w / 2) = (let e = c.requires.even_w in omega arith) in
     let positive : 0 < cell_side c.args.band * s.den = mul-lt 0 0 (cell_side c.args.band) s.den (side_pos c.args.band) s.positive in
     let middle = c.middle_of-middle.ensures.is ∙ ap (λ (z : ℤ). z *ℤ pos c.args.scale.now.den) (to_z-of_z w64 c.args.c c.ranges.c) in
-    let first = floor_is c.first_column-first.result c.middle_of-middle.result c.half_of-half.result c.side_at-side.result _ _ _ (search rules) (search rules) (search rules) middle c.half_of-half.ensures.is c.side_at-side.ensures.is c.first_column-first.ensures in
-    let last = last_is c.last_column-last.result c.middle_of-middle.result c.half_of-half.result c.side_at-side.result _ _ _ (search rules) (search rules) (search rules) middle c.half_of-half.ensures.is c.side_at-side.ensures.is c.last_column-last.ensures in
+    let first = floor_is c.first_column-first.result c.middle_of-middle.result c.half_of-half.result c.side_at-side.result _ _ _ (search rules)
+    (search rules) (search rules) middle c.half_of-half.ensures.is c.side_at-side.ensures.is c.first_column-first.ensures in
+    let last = last_is c.last_column-last.result c.middle_of-middle.result c.half_of-half.result c.side_at-side.result _ _ _ (search rules)
+    (search rules) (search rules) middle c.half_of-half.ensures.is c.side_at-side.ensures.is c.last_column-last.ensures in
     let few = window_few c.args.c c.args.w (c.args.w / 2) c.args.band s half c.requires.some_w c.requires.low_w c.requires.above c.requires.in_band.below positive in
     let fit = columns_fit c.args.c s.den (c.args.w / 2 * s.num) (cell_side c.args.band * s.den) c.requires.c_in_world s.positive (side_wide c.args.band s.den) few in
     rw (narrow_back c.first_column-first.result _ first (search rules) fit.0, narrow_back c.last_column-last.result _ last (search rules) fit.1)

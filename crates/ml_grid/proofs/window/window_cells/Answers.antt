@@ -14,7 +14,9 @@ returns-clause-meets c x y =
     let f1 : FitsSigned w32 c.columns_in-x0.result.1 = search rules in
     let f2 : FitsSigned w32 c.columns_in-y0.result.0 = search rules in
     let f3 : FitsSigned w32 c.columns_in-y0.result.1 = search rules in
-    let p = subst (λ (z : ℤ). ((c.columns_in-x0.result.0 ≤ℤ x) × (x ≤ℤ c.columns_in-x0.result.1)) ↔ ColumnInWindow k x z v.w (value_of v.scale)) (to_z-of_z w64 v.cx fx) (c.columns_in-x0.ensures.meets x) in
-    let q = subst (λ (z : ℤ). ((c.columns_in-y0.result.0 ≤ℤ y) × (y ≤ℤ c.columns_in-y0.result.1)) ↔ ColumnInWindow k y z v.h (value_of v.scale)) (to_z-of_z w64 v.cy fy) (c.columns_in-y0.ensures.meets y) in
+    let p = subst (λ (z : ℤ). ((c.columns_in-x0.result.0 ≤ℤ x) × (x ≤ℤ c.columns_in-x0.result.1)) ↔ ColumnInWindow k x z v.w (value_of v.scale))
+    (to_z-of_z w64 v.cx fx) (c.columns_in-x0.ensures.meets x) in
+    let q = subst (λ (z : ℤ). ((c.columns_in-y0.result.0 ≤ℤ y) × (y ≤ℤ c.columns_in-y0.result.1)) ↔ ColumnInWindow k y z v.h (value_of v.scale))
+    (to_z-of_z w64 v.cy fy) (c.columns_in-y0.ensures.meets y) in
     rw (to_z-of_z w32 c.columns_in-x0.result.0 f0, to_z-of_z w32 c.columns_in-x0.result.1 f1, to_z-of_z w32 c.columns_in-y0.result.0 f2, to_z-of_z w32 c.columns_in-y0.result.1 f3)
     (λ among. (p.0 (among.0, among.1), q.0 (among.2, among.3)), λ cell. (let a = p.1 cell.0 in let b = q.1 cell.1 in (a.0, a.1, b.0, b.1)))

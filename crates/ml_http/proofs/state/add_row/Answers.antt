@@ -17,7 +17,8 @@ returns c =
       there = live.1;
       its_number = live.2;
       slot = slot;
-      placed = placed_by rows c.args.places.now live.0.slot c.slot_at-slot.result c.place_of-blocker.result c.requires.places (c.slot_at-slot.ensures.slot live.0 live.1 live.2) c.slot_at-slot.ensures.blocker c.place_of-blocker.ensures;
+      placed = placed_by rows c.args.places.now live.0.slot c.slot_at-slot.result c.place_of-blocker.result c.requires.places
+          (c.slot_at-slot.ensures.slot live.0 live.1 live.2) c.slot_at-slot.ensures.blocker c.place_of-blocker.ensures;
       added = λ rev count labels slots size is. added rev count labels slots size is ∙ ap (λ l. begun_text rev count (labels ++ l ∷ []) (slots ++ slot ∷ [])) label;
     })
     c.add.ensures.begun

@@ -26,5 +26,6 @@ returns c =
     IfOk-weaker c.finish.result _ _
     (λ text whole.
     all_added c.args.editor.now.state c.args.editor.now.engine.rows c.rev-rev.ensures.holds.labels c.rev-rev.ensures.holds.settled c.rev-rev.result c.rev-rev.ensures.rev items
-    (c.as_slice-number-items.ensures ∙ c.in_ok-numbers.ensures.numbers) c.loop-number.number-index (omega (arith, c.loop-number-test.false, c.loop-number.auto.number-index-end)) _ text c.loop-number.invariant whole)
+    (c.as_slice-number-items.ensures ∙ c.in_ok-numbers.ensures.numbers) c.loop-number.number-index
+    (omega (arith, c.loop-number-test.false, c.loop-number.auto.number-index-end)) _ text c.loop-number.invariant whole)
     c.finish.ensures.whole

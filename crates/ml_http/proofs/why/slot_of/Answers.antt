@@ -21,7 +21,8 @@ returns c =
         (
           option_copied c.blocker_of-blocker.result,
           subst (λ s. IsIdOf c.args.editor.now.engine.rows s.blocker (option_copied c.blocker_of-blocker.result)) slot c.blocker_of-blocker.ensures,
-          is ∙ ap (λ l. slot_text l c.slot_at-slot.result.until (option_copied c.blocker_of-blocker.result)) label ∙ ap (λ s. slot_text row.label s.until (option_copied c.blocker_of-blocker.result)) slot,
+          is ∙ ap (λ l. slot_text l c.slot_at-slot.result.until (option_copied c.blocker_of-blocker.result)) label
+              ∙ ap (λ s. slot_text row.label s.until (option_copied c.blocker_of-blocker.result)) slot,
         ),
       ),
     ))

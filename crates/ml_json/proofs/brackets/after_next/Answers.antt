@@ -7,7 +7,8 @@ pub returns-in-44 : goal.returns-in-44
 returns-in-44 c =
     let sp : is_space c.args.byte ≡ false = cc in
     list_comma c.args.frames.now.items c.pop.new.self.items c.push-in-44.new.self.items c.in-Some-List.items c.push.new.self c.args.value c.args.byte
-    (c.in-Some-List.ensures.items ∙ ap (λ x. c.pop.new.self.items ++ x ∷ []) c.in-Some-List.field-0-is) c.in_ok-push-in-Some-List.ensures.items c.in_ok-push-in-44.ensures.items sp c.in-44.is c.requires
+    (c.in-Some-List.ensures.items ∙ ap (λ x. c.pop.new.self.items ++ x ∷ []) c.in-Some-List.field-0-is) c.in_ok-push-in-Some-List.ensures.items
+    c.in_ok-push-in-44.ensures.items sp c.in-44.is c.requires
 
 pub returns-in-93 : goal.returns-in-93
 returns-in-93 c =
@@ -33,7 +34,8 @@ pub returns-in-125 : goal.returns-in-125
 returns-in-125 c =
     let sp : is_space c.args.byte ≡ false = cc in
     map_end c.args.frames.now.items c.pop.new.self.items c.in-Some-Map.members c.in_ok-members-in-Some-Map.members c.in_ok-list_of_members-in-125.field-0 c.in-Some-Map.key c.args.value c.args.byte
-    (c.in-Some-Map.ensures.items ∙ ap (λ x. c.pop.new.self.items ++ x ∷ []) c.in-Some-Map.field-0-is) c.in_ok-members-in-Some-Map.ensures c.in_ok-list_of_members-in-125.ensures sp c.in-125.is c.requires
+    (c.in-Some-Map.ensures.items ∙ ap (λ x. c.pop.new.self.items ++ x ∷ []) c.in-Some-Map.field-0-is) c.in_ok-members-in-Some-Map.ensures
+    c.in_ok-list_of_members-in-125.ensures sp c.in-125.is c.requires
 
 pub returns : goal.returns
 returns c =

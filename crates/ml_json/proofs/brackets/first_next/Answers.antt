@@ -13,8 +13,10 @@ use Rattle.ml_json.proofs.brackets.first_next.Goals as goal
 pub returns-then-byte-eq93 : goal.returns-then-byte-eq93
 unfolding open_of
 returns-then-byte-eq93 c =
-    let sp : is_space c.args.byte ≡ false = cc in
-    (rw (sp, c.if-byte-eq93.true) (ap (λ t. m.to (m.after t) (frames_of c.args.frames.now.items)) (sym (empty_list c.new.result c.new.ensures.items))), omega (arith, frames_length c.args.frames.now.items))
+    let sp : is_space c.args.byte ≡ false = cc in (
+      rw (sp, c.if-byte-eq93.true) (ap (λ t. m.to (m.after t) (frames_of c.args.frames.now.items)) (sym (empty_list c.new.result c.new.ensures.items))),
+      omega (arith, frames_length c.args.frames.now.items),
+    )
 
 pub returns : goal.returns
 returns c =

@@ -10,7 +10,8 @@ loop-byte-preserved c = elim c.if-is_digit.branch [
       let digit : is_digit (get_or c.args.text.now c.loop-byte.byte-index 0) ≡ true = cc in
       let some : 0 < c.loop-byte.left = omega arith in
       record {
-        same = rw (w.left-is, w.number-is, w.min-number.ensures, w.from.ensures) (c.loop-byte.invariant.same ∙ digit_next c.loop-byte.number c.loop-byte.left c.args.most c.args.text.now c.loop-byte.byte-index c.loop-byte-test.true some digit);
+        same = rw (w.left-is, w.number-is, w.min-number.ensures, w.from.ensures) (c.loop-byte.invariant.same
+            ∙ digit_next c.loop-byte.number c.loop-byte.left c.args.most c.args.text.now c.loop-byte.byte-index c.loop-byte-test.true some digit);
         within = omega (arith, w.min-number.ensures, w.number-is);
       })
   | else-is_digit w ↦ (

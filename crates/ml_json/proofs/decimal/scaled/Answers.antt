@@ -15,9 +15,11 @@ returns c =
     c.leading-size.ensures ∙ ap (λ s. min (digits_value 10 (take (length s) (digits_in s))) (length text + 64)) c.behind-exponent.ensures in
     let minus : c.is_negative.result ≡ starts_with_minus (exponent text) = c.is_negative.ensures ∙ ap starts_with_minus c.behind-exponent.ensures in
     let kept = c.if-is_negative.kept in
-    let front : c.leading.result ≡ min (digits_value 10 (take kept (digits_in (mantissa text)))) c.args.most = c.leading.ensures ∙ ap (λ s. min (digits_value 10 (take kept (digits_in s))) c.args.most) c.before-mantissa.ensures in
+    let front : c.leading.result ≡ min (digits_value 10 (take kept (digits_in (mantissa text)))) c.args.most =
+    c.leading.ensures ∙ ap (λ s. min (digits_value 10 (take kept (digits_in s))) c.args.most) c.before-mantissa.ensures in
     let zeros : c.saturating_sub.result ≡ kept - length (digits_in (mantissa text)) = c.saturating_sub.ensures ∙ ap (λ n. kept - n) digits in
-    c.grown.ensures ∙ ap (λ n. min (n * 10 ^ c.saturating_sub.result) c.args.most) front ∙ ap (λ n. min (min (digits_value 10 (take kept (digits_in (mantissa text)))) c.args.most * 10 ^ n) c.args.most) zeros
+    c.grown.ensures ∙ ap (λ n. min (n * 10 ^ c.saturating_sub.result) c.args.most) front
+    ∙ ap (λ n. min (min (digits_value 10 (take kept (digits_in (mantissa text)))) c.args.most * 10 ^ n) c.args.most) zeros
     ∙ elim c.if-is_negative.branch [
       | then-is_negative w ↦ scaled_down text c.args.power c.args.most kept c.leading-size.result c.requires.power c.requires.most (sym minus ∙ w.if-is_negative.true) size
           (w.kept-is ∙ w.saturating_sub-kept.ensures ∙ rw (digits, places) refl)

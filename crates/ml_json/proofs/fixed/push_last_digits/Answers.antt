@@ -13,5 +13,13 @@ seven n = let one : n / 1 ≡ n = omega arith in rw one refl
 
 pub returns : goal.returns
 returns c = on_ok c.push_digit-7.result _ _
-    (λ h. h ∙ rw (c.in_ok-push_digit-6.ensures, c.in_ok-push_digit-5.ensures, c.in_ok-push_digit-4.ensures, c.in_ok-push_digit-3.ensures, c.in_ok-push_digit-2.ensures, c.in_ok-push_digit.ensures, seven c.args.number) (simp append_assoc))
+    (λ h. h ∙ rw (
+      c.in_ok-push_digit-6.ensures,
+      c.in_ok-push_digit-5.ensures,
+      c.in_ok-push_digit-4.ensures,
+      c.in_ok-push_digit-3.ensures,
+      c.in_ok-push_digit-2.ensures,
+      c.in_ok-push_digit.ensures,
+      seven c.args.number,
+    ) (simp append_assoc))
     c.push_digit-7.ensures

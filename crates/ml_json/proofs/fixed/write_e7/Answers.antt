@@ -20,7 +20,8 @@ returns c =
     let pieces : c.of_string.result ≡ start ++ size_text size = c.of_string.ensures ∙ c.in_ok-push_last_digits.ensures ∙ ap (λ s. s ++ last_digits 7 size) dot ∙ joined_text start size in
     let signed : start ++ size_text size ≡ e7_text c.args.v = elim c.if-v-lt0.branch [
       | then-v-lt0+in_ok-push w ↦ (
-          let begun : start ≡ 45 ∷ [] = ap string_bytes w.text-is ∙ w.in_ok-push.ensures.bytes ∙ ap (λ s. string_bytes c.new-text.result ++ s) (w.in_ok-push.ensures.ascii (omega arith)) ∙ ap (λ s. s ++ 45 ∷ []) c.new-text.ensures.bytes in
+          let begun : start ≡ 45 ∷ [] = ap string_bytes w.text-is ∙ w.in_ok-push.ensures.bytes
+          ∙ ap (λ s. string_bytes c.new-text.result ++ s) (w.in_ok-push.ensures.ascii (omega arith)) ∙ ap (λ s. s ++ 45 ∷ []) c.new-text.ensures.bytes in
           ap (λ s. s ++ size_text size) begun ∙ minus_text c.args.v size abs (search rules))
       | else-v-lt0 w ↦ (
           let begun : start ≡ [] = ap string_bytes w.text-is ∙ c.new-text.ensures.bytes in

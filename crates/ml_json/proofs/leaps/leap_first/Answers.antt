@@ -29,7 +29,8 @@ returns c =
     let end = c.in-Some.end.now in
     let rest : List ℕ = take (length end - 1) (drop 1 end) in
     let comma : get_or end 0 0 ≡ 44 = omega arith in
-    let cut : plain_number c.args.bytes.now ≡ Some (c.in-Some.text.now, 44 ∷ rest) = sym c.in-Some.ensures.cut ∙ ap (λ r. Some (c.in-Some.text.now, r)) (starts end 44 c.in-len1-up.len_at_least comma) in
+    let cut : plain_number c.args.bytes.now ≡ Some (c.in-Some.text.now, 44 ∷ rest) =
+    sym c.in-Some.ensures.cut ∙ ap (λ r. Some (c.in-Some.text.now, r)) (starts end 44 c.in-len1-up.len_at_least comma) in
     let text : c.text_of.result ≡ c.in-Some.text.now = c.text_of.ensures in
     let items = one_item _ _ _ c.in_ok-push.ensures.items c.new-items.ensures.items in
     let pushed : frames_of c.push-2.new.self.items ≡ m.in_list (more (num c.in-Some.text.now) none) ∷ st =

@@ -13,7 +13,8 @@ returns-in_default c = here
 
 pub returns-in_default-replace : goal.returns-in_default-replace
 returns-in_default-replace c =
-    subst (λ (x : Mode). Passes (mode_of c.args.mode.now, frames_of c.args.frames.now.items) c.args.bytes.now (mode_of x, frames_of c.args.frames.now.items) c.args.bytes.now) (sym c.replace.ensures.value) here
+    subst (λ (x : Mode). Passes (mode_of c.args.mode.now, frames_of c.args.frames.now.items) c.args.bytes.now (mode_of x, frames_of c.args.frames.now.items) c.args.bytes.now)
+    (sym c.replace.ensures.value) here
 
 pub returns : goal.returns
 returns c =

@@ -32,7 +32,8 @@ returns c =
     let y : m.State = (mode_of c.in_ok-mode.field-0, frames_of c.close.new.frames.items) in
     let s : List ℕ = take (length c.args.bytes.now - 1) (drop 1 c.args.bytes.now) in
     let le : length st ≤ 64 = value_shallow (mode_of c.args.mode.now) st c.requires.value c.requires.shallow in
-    let cut : plain_string s ≡ Some (c.in-Some.text.now, c.in-Some-closing.byte ∷ c.in-Some-closing.rest.now) = sym c.in-Some.ensures.cut ∙ ap (λ r. Some (c.in-Some.text.now, r)) c.in-Some-closing.ensures.cut in
+    let cut : plain_string s ≡ Some (c.in-Some.text.now, c.in-Some-closing.byte ∷ c.in-Some-closing.rest.now) =
+    sym c.in-Some.ensures.cut ∙ ap (λ r. Some (c.in-Some.text.now, r)) c.in-Some-closing.ensures.cut in
     let text : c.text_of.result ≡ c.in-Some.text.now = c.text_of.ensures in
     let steps = c.in_ok-mode.ensures in
     let closes = subst (λ (v : Tree). m.after_step v st c.in-Some-closing.byte ≡ Some y) (tree_str c.text_of.result ∙ ap (λ t. str t) text) steps.0 in

@@ -18,4 +18,5 @@ pub returns-then-may_end : goal.returns-then-may_end
 returns-then-may_end c =
     let none : length c.args.frames.items ≡ 0 = grind arith in
     let e : may_end (part_of c.in-Number.part) ≡ true = cc in
-    sym (ap (finish (mode_of c.args.mode)) (no_frames c.args.frames.items none) ∙ rw (c.in-Number.is, e) (ap (λ s. Some (num s)) (sym c.of_string.ensures) ∙ ap (λ t. Some t) (sym (tree_num c.of_string.result))))
+    sym (ap (finish (mode_of c.args.mode)) (no_frames c.args.frames.items none)
+    ∙ rw (c.in-Number.is, e) (ap (λ s. Some (num s)) (sym c.of_string.ensures) ∙ ap (λ t. Some t) (sym (tree_num c.of_string.result))))

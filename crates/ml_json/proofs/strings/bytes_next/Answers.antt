@@ -14,4 +14,5 @@ invariant_of-result c =
 pub unreachable-requires : goal.unreachable-requires
 unreachable-requires c =
     let h : is_between (low (tail_of c.args.partial.tail)) (high (tail_of c.args.partial.tail)) c.args.byte ≡ true = cc in
-    c.in-Err.ensures.cases.0 (subst IsUtf8 (sym c.as_slice.ensures.value) (partial_done c.args.partial.got.items c.push.new.self.items c.args.byte (tail_of c.args.partial.tail) c.in_ok-push.ensures.items h (sym c.in-None.ensures) c.args.partial.whole))
+    c.in-Err.ensures.cases.0 (subst IsUtf8 (sym c.as_slice.ensures.value) (partial_done c.args.partial.got.items c.push.new.self.items c.args.byte
+    (tail_of c.args.partial.tail) c.in_ok-push.ensures.items h (sym c.in-None.ensures) c.args.partial.whole))

@@ -13,6 +13,7 @@ returns-in_ok-push-in-Some c =
     let x = c.in_ok-push-in-Some.ensures in
     let e : string_bytes c.push.new.self ≡ string_bytes c.args.text ++ c.args.byte ∷ [] =
     x.bytes ∙ ap (λ s. string_bytes c.args.text ++ s) (x.ascii (go_on_ascii (part_of c.args.part) (part_of c.in-Some.next) c.args.byte y)) in (
-      ap (m.number_step (part_of c.args.part) (string_bytes c.args.text) (frames_of c.args.frames.now.items) c.args.byte) y ∙ ap (λ s. m.to (m.number (part_of c.in-Some.next) s) (frames_of c.args.frames.now.items)) (sym e),
+      ap (m.number_step (part_of c.args.part) (string_bytes c.args.text) (frames_of c.args.frames.now.items) c.args.byte) y
+          ∙ ap (λ s. m.to (m.number (part_of c.in-Some.next) s) (frames_of c.args.frames.now.items)) (sym e),
       omega (arith, frames_length c.args.frames.now.items),
     )

@@ -14,4 +14,6 @@ returns-else-is_too_wide c =
     let x : to_z w32 (of_z w32 c.shift_of-dx.result.0) ≡ shift c.args.class.now.kind c.args.class.now.dx = search rules in
     let y : to_z w32 (of_z w32 c.shift_of-dx.result.1) ≡ shift c.args.class.now.kind c.args.class.now.dy = search rules in
     let moved : IsOffset (to_z w32 (of_z w32 c.shift_of-dx.result.0)) = search rules in
-    in_box c.args.font.now c.args.class.now c.args.text.now (to_z w32 (of_z w32 c.shift_of-dx.result.0)) (to_z w32 (of_z w32 c.shift_of-dx.result.1)) c.width-wide.result c.straight_box.result moved x y c.width-wide.ensures.value (λ wide. let f : false ≡ true = c.if-is_too_wide.ensures.1 wide in cc) c.straight_box.ensures.straight c.straight_box.ensures.good
+    in_box c.args.font.now c.args.class.now c.args.text.now (to_z w32 (of_z w32 c.shift_of-dx.result.0))
+    (to_z w32 (of_z w32 c.shift_of-dx.result.1)) c.width-wide.result c.straight_box.result moved x y c.width-wide.ensures.value
+    (λ wide. let f : false ≡ true = c.if-is_too_wide.ensures.1 wide in cc) c.straight_box.ensures.straight c.straight_box.ensures.good

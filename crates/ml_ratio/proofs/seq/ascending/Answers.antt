@@ -19,7 +19,8 @@ returns-clause-same c n =
     let all = c.into_vec-sorted.ensures in (
       λ h.
           let a = Contains-from_dedup eqb c.sort_unstable.new.self.items n (subst (λ (xs : List ℕ). Contains xs n) e h) in
-          subst (λ (xs : List ℕ). Contains xs n) all (Contains-permutation c.sort_unstable.new.self.items c.into_vec-sorted.result.items n (IsPermutation-sym _ _ c.sort_unstable.ensures.permutation) a),
+          subst (λ (xs : List ℕ). Contains xs n) all
+          (Contains-permutation c.sort_unstable.new.self.items c.into_vec-sorted.result.items n (IsPermutation-sym _ _ c.sort_unstable.ensures.permutation) a),
       λ h.
           let a = Contains-permutation c.into_vec-sorted.result.items c.sort_unstable.new.self.items n c.sort_unstable.ensures.permutation (subst (λ (xs : List ℕ). Contains xs n) (sym all) h) in
           subst (λ (xs : List ℕ). Contains xs n) (sym e) (Contains-dedup_nat c.sort_unstable.new.self.items n a),

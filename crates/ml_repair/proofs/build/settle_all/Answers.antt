@@ -17,5 +17,6 @@ returns-clause-settled c =
     (λ (store : Stored) is.
     let rows = ap (λ (s : Stored). s.rows) is in
     in_turn_settled c.own_slots.ensures c.same_rivals.ensures store.rows c.args.labels.items c.in_ok-slots.slots c.requires.few (rw rows c.in_ok-rows.ensures.in_turn)
-    c.requires.ordered (ap labels_in rows ∙ c.in_ok-rows.ensures.labels) (ap slots_in rows ∙ c.in_ok-rows.ensures.slots ∙ c.as_slice-2.ensures) (rw c.as_slice.ensures.value at c.in_ok-slots.ensures.slots))
+    c.requires.ordered (ap labels_in rows ∙ c.in_ok-rows.ensures.labels)
+    (ap slots_in rows ∙ c.in_ok-rows.ensures.slots ∙ c.as_slice-2.ensures) (rw c.as_slice.ensures.value at c.in_ok-slots.ensures.slots))
     c.of.ensures

@@ -18,8 +18,12 @@ sift-requires c = rw c.as_slice-found.ensures c.in_ok-found.ensures.within
 
 pub loop-band-preserved : goal.loop-band-preserved
 loop-band-preserved c =
-    let i = c.loop-band.invariant in
-    (i.0, i.1, gathered_more c.args.sought.now i.0 c.loop-band.band c.loop-band.bound c.in_ok-bound-2.bound c.loop-band.places c.sift.new.out c.in_ok-found.found i.2 c.in_ok-found.ensures (rw c.as_slice-found.ensures at c.in_ok-bound-2.ensures))
+    let i = c.loop-band.invariant in (
+      i.0,
+      i.1,
+      gathered_more c.args.sought.now i.0 c.loop-band.band c.loop-band.bound c.in_ok-bound-2.bound c.loop-band.places c.sift.new.out
+          c.in_ok-found.found i.2 c.in_ok-found.ensures (rw c.as_slice-found.ensures at c.in_ok-bound-2.ensures),
+    )
 
 pub loop-band-preserved-then-apart-2 : goal.loop-band-preserved-then-apart-2
 loop-band-preserved-then-apart-2 c =

@@ -23,7 +23,8 @@ across-requires-clause-from c =
     omega arith
 
 pub sift-requires : goal.sift-requires
-sift-requires c = rw c.as_slice.ensures (met_within c.args.sought.now.roster.now c.args.sought.now.low.now c.loop-band.band c.in_ok-band.band c.across.new.out (rw c.in_ok-found.ensures at c.in_ok-band.ensures.met))
+sift-requires c = rw c.as_slice.ensures (met_within c.args.sought.now.roster.now c.args.sought.now.low.now c.loop-band.band c.in_ok-band.band c.across.new.out
+    (rw c.in_ok-found.ensures at c.in_ok-band.ensures.met))
 
 pub loop-band-preserved : goal.loop-band-preserved
 loop-band-preserved c =

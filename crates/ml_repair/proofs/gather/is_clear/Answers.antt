@@ -10,4 +10,5 @@ returns c holds =
       | inl low ↦ inl (omega arith)
       | inr high ↦ inr (omega arith)
     ] in
-    clear_bands c.args.sought.now.roster.now c.args.sought.now.moves.now c.args.sought.now.low.now c.args.sought.now.place c.args.band c.min.result c.start_of-scale.result wide (c.is_clear.ensures holds) c.start_of-scale.ensures.first c.start_of-scale.ensures.num c.start_of-scale.ensures.den
+    clear_bands c.args.sought.now.roster.now c.args.sought.now.moves.now c.args.sought.now.low.now c.args.sought.now.place c.args.band c.min.result
+    c.start_of-scale.result wide (c.is_clear.ensures holds) c.start_of-scale.ensures.first c.start_of-scale.ensures.num c.start_of-scale.ensures.den

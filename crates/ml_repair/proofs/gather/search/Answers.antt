@@ -7,5 +7,6 @@ pub returns : goal.returns
 returns c =
     if_ok c.overlapping.result _ _ (λ (places : List ℕ) found. record {
       within = found.within;
-      whole = λ p over unmoved reaches later. found.whole p over (lasts_from c.args.sought.now.roster.now c.args.sought.now.moves.now c.args.sought.now.low.now c.args.band p c.least_end-scale.result c.least_end-scale.ensures over.0 unmoved reaches later);
+      whole = λ p over unmoved reaches later. found.whole p over (lasts_from c.args.sought.now.roster.now c.args.sought.now.moves.now
+          c.args.sought.now.low.now c.args.band p c.least_end-scale.result c.least_end-scale.ensures over.0 unmoved reaches later);
     }) c.overlapping.ensures

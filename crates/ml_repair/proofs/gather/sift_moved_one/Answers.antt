@@ -9,7 +9,8 @@ returns-then-not-is_less c =
 pub returns-in-Some : goal.returns-in-Some
 returns-in-Some c =
     if_ok c.sift_one.result _ _ (λ next are.
-    sifted_number c.args.sought.now c.args.moved.now.number c.in-Some.place c.args.out.now c.sift_one.new.out c.args.bound next c.in-Some.ensures.numbered.differ c.in-Some.ensures.place are) c.sift_one.ensures
+    sifted_number c.args.sought.now c.args.moved.now.number c.in-Some.place c.args.out.now c.sift_one.new.out
+    c.args.bound next c.in-Some.ensures.numbered.differ c.in-Some.ensures.place are) c.sift_one.ensures
 
 pub returns-in-None : goal.returns-in-None
 returns-in-None c = sifted_absent c.args.sought.now c.args.moved.now.number c.args.bound c.args.out.now c.in-None.ensures.place

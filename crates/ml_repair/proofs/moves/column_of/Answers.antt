@@ -27,7 +27,8 @@ low_at moved k m lt low =
     subst (λ (n : ℕ). n < 32768) (number_at moved k m lt) (low k 0 (omega arith))
 
 -- none of the first k has the number at k
-none_before : (moved : List Moved) (k : ℕ) (m : Moved) → k < length moved → AreDifferent (numbers_of moved) → (j : ℕ) → j < length (take k moved) → get_or (numbers_of (take k moved)) j 0 ≢ (get_or moved k m).number
+none_before : (moved : List Moved) (k : ℕ) (m : Moved) → k < length moved → AreDifferent (numbers_of moved) →
+    (j : ℕ) → j < length (take k moved) → get_or (numbers_of (take k moved)) j 0 ≢ (get_or moved k m).number
 none_before moved k m lt differ j in' same =
     let many = length-map moved (λ (x : Moved). x.number) in
     let long = length-take-le k moved (omega arith) in

@@ -7,11 +7,13 @@ use Rattle.ml_repair.proofs.pass.pass_in.Goals as goal
 
 pub repair-requires-clause-was : goal.repair-requires-clause-was
 repair-requires-clause-was g c =
-    rw c.with-roster.ensures.rows (come_start c.own_slots.ensures c.carried.ensures (left_rows c.args.gone c.args.store.now.rows) c.args.at c.settle_coming.new.row c.args.moves.now c.args.moves.now c.requires.is_place c.requires.before)
+    rw c.with-roster.ensures.rows (come_start c.own_slots.ensures c.carried.ensures
+    (left_rows c.args.gone c.args.store.now.rows) c.args.at c.settle_coming.new.row c.args.moves.now c.args.moves.now c.requires.is_place c.requires.before)
 
 pub returns-clause-after : goal.returns-clause-after
 returns-clause-after g c =
-    if_ok c.repair.result _ _ (λ _ own. come_end c.own_slots.ensures c.carried.ensures (left_rows c.args.gone c.args.store.now.rows) c.args.at c.settle_coming.new.row c.args.moves.now c.repair.new.moves c.requires.is_place own) (rw c.with-roster.ensures.rows at c.repair.ensures.own)
+    if_ok c.repair.result _ _ (λ _ own. come_end c.own_slots.ensures c.carried.ensures (left_rows c.args.gone c.args.store.now.rows) c.args.at
+    c.settle_coming.new.row c.args.moves.now c.repair.new.moves c.requires.is_place own) (rw c.with-roster.ensures.rows at c.repair.ensures.own)
 
 pub returns-clause-touched : goal.returns-clause-touched
 returns-clause-touched g c =

@@ -23,4 +23,5 @@ pub returns-clause-own : goal.returns-clause-own
 returns-clause-own g c =
     let left = left_rows c.args.gone c.args.store.now.rows in
     let row : Row = record { number = c.args.row.now.number; label = c.args.row.now.label; slot = c.in_ok-slot.slot } in
-    come_here c.own_slots.ensures c.carried.ensures left c.args.at c.args.row.now row c.args.moves.now c.requires.is_place refl refl c.in_ok-slot.slot refl c.requires.kept (rw c.with-roster.ensures.rows at c.in_ok-slot.ensures.own)
+    come_here c.own_slots.ensures c.carried.ensures left c.args.at c.args.row.now row c.args.moves.now c.requires.is_place
+    refl refl c.in_ok-slot.slot refl c.requires.kept (rw c.with-roster.ensures.rows at c.in_ok-slot.ensures.own)

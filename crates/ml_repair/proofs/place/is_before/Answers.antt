@@ -13,5 +13,7 @@ returns-in-Less c d =
 pub returns-in_default : goal.returns-in_default
 returns-in_default c d =
     let r = c.row.result.now in
-    let e = c.row.ensures.label d in
-    ((λ t. absurd (false≢true t)), λ h. absurd (c.in_default.not-Less (c.cmp.ensures ∙ ap (λ o. order_cmp o c.args.order.now) c.order.ensures ∙ sym (ap (λ (a : Label). order_cmp a.order c.args.order.now) e) ∙ h)))
+    let e = c.row.ensures.label d in (
+      (λ t. absurd (false≢true t)),
+      λ h. absurd (c.in_default.not-Less (c.cmp.ensures ∙ ap (λ o. order_cmp o c.args.order.now) c.order.ensures ∙ sym (ap (λ (a : Label). order_cmp a.order c.args.order.now) e) ∙ h)),
+    )

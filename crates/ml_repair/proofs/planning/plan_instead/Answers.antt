@@ -27,11 +27,13 @@ pass_in-requires-clause-few g c =
 
 pub pass_in-requires-clause-fresh : goal.pass_in-requires-clause-fresh
 pass_in-requires-clause-fresh g c =
-    rw c.row_for-row.ensures.number (number_gone c.args.store.now.rows c.place_of_id-at.result c.row-old.result.now c.requires.settled c.place_of_id-at.ensures.place (sym (c.row-old.ensures.row c.row-old.result.now)))
+    rw c.row_for-row.ensures.number (number_gone c.args.store.now.rows c.place_of_id-at.result c.row-old.result.now c.requires.settled c.place_of_id-at.ensures.place
+    (sym (c.row-old.ensures.row c.row-old.result.now)))
 
 pub pass_in-requires-clause-low : goal.pass_in-requires-clause-low
 pass_in-requires-clause-low g c =
-    rw c.row_for-row.ensures.number (number_low c.args.store.now.rows c.place_of_id-at.result c.row-old.result.now c.requires.settled c.place_of_id-at.ensures.place (sym (c.row-old.ensures.row c.row-old.result.now)))
+    rw c.row_for-row.ensures.number (number_low c.args.store.now.rows c.place_of_id-at.result c.row-old.result.now c.requires.settled c.place_of_id-at.ensures.place
+    (sym (c.row-old.ensures.row c.row-old.result.now)))
 
 pub pass_in-requires-clause-kept : goal.pass_in-requires-clause-kept
 pass_in-requires-clause-kept g c own =
@@ -76,5 +78,7 @@ returns g c =
     instead_plan rows at to row c.in_ok-row.row c.pass_in.new.moves c.in_ok-changes.changes c.in_ok-gone.gone c.in_ok-come.come c.requires.settled lt here (rw label c.requires.live) few
     (rw number (number_gone rows at old c.requires.settled lt read)) (rw number (number_low rows at old c.requires.settled lt read)) place c.in_ok-come.ensures.after c.in_ok-come.ensures.kept is_row
     c.in_ok-moved.moved.items (record { same = rw c.left-roster.ensures.rows at c.in_ok-moved.ensures.rows; new = rw c.left-roster.ensures.rows at c.in_ok-moved.ensures.new })
-    old c.in_ok-edited.edited c.args.label _ _ (at, lt, sym read) (ap (λ (t : Row). t.label.order.id) read ∙ here old) (λ d. ap (λ (t : Row). t.number) (c.row-old.ensures.row d) ∙ sym number) c.in_ok-edited.ensures c.in_ok-changes.ensures.ascending
-    (rw c.left-roster.ensures.rows at c.in_ok-changes.ensures.same) c.in_ok-gone.ensures.touched c.in_ok-come.ensures.touched label (spent_both _ _ _ _ _ c.in_ok-gone.ensures.spent c.in_ok-come.ensures.spent)
+    old c.in_ok-edited.edited c.args.label _ _ (at, lt, sym read) (ap (λ (t : Row). t.label.order.id) read ∙ here old)
+    (λ d. ap (λ (t : Row). t.number) (c.row-old.ensures.row d) ∙ sym number) c.in_ok-edited.ensures c.in_ok-changes.ensures.ascending
+    (rw c.left-roster.ensures.rows at c.in_ok-changes.ensures.same) c.in_ok-gone.ensures.touched c.in_ok-come.ensures.touched label
+    (spent_both _ _ _ _ _ c.in_ok-gone.ensures.spent c.in_ok-come.ensures.spent)

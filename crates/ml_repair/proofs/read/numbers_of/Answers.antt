@@ -8,7 +8,8 @@ pub loop-place-preserved : goal.loop-place-preserved
 loop-place-preserved c =
     let r = c.row.result.now in
     let k : ℕ = c.loop-place.place-index in
-    place_more c.args.store.now.rows c.args.places.now k r c.loop-place.numbers c.push.new.self (omega arith) (c.requires k 0 (omega arith)) (sym (c.row.ensures.row r)) c.loop-place.invariant c.in_ok-push.ensures.ok
+    place_more c.args.store.now.rows c.args.places.now k r c.loop-place.numbers c.push.new.self (omega arith)
+    (c.requires k 0 (omega arith)) (sym (c.row.ensures.row r)) c.loop-place.invariant c.in_ok-push.ensures.ok
 
 pub returns : goal.returns
 returns c = c.loop-place.invariant ∙ ap (map (number_at c.args.store.now.rows)) (take_all c.loop-place.place-index c.args.places.now (omega arith))

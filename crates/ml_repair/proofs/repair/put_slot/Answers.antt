@@ -8,4 +8,5 @@ put-requires c = low_number c.args.roster.now c.args.i c.row-row.result.now c.ro
 
 pub returns : goal.returns
 returns c =
-    if_ok c.put.result _ _ (λ _ h. moved_at c.args.roster.now c.args.i c.row-row.result.now c.args.slot c.args.moves.now c.put.new.self c.row-row.ensures.numbered.differ c.requires (sym (c.row-row.ensures.row c.row-row.result.now)) h) c.put.ensures
+    if_ok c.put.result _ _ (λ _ h. moved_at c.args.roster.now c.args.i c.row-row.result.now c.args.slot c.args.moves.now c.put.new.self
+    c.row-row.ensures.numbered.differ c.requires (sym (c.row-row.ensures.row c.row-row.result.now)) h) c.put.ensures

@@ -35,7 +35,8 @@ loop-i-init g c =
       | then-comes w ↦ (
         c.len-many.ensures.count,
         record {
-          repairing = rw w.evaluated-is (subst (Repairing (number_at rows) labels old c.args.at c.args.comes (c.args.at + 1) old (λ k. IsTrue (get_or c.wake.new.waits.items k false))) (ap first_count w.if-comes.true) start);
+          repairing = rw w.evaluated-is (subst (Repairing (number_at rows) labels old c.args.at c.args.comes (c.args.at + 1) old
+              (λ k. IsTrue (get_or c.wake.new.waits.items k false))) (ap first_count w.if-comes.true) start);
           one_wait = c.in_ok-wake.ensures.one_each;
           spent = rw (w.evaluated-is, w.if-comes.true) refl;
           few = rw w.evaluated-is (omega arith);
@@ -47,7 +48,8 @@ loop-i-init g c =
       | else-comes w ↦ (
         c.len-many.ensures.count,
         record {
-          repairing = rw w.evaluated-is (subst (Repairing (number_at rows) labels old c.args.at c.args.comes (c.args.at + 1) old (λ k. IsTrue (get_or c.wake.new.waits.items k false))) (ap first_count w.if-comes.false) start);
+          repairing = rw w.evaluated-is (subst (Repairing (number_at rows) labels old c.args.at c.args.comes (c.args.at + 1) old
+              (λ k. IsTrue (get_or c.wake.new.waits.items k false))) (ap first_count w.if-comes.false) start);
           one_wait = c.in_ok-wake.ensures.one_each;
           spent = rw (w.evaluated-is, w.if-comes.false) refl;
           few = rw w.evaluated-is (omega arith);
@@ -62,7 +64,8 @@ pub renew-requires-clause-ends : goal.renew-requires-clause-ends
 renew-requires-clause-ends g c =
     let rows = c.args.roster.now in
     let many = length-labels rows in
-    repairing_ends c.rivals_or_free.ensures c.smaller_ends.ensures c.carried.ensures (number_at rows) (labels_in rows) (present_slots rows c.args.moves.now) c.args.at c.args.comes (omega arith) c.requires.was
+    repairing_ends c.rivals_or_free.ensures c.smaller_ends.ensures c.carried.ensures (number_at rows)
+    (labels_in rows) (present_slots rows c.args.moves.now) c.args.at c.args.comes (omega arith) c.requires.was
     c.loop-i.i (present_slots rows c.loop-i.moves) (λ k. IsTrue (get_or c.loop-i.waits.items k false)) c.loop-i.evaluated c.loop-i.invariant.1.repairing (omega arith)
 
 pub renew-requires-clause-known : goal.renew-requires-clause-known
@@ -74,7 +77,8 @@ renew-requires-clause-known g c =
     record {
       was = present_slots rows c.args.moves.now;
       own = λ d.
-          subst (IsOwnSlot (row (number_at rows) (labels_in rows) (present_slots rows c.args.moves.now) d) (Stands c.args.comes false c.args.at c.loop-i.i) (get_or (labels_in rows) c.loop-i.i d)) (sym (so_far.rest c.loop-i.i (omega arith)))
+          subst (IsOwnSlot (row (number_at rows) (labels_in rows) (present_slots rows c.args.moves.now) d)
+          (Stands c.args.comes false c.args.at c.loop-i.i) (get_or (labels_in rows) c.loop-i.i d)) (sym (so_far.rest c.loop-i.i (omega arith)))
           (c.requires.was.own d c.loop-i.i (omega arith) (λ e. absurd (let f : c.loop-i.i ≡ c.args.at = e in omega arith)));
       changed_are = rw c.deref.ensures.value c.loop-i.invariant.1.noted;
     }
@@ -98,7 +102,8 @@ loop-i-preserved-then-index g c =
     let len = length-present rows c.renew.new.moves in
     let spent = c.in_ok-renew.ensures.spent in
     let numbers = length-map rows (λ (r : Row). r.number) in
-    let apart : number_at rows c.args.at ≢ number_at rows c.loop-i.i = (λ e. let f = same_place (numbers_in rows) c.args.at c.loop-i.i 0 c.len-many.ensures.numbered.differ (omega arith) (omega arith) e in let beyond = so_far.from in omega arith) in
+    let apart : number_at rows c.args.at ≢ number_at rows c.loop-i.i =
+    (λ e. let f = same_place (numbers_in rows) c.args.at c.loop-i.i 0 c.len-many.ensures.numbered.differ (omega arith) (omega arith) e in let beyond = so_far.from in omega arith) in
     elim c.if-branch.branch [
       | then-branch+in_ok-note w' ↦ (
         c.loop-i.invariant.0,
@@ -114,7 +119,8 @@ loop-i-preserved-then-index g c =
           far = omega arith;
           kept = (λ own. c.in_ok-renew.ensures.same (number_at rows c.args.at) own apart ∙ c.loop-i.invariant.1.kept own);
           noted = rw w'.changed-is
-              (noted_more c.args.at c.args.comes (ends old) (ends slots) (ends next) c.loop-i.i c.loop-i.changed.items w'.note.new.changed.items so_far.from c.loop-i.invariant.1.noted (λ k lt. end_kept slots next k (c.in_ok-renew.ensures.others k (λ e. omega arith)))
+              (noted_more c.args.at c.args.comes (ends old) (ends slots) (ends next) c.loop-i.i c.loop-i.changed.items w'.note.new.changed.items
+              so_far.from c.loop-i.invariant.1.noted (λ k lt. end_kept slots next k (c.in_ok-renew.ensures.others k (λ e. omega arith)))
               (pushed_one c.loop-i.changed.items c.loop-i.i w'.note.new.changed.items w'.in_ok-note.ensures.noted) same_trans);
         },
       )
@@ -131,7 +137,8 @@ loop-i-preserved-then-index g c =
           far = omega arith;
           kept = (λ own. c.in_ok-renew.ensures.same (number_at rows c.args.at) own apart ∙ c.loop-i.invariant.1.kept own);
           noted = rw w'.changed-is
-              (noted_still c.args.at c.args.comes (ends old) (ends slots) (ends next) c.loop-i.i c.loop-i.changed.items c.loop-i.invariant.1.noted (λ k lt. end_kept slots next k (c.in_ok-renew.ensures.others k (λ e. omega arith)))
+              (noted_still c.args.at c.args.comes (ends old) (ends slots) (ends next) c.loop-i.i c.loop-i.changed.items c.loop-i.invariant.1.noted
+              (λ k lt. end_kept slots next k (c.in_ok-renew.ensures.others k (λ e. omega arith)))
               (end_from slots old c.loop-i.i (ends next c.loop-i.i) (so_far.rest c.loop-i.i (omega arith)) (rw w'.if-branch.false at c.in_ok-renew.ensures.moved)) same_trans);
         },
       )
@@ -159,7 +166,8 @@ loop-i-preserved g c =
       c.loop-i.invariant.0,
       record {
         repairing = subst (λ (j : ℕ). Repairing (number_at rows) labels old c.args.at c.args.comes j slots (λ k. IsTrue (get_or c.loop-i.waits.items k false)) c.loop-i.evaluated) on
-            (repairing_skip c.rivals_or_free.ensures c.smaller_ends.ensures c.carried.ensures (number_at rows) labels old c.args.at c.args.comes at_in c.requires.was (c.next_waiting-i.result - c.loop-i.i) c.loop-i.i slots
+            (repairing_skip c.rivals_or_free.ensures c.smaller_ends.ensures c.carried.ensures
+            (number_at rows) labels old c.args.at c.args.comes at_in c.requires.was (c.next_waiting-i.result - c.loop-i.i) c.loop-i.i slots
             (λ k. IsTrue (get_or c.loop-i.waits.items k false)) c.loop-i.evaluated (omega arith) (λ k a b. idle k a (omega arith)) so_far);
         one_wait = one_wait;
         spent = before;
@@ -176,7 +184,8 @@ returns-clause-own g c =
     let rows = c.args.roster.now in
     let many = length-labels rows in
     let e : c.loop-i.i ≡ length (labels_in rows) = (let m = c.loop-i.invariant.0 in let far = c.loop-i.invariant.1.far in let done = c.loop-i-test.false in omega arith) in
-    repaired_own c.rivals_or_free.ensures c.smaller_ends.ensures c.carried.ensures (number_at rows) (labels_in rows) (present_slots rows c.args.moves.now) c.args.at c.args.comes (omega arith) c.requires.was
+    repaired_own c.rivals_or_free.ensures c.smaller_ends.ensures c.carried.ensures (number_at rows)
+    (labels_in rows) (present_slots rows c.args.moves.now) c.args.at c.args.comes (omega arith) c.requires.was
     (present_slots rows c.loop-i.moves) (λ k. IsTrue (get_or c.loop-i.waits.items k false)) c.loop-i.evaluated (rw e at c.loop-i.invariant.1.repairing)
 
 pub returns-clause-touched : goal.returns-clause-touched
@@ -184,5 +193,6 @@ returns-clause-touched g c =
     let rows = c.args.roster.now in
     let many = length-labels rows in
     let e : c.loop-i.i ≡ length (labels_in rows) = (let m = c.loop-i.invariant.0 in let far = c.loop-i.invariant.1.far in let done = c.loop-i-test.false in omega arith) in
-    repaired_size c.rivals_or_free.ensures c.smaller_ends.ensures c.carried.ensures (number_at rows) (labels_in rows) (present_slots rows c.args.moves.now) c.args.at c.args.comes (omega arith) c.requires.was
+    repaired_size c.rivals_or_free.ensures c.smaller_ends.ensures c.carried.ensures (number_at rows)
+    (labels_in rows) (present_slots rows c.args.moves.now) c.args.at c.args.comes (omega arith) c.requires.was
     (present_slots rows c.loop-i.moves) (λ k. IsTrue (get_or c.loop-i.waits.items k false)) c.loop-i.evaluated (rw e at c.loop-i.invariant.1.repairing)

@@ -3,7 +3,9 @@ use Rattle.ml_repair.proofs.Enough.{enough_own}
 use Rattle.ml_repair.proofs.settle.settle.Goals as goal
 
 pub invariant_of-chosen : goal.invariant_of-chosen
-invariant_of-chosen g c = record { in_roster = rw c.deref.ensures.value (all_within c.args.roster.now c.args.edited.at c.args.edited.comes c.args.i c.in_ok-places.places.items c.requires.is_place c.in_ok-places.ensures.enough.stand) }
+invariant_of-chosen g c = record {
+  in_roster = rw c.deref.ensures.value (all_within c.args.roster.now c.args.edited.at c.args.edited.comes c.args.i c.in_ok-places.places.items c.requires.is_place c.in_ok-places.ensures.enough.stand);
+}
 
 pub returns-clause-own : goal.returns-clause-own
 returns-clause-own g c d =

@@ -21,4 +21,5 @@ loop-band-preserved c =
 pub returns : goal.returns
 returns c =
     let i = c.loop-band.invariant in
-    suspects_all c.rivals_share.ensures c.args.roster.now c.args.label.now i.0 c.loop-band.band c.last_band-last.result i.1 i.2 c.loop-band.places i.6 i.5 c.last_band-last.ensures i.4 i.3 c.loop-band-test.false
+    suspects_all c.rivals_share.ensures c.args.roster.now c.args.label.now i.0 c.loop-band.band c.last_band-last.result
+    i.1 i.2 c.loop-band.places i.6 i.5 c.last_band-last.ensures i.4 i.3 c.loop-band-test.false

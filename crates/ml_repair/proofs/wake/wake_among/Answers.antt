@@ -5,7 +5,10 @@ use Rattle.ml_repair.proofs.Waking.{woken_none, among_more}
 use Rattle.ml_repair.proofs.wake.wake_among.Goals as goal
 
 pub loop-place-init : goal.loop-place-init
-loop-place-init c = (c.requires.one_each, woken_none (labels_in c.args.roster.now) c.args.i c.args.waits.now.items (Contains (take 0 c.args.places.now)) (λ k h r. let lt : h.0 < 0 = h.1 in omega arith))
+loop-place-init c = (
+  c.requires.one_each,
+  woken_none (labels_in c.args.roster.now) c.args.i c.args.waits.now.items (Contains (take 0 c.args.places.now)) (λ k h r. let lt : h.0 < 0 = h.1 in omega arith),
+)
 
 pub wake_one-requires-clause-k_is_place : goal.wake_one-requires-clause-k_is_place
 wake_one-requires-clause-k_is_place c = c.requires.in_roster c.loop-place.place-index 0 (omega arith)
@@ -13,7 +16,8 @@ wake_one-requires-clause-k_is_place c = c.requires.in_roster c.loop-place.place-
 pub loop-place-preserved : goal.loop-place-preserved
 loop-place-preserved c = (
   c.wake_one.ensures.one_each,
-  among_more (labels_in c.args.roster.now) c.args.i c.args.waits.now.items c.loop-place.waits.items c.wake_one.new.waits.items c.args.places.now c.loop-place.place-index (omega arith) c.loop-place.invariant.1 c.wake_one.ensures.woken c.wake_one.ensures.others,
+  among_more (labels_in c.args.roster.now) c.args.i c.args.waits.now.items c.loop-place.waits.items c.wake_one.new.waits.items c.args.places.now c.loop-place.place-index
+      (omega arith) c.loop-place.invariant.1 c.wake_one.ensures.woken c.wake_one.ensures.others,
 )
 
 pub returns-clause-woken : goal.returns-clause-woken

@@ -9,7 +9,8 @@ loop-k-init c = (c.requires.one_each, woken_none (labels_in c.args.roster.now) c
 pub loop-k-preserved : goal.loop-k-preserved
 loop-k-preserved c = (
   c.wake_one.ensures.one_each,
-  idle_more (labels_in c.args.roster.now) c.args.i c.args.waits.now.items c.loop-k.waits.items c.wake_one.new.waits.items c.loop-k.k c.loop-k.invariant.1 c.wake_one.ensures.woken c.wake_one.ensures.others,
+  idle_more (labels_in c.args.roster.now) c.args.i c.args.waits.now.items c.loop-k.waits.items
+      c.wake_one.new.waits.items c.loop-k.k c.loop-k.invariant.1 c.wake_one.ensures.woken c.wake_one.ensures.others,
 )
 
 pub returns-clause-woken : goal.returns-clause-woken

@@ -28,7 +28,9 @@ overflow_add-result c =
     let ref : FitsSigned w128 (pos c.args.class.scale_ref) = omega (arith, ints) in
     let p = doubled_fits c.args.l c.args.r c.args.class.scale_ref l r k in
     let e : c.floor_of.result ≡ floor ((c.args.l +ℤ c.args.r) *ℤ pos c.args.class.scale_ref) (pos 2) = simp (to_z-of_z, c.from.ensures) at c.floor_of.ensures.value in
-    let b : ((c.floor_of.result *ℤ pos 2) ≤ℤ ((c.args.l +ℤ c.args.r) *ℤ pos c.args.class.scale_ref)) × (((c.args.l +ℤ c.args.r) *ℤ pos c.args.class.scale_ref) <ℤ ((c.floor_of.result +ℤ pos 1) *ℤ pos 2)) = simp (to_z-of_z, c.from.ensures) at c.floor_of.ensures.bounds in
+    let b : ((c.floor_of.result *ℤ pos 2) ≤ℤ ((c.args.l +ℤ c.args.r) *ℤ pos c.args.class.scale_ref))
+    × (((c.args.l +ℤ c.args.r) *ℤ pos c.args.class.scale_ref) <ℤ ((c.floor_of.result +ℤ pos 1) *ℤ pos 2)) =
+    simp (to_z-of_z, c.from.ensures) at c.floor_of.ensures.bounds in
     let h = half_fits c.args.x c.args.l c.args.r c.floor_of.result c.args.class.scale_ref c.requires.world l r k b.0 b.1 in
     let x : FitsSigned w64 c.args.x = c.ranges.x in
     let x' : FitsSigned w128 c.args.x = omega (arith, ints) in
@@ -47,7 +49,9 @@ returns c =
     let ref : FitsSigned w128 (pos c.args.class.scale_ref) = omega (arith, ints) in
     let p = doubled_fits c.args.l c.args.r c.args.class.scale_ref l r k in
     let e : c.floor_of.result ≡ floor ((c.args.l +ℤ c.args.r) *ℤ pos c.args.class.scale_ref) (pos 2) = simp (to_z-of_z, c.from.ensures) at c.floor_of.ensures.value in
-    let b : ((c.floor_of.result *ℤ pos 2) ≤ℤ ((c.args.l +ℤ c.args.r) *ℤ pos c.args.class.scale_ref)) × (((c.args.l +ℤ c.args.r) *ℤ pos c.args.class.scale_ref) <ℤ ((c.floor_of.result +ℤ pos 1) *ℤ pos 2)) = simp (to_z-of_z, c.from.ensures) at c.floor_of.ensures.bounds in
+    let b : ((c.floor_of.result *ℤ pos 2) ≤ℤ ((c.args.l +ℤ c.args.r) *ℤ pos c.args.class.scale_ref))
+    × (((c.args.l +ℤ c.args.r) *ℤ pos c.args.class.scale_ref) <ℤ ((c.floor_of.result +ℤ pos 1) *ℤ pos 2)) =
+    simp (to_z-of_z, c.from.ensures) at c.floor_of.ensures.bounds in
     let h = half_fits c.args.x c.args.l c.args.r c.floor_of.result c.args.class.scale_ref c.requires.world l r k b.0 b.1 in
     let x : FitsSigned w64 c.args.x = c.ranges.x in
     let x' : FitsSigned w128 c.args.x = omega (arith, ints) in

@@ -44,7 +44,8 @@ returns-then-last-x c =
     let q = x_of c.args.run.now (length c.args.run.now - 1) c.index-run-run.result (omega (arith, c.requires.some)) in
     let t : int_lt (get_or c.args.run.now (length c.args.run.now - 1) c.index-run-run.result).x c.middle-x.result ≡ true = simp to_z-of_z at c.if-last-x.true in
     let less : (get_or c.args.run.now (length c.args.run.now - 1) c.index-run-run.result).x <ℤ c.middle-x.result = grind (arith, ints) in
-    inr (lt_along (get_or c.args.run.now (length c.args.run.now - 1) c.index-run-run.result).x c.middle-x.result (x_at c.args.run.now (length c.args.run.now - 1)) (middle c.args.class c.args.x c.args.l c.args.r) (sym q) (sym m) less)
+    inr (lt_along (get_or c.args.run.now (length c.args.run.now - 1) c.index-run-run.result).x c.middle-x.result
+    (x_at c.args.run.now (length c.args.run.now - 1)) (middle c.args.class c.args.x c.args.l c.args.r) (sym q) (sym m) less)
 
 pub returns-else-last-x : goal.returns-else-last-x
 returns-else-last-x c =
@@ -70,6 +71,7 @@ returns-else-last-x c =
       middle_is = simp to_z-of_z m;
       within = (
         simp to_z-of_z (le_along (get_or c.args.run.now 0 c.index-run-0.result).x c.middle-x.result (x_at c.args.run.now 0) c.middle-x.result (sym p) refl low),
-        simp to_z-of_z (le_along c.middle-x.result (get_or c.args.run.now (length c.args.run.now - 1) c.index-run-run.result).x c.middle-x.result (x_at c.args.run.now (length c.args.run.now - 1)) refl q high),
+        simp to_z-of_z (le_along c.middle-x.result (get_or c.args.run.now (length c.args.run.now - 1) c.index-run-run.result).x c.middle-x.result
+            (x_at c.args.run.now (length c.args.run.now - 1)) refl q high),
       );
     }

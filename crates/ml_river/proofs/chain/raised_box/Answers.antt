@@ -57,4 +57,6 @@ returns-in-Some c =
     let eh : IsHeight c.args.run.now c.in-Some.x c.height_on_run.result = simp to_z-of_z at c.height_on_run.ensures.height in
     let ev : c.raise-rise.result ≡ raise c.args.class c.args.anchor.y c.height_on_run.result = simp to_z-of_z at c.raise-rise.ensures.value in
     let made : IsMade c.args.l (c.raise-rise.result -ℤ c.from.result) c.args.r ((c.raise-rise.result -ℤ c.from.result) +ℤ c.from-in-Some.result) c.box_of.result = simp to_z-of_z at c.box_of.ensures in
-    raised c.args.class c.args.run.now c.args.anchor.x c.args.anchor.y c.args.l c.args.r c.in-Some.x c.height_on_run.result c.raise-rise.result (c.raise-rise.result -ℤ c.from.result) ((c.raise-rise.result -ℤ c.from.result) +ℤ c.from-in-Some.result) c.box_of.result em eh ev (ap (λ (z : ℤ). c.raise-rise.result -ℤ z) half) (ap (λ (z : ℤ). (c.raise-rise.result -ℤ c.from.result) +ℤ z) whole) made
+    raised c.args.class c.args.run.now c.args.anchor.x c.args.anchor.y c.args.l c.args.r c.in-Some.x c.height_on_run.result c.raise-rise.result
+    (c.raise-rise.result -ℤ c.from.result) ((c.raise-rise.result -ℤ c.from.result) +ℤ c.from-in-Some.result) c.box_of.result em eh ev
+    (ap (λ (z : ℤ). c.raise-rise.result -ℤ z) half) (ap (λ (z : ℤ). (c.raise-rise.result -ℤ c.from.result) +ℤ z) whole) made

@@ -40,8 +40,10 @@ returns-then-x-right-clause-height c =
     let past = subst (λ (z : ℤ). IsPast c.args.run.now z c.loop-k.k) (to_z-of_z w64 c.args.x fx) c.loop-k.invariant in
     let t : int_le c.args.x c.index-run-k.result.x ≡ true = simp to_z-of_z at c.if-x-right.true in
     let t' : c.args.x ≤ℤ c.index-run-k.result.x = grind (arith, ints) in
-    let v : c.height_at.result ≡ height_on c.index-run-k-then-x-right.result.x c.index-run-k-then-x-right.result.y c.index-run-k.result.x c.index-run-k.result.y c.args.x = simp to_z-of_z at c.height_at.ensures.value in
-    let done : IsHeight c.args.run.now c.args.x c.height_at.result = height_found c.args.run.now c.args.x c.height_at.result c.loop-k.k (omega arith) c.loop-k-test.true c.requires.after past (rw r t') (rw (l, m, r, s) v) in
+    let v : c.height_at.result ≡ height_on c.index-run-k-then-x-right.result.x c.index-run-k-then-x-right.result.y c.index-run-k.result.x c.index-run-k.result.y c.args.x =
+    simp to_z-of_z at c.height_at.ensures.value in
+    let done : IsHeight c.args.run.now c.args.x c.height_at.result =
+    height_found c.args.run.now c.args.x c.height_at.result c.loop-k.k (omega arith) c.loop-k-test.true c.requires.after past (rw r t') (rw (l, m, r, s) v) in
     simp to_z-of_z done
 
 pub loop-k-preserved : goal.loop-k-preserved

@@ -14,7 +14,9 @@ returns c =
     let fa : FitsSigned w64 (get_or c.args.line.now c.args.from c.index-line-from.result).x = search rules in
     let b = x_of c.args.line.now c.args.to c.index-line-to.result c.requires.there in
     let a = x_of c.args.line.now c.args.from c.index-line-from.result (omega arith) in
-    let same : int_lt (x_at c.args.line.now c.args.to) (x_at c.args.line.now c.args.from) ≡ int_lt (get_or c.args.line.now c.args.to c.index-line-to.result).x (get_or c.args.line.now c.args.from c.index-line-from.result).x = ap (λ (z : ℤ). int_lt z (x_at c.args.line.now c.args.from)) b ∙ ap (λ (z : ℤ). int_lt (get_or c.args.line.now c.args.to c.index-line-to.result).x z) a in
+    let same : int_lt (x_at c.args.line.now c.args.to) (x_at c.args.line.now c.args.from)
+    ≡ int_lt (get_or c.args.line.now c.args.to c.index-line-to.result).x (get_or c.args.line.now c.args.from c.index-line-from.result).x =
+    ap (λ (z : ℤ). int_lt z (x_at c.args.line.now c.args.from)) b ∙ ap (λ (z : ℤ). int_lt (get_or c.args.line.now c.args.to c.index-line-to.result).x z) a in
     let copied = c.in_ok-run.ensures.items in
     elim c.if-line-to.branch [
       | then-line-to w ↦

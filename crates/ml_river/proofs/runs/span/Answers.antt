@@ -12,7 +12,8 @@ returns c =
     let fp : FitsSigned w64 (get_or c.args.line.now c.args.b c.index-line-b.result).x = omega (arith, ints, pw.0, pw.1) in
     let fq : FitsSigned w64 (get_or c.args.line.now c.args.a c.index-line-a.result).x = omega (arith, ints, qw.0, qw.1) in
     let fd : FitsSigned w64 ((get_or c.args.line.now c.args.b c.index-line-b.result).x -ℤ (get_or c.args.line.now c.args.a c.index-line-a.result).x) = omega (arith, ints, pw.0, pw.1, qw.0, qw.1) in
-    let e : c.unsigned_abs.result ≡ unsigned_abs ((get_or c.args.line.now c.args.b c.index-line-b.result).x -ℤ (get_or c.args.line.now c.args.a c.index-line-a.result).x) = simp to_z-of_z at c.unsigned_abs.ensures.value in
+    let e : c.unsigned_abs.result ≡ unsigned_abs ((get_or c.args.line.now c.args.b c.index-line-b.result).x -ℤ (get_or c.args.line.now c.args.a c.index-line-a.result).x) =
+    simp to_z-of_z at c.unsigned_abs.ensures.value in
     let a = x_of c.args.line.now c.args.a c.index-line-a.result c.requires.a_there in
     let b = x_of c.args.line.now c.args.b c.index-line-b.result c.requires.b_there in
     e ∙ (ap (λ (z : ℤ). unsigned_abs (z -ℤ (get_or c.args.line.now c.args.a c.index-line-a.result).x)) (sym b) ∙ ap (λ (z : ℤ). unsigned_abs (x_at c.args.line.now c.args.b -ℤ z)) (sym a))

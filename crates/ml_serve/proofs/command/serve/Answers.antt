@@ -36,4 +36,5 @@ returns-in-Err-serve_links-clause-served g c =
     headline_of _ c.hear_nothing.ensures c.hear_twice.ensures _ _ _ _ c.args.hours.count c.in-Err-serve_links.ensures.err.0 _ _ _ c.say_fault-in-Err-serve_links.result
     (served_from _ _ _ _ _ _ c.listen.ensures.same.1 refl c.listen.ensures.same.2 refl c.in-Err-serve_links.ensures.err.2)
     (end_fault_later c.append_twice.ensures _ _ _ _ _ _ c.say_fault-in-Err-serve_links.result
-    c.serve_links.ensures.listens (c.in-Err-serve_links.ensures.cause.failed ∙ ap one_more c.in-Ok.ensures.cause.fine) c.in-Err-serve_links.ensures.err.1 c.in-Ok-put_all.ensures.ok c.say_fault-in-Err-serve_links.ensures.said)
+    c.serve_links.ensures.listens (c.in-Err-serve_links.ensures.cause.failed ∙ ap one_more c.in-Ok.ensures.cause.fine)
+    c.in-Err-serve_links.ensures.err.1 c.in-Ok-put_all.ensures.ok c.say_fault-in-Err-serve_links.ensures.said)

@@ -37,8 +37,11 @@ grow-requires-in_default g t c =
     let o = entry_total g.met.K.Key.total g.met.E.Key.total g.met.V.Key.total in
     let top = opened_in_place c.in-Fork.is c.deref_mut-in_default.ensures.value c.requires.sound in
     let p = placed c.in-Fork.is top (c.deref.ensures ∙ sym c.deref_mut-in_default.ensures.value) c.place_of.ensures in
-    let deep = ap depth c.in-Fork.is ∙ top.deep in
-    (search rules, greatest_added g.met.E.Key.total _ (put_right o p _ _ c.in_default.not-Less c.requires.new c.requires.rising c.put-in_default.ensures.added c.put-in_default.ensures.rising refl).0 (rw c.in-Fork.is top.greatest))
+    let deep = ap depth c.in-Fork.is ∙ top.deep in (
+      search rules,
+      greatest_added g.met.E.Key.total _ (put_right o p _ _ c.in_default.not-Less c.requires.new c.requires.rising c.put-in_default.ensures.added c.put-in_default.ensures.rising refl).0
+          (rw c.in-Fork.is top.greatest),
+    )
 
 pub returns-in-Leaf-clause-added : goal.returns-in-Leaf-clause-added
 returns-in-Leaf-clause-added g t c = record { before = []; after = []; was = ap entries c.in-Leaf.is; is = c.single.ensures.entries }

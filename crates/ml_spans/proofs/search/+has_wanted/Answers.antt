@@ -35,12 +35,14 @@ has_wanted-requires-else-has_wanted g t c κs within =
 pub returns-in-Less : goal.returns-in-Less
 returns-in-Less g t c =
     let top = top_of c.in-Fork.is c.as_ref-node.ensures c.content_of-content.ensures c.requires.sound in
-    rw (wanted_right g.K.Key.order g.E.Key.order c.args.query.now g.V.Key.order g.met.K.Key.total g.met.E.Key.total g.met.V.Key.total _ _ _ _ top.parts c.requires.rising c.in-Less.ensures) c.has_wanted.ensures
+    rw (wanted_right g.K.Key.order g.E.Key.order c.args.query.now g.V.Key.order g.met.K.Key.total g.met.E.Key.total
+    g.met.V.Key.total _ _ _ _ top.parts c.requires.rising c.in-Less.ensures) c.has_wanted.ensures
 
 pub returns-in-Greater : goal.returns-in-Greater
 returns-in-Greater g t c =
     let top = top_of c.in-Fork.is c.as_ref-node.ensures c.content_of-content.ensures c.requires.sound in
-    rw (wanted_left g.K.Key.order g.E.Key.order c.args.query.now g.V.Key.order g.met.K.Key.total g.met.E.Key.total g.met.V.Key.total _ _ _ _ top.parts c.requires.rising c.in-Greater.ensures) c.has_wanted-in-Greater.ensures
+    rw (wanted_left g.K.Key.order g.E.Key.order c.args.query.now g.V.Key.order g.met.K.Key.total g.met.E.Key.total
+    g.met.V.Key.total _ _ _ _ top.parts c.requires.rising c.in-Greater.ensures) c.has_wanted-in-Greater.ensures
 
 pub returns-in-Equal : goal.returns-in-Equal
 returns-in-Equal g t c =

@@ -14,7 +14,8 @@ loop-row-preserved c =
     let b = c.row-item.result in
     let next = c.with-outline.result in
     all_longer (λ (r : Row). IsWithin next r.label) (added_box boxes c.loop-row.row-index b (omega arith) c.row-item.is) (rw c.deref.ensures at c.with-outline.ensures.new)
-    (All-weaker (λ (r : Row). IsWithin c.loop-row.outline r.label) (λ (r : Row). IsWithin next r.label) (λ r h. c.with-outline.ensures.kept r.label h) (take c.loop-row.row-index (unboxed boxes)) c.loop-row.invariant)
+    (All-weaker (λ (r : Row). IsWithin c.loop-row.outline r.label) (λ (r : Row). IsWithin next r.label)
+    (λ r h. c.with-outline.ensures.kept r.label h) (take c.loop-row.row-index (unboxed boxes)) c.loop-row.invariant)
 
 pub returns : goal.returns
 returns c =

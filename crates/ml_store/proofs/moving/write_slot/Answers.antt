@@ -29,6 +29,7 @@ returns-clause-stored c =
     record {
       differ = rw (c.write_pair.ensures.rows) (differ_moved rows c.args.at c.args.slot c.requires.stored.differ);
       kept = rw (c.write_pair.ensures.rows, ← is)
-          (index_moved (λ (e : Entry). e.value) IsEntryIn entry_number {s = s} c.args.grid.now.entries c.move_entries.new.grid.entries refl a b fresh c.requires.stored.kept c.move_entries.ensures.entries);
+          (index_moved (λ (e : Entry). e.value) IsEntryIn entry_number {s =
+          s} c.args.grid.now.entries c.move_entries.new.grid.entries refl a b fresh c.requires.stored.kept c.move_entries.ensures.entries);
       paired = c.write_pair.ensures.paired;
     }

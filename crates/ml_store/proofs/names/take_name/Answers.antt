@@ -26,4 +26,5 @@ returns-clause-by_name c at d lt same =
     let name : Name = get_or (names_in rows) at d in
     let here = found_at (names_in rows) c.args.ids.now.items own c.requires.by_name c.args.id.now c.id_place-at.result name place (Contains-get_or (names_in rows) at d lt) same in
     rw c.remove-number.ensures.items
-    (named_out (names_in rows) c.args.ids.now.items own c.requires.by_name name c.id_place-at.result _ here.0 here.1 (name_gone rows at d c.requires.differ lt) (added_remove (names_in rows) at name lt (get_or_default (names_in rows) at d name lt)))
+    (named_out (names_in rows) c.args.ids.now.items own c.requires.by_name name c.id_place-at.result _ here.0 here.1
+    (name_gone rows at d c.requires.differ lt) (added_remove (names_in rows) at name lt (get_or_default (names_in rows) at d name lt)))

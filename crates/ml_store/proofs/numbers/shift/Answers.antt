@@ -15,7 +15,8 @@ returns-then-from-to c =
     let from = c.args.from in
     let to = c.args.to in
     let after = rw c.deref_mut.ensures.value at c.rotate_left.ensures.after in
-    let is : take from items ++ (c.rotate_left.new.self ++ drop (to + 1 - from) (drop from items)) ≡ insert (remove items from) to (get_or items from 0) = rw after (left_moved items from to c.requires.from_place (omega arith)) in
+    let is : take from items ++ (c.rotate_left.new.self ++ drop (to + 1 - from) (drop from items)) ≡ insert (remove items from) to (get_or items from 0) =
+    rw after (left_moved items from to c.requires.from_place (omega arith)) in
     let long = put_back items _ from to c.args.order.now.len c.requires.from_place c.requires.to_place (omega arith) is in
     rw c.deref_mut.ensures.value (take_at _ _ c.args.order.now.len long ∙ is)
 
@@ -25,6 +26,7 @@ returns-else-from-to c =
     let from = c.args.from in
     let to = c.args.to in
     let after = rw c.deref_mut-else-from-to.ensures.value at c.rotate_right.ensures.after in
-    let is : take to items ++ (c.rotate_right.new.self ++ drop (from + 1 - to) (drop to items)) ≡ insert (remove items from) to (get_or items from 0) = rw after (right_moved items from to c.requires.from_place (omega arith)) in
+    let is : take to items ++ (c.rotate_right.new.self ++ drop (from + 1 - to) (drop to items)) ≡ insert (remove items from) to (get_or items from 0) =
+    rw after (right_moved items from to c.requires.from_place (omega arith)) in
     let long = put_back items _ from to c.args.order.now.len c.requires.from_place c.requires.to_place (omega arith) is in
     rw c.deref_mut-else-from-to.ensures.value (take_at _ _ c.args.order.now.len long ∙ is)

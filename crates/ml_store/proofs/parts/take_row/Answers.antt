@@ -21,7 +21,8 @@ take_parts-requires-clause-there c =
     let r : Row = c.remove-row.result.value in
     let read : r ≡ get_or rows c.args.at r = sym (c.remove-row.ensures.row r) in
     let fresh = fresh_removed rows c.args.at r c.requires.stored.differ c.requires.is_place read in
-    rw c.deref.ensures (λ (p : Pair). λ its. ((index_its (λ (q : Pair). q.value) IsPairIn pair_number c.args.pairs.now.entries (added_remove rows c.args.at r c.requires.is_place read) fresh c.requires.stored.paired p).1 its).0)
+    rw c.deref.ensures (λ (p : Pair).
+    λ its. ((index_its (λ (q : Pair). q.value) IsPairIn pair_number c.args.pairs.now.entries (added_remove rows c.args.at r c.requires.is_place read) fresh c.requires.stored.paired p).1 its).0)
 
 pub returns-clause-stored : goal.returns-clause-stored
 returns-clause-stored c =
@@ -32,6 +33,8 @@ returns-clause-stored c =
     let fresh = fresh_removed rows c.args.at r c.requires.stored.differ c.requires.is_place read in
     rw c.remove-row.ensures.rows (record {
       differ = differ_removed rows c.args.at c.requires.stored.differ c.requires.is_place;
-      kept = index_less (λ (e : Entry). e.value) IsEntryIn entry_number c.args.grid.now.entries c.take_parts.new.grid.entries a fresh c.requires.stored.kept (rw c.deref.ensures at c.take_parts.ensures.entries);
-      paired = index_less (λ (p : Pair). p.value) IsPairIn pair_number c.args.pairs.now.entries c.take_parts.new.pairs.entries a fresh c.requires.stored.paired (rw c.deref.ensures at c.take_parts.ensures.pairs);
+      kept = index_less (λ (e : Entry). e.value) IsEntryIn entry_number c.args.grid.now.entries c.take_parts.new.grid.entries a fresh c.requires.stored.kept
+          (rw c.deref.ensures at c.take_parts.ensures.entries);
+      paired = index_less (λ (p : Pair). p.value) IsPairIn pair_number c.args.pairs.now.entries c.take_parts.new.pairs.entries a fresh c.requires.stored.paired
+          (rw c.deref.ensures at c.take_parts.ensures.pairs);
     })

@@ -8,5 +8,6 @@ all_in_cells-requires c = let few = c.cells_across-next.ensures.few in let f0 = 
 
 pub returns-clause-whole : goal.returns-clause-whole
 returns-clause-whole c =
-    found_across c.args.rows.now.rows c.args.grid.now.entries c.requires.kept c.args.outline.now c.requires.within c.args.label.now c.args.band c.cells_across-next.result.1 c.cells_across-next.result.0
+    found_across c.args.rows.now.rows c.args.grid.now.entries c.requires.kept c.args.outline.now
+    c.requires.within c.args.label.now c.args.band c.cells_across-next.result.1 c.cells_across-next.result.0
     c.cells_across-next.ensures.whole c.in_ok-numbers.numbers c.in_ok-numbers.ensures

@@ -9,7 +9,8 @@ in_cells-requires c = let few = c.around.ensures.few in let f0 = few.0 in let f1
 pub returns-clause-whole : goal.returns-clause-whole
 returns-clause-whole c =
     if_ok c.in_cells.result _ _ (λ (numbers : List ℕ) found.
-    found_overlapping c.args.rows.now.rows c.args.grid.now.entries c.requires.kept c.args.outline.now c.requires.within c.args.label.now c.args.band c.args.scale.now c.around.result c.around.ensures.whole numbers found) c.in_cells.ensures
+    found_overlapping c.args.rows.now.rows c.args.grid.now.entries c.requires.kept c.args.outline.now c.requires.within
+    c.args.label.now c.args.band c.args.scale.now c.around.result c.around.ensures.whole numbers found) c.in_cells.ensures
 
 pub returns-clause-live : goal.returns-clause-live
 returns-clause-live c =

@@ -9,7 +9,8 @@ has_in_cells-requires c = let few = c.in-Some.ensures.few in let f0 = few.0 in l
 
 pub returns-in-Some : goal.returns-in-Some
 returns-in-Some c holds =
-    clear_of c.args.rows.now.rows c.args.grid.now.entries c.requires.kept c.args.outline.now c.requires.within c.args.label.now c.args.band c.args.upto c.args.scale.now c.in-Some.cells c.in-Some.ensures.whole
+    clear_of c.args.rows.now.rows c.args.grid.now.entries c.requires.kept c.args.outline.now c.requires.within
+    c.args.label.now c.args.band c.args.upto c.args.scale.now c.in-Some.cells c.in-Some.ensures.whole
     (λ there. false≢true (sym (ap not (c.has_in_cells.ensures.1 there)) ∙ holds))
 
 pub returns-in-None : goal.returns-in-None

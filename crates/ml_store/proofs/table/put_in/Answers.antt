@@ -19,7 +19,8 @@ returns-clause-table c =
     let few : length rows < 32768 = (let f = c.insert.ensures.few in omega arith) in
     let named = rw (c.deref.ensures, c.id.ensures, c.deref-3.ensures, c.deref-2.ensures.value) at c.put_name.ensures.by_name in
     rw (c.in-Ok.ensures.items, map_insert box_value c.args.rows.now.items c.args.at c.args.row, c.insert.ensures.inserted, c.deref.ensures)
-    (table_in rows c.args.numbers.now c.args.ids.now.items c.put_name.new.ids.items c.args.at r c.requires.table (numbered_inserted rows c.args.at r c.requires.table.numbered le few c.requires.fresh c.requires.low) named)
+    (table_in rows c.args.numbers.now c.args.ids.now.items c.put_name.new.ids.items c.args.at r c.requires.table
+    (numbered_inserted rows c.args.at r c.requires.table.numbered le few c.requires.fresh c.requires.low) named)
 
 pub returns-clause-rows : goal.returns-clause-rows
 returns-clause-rows c = rw c.in-Ok.ensures.items (map_insert box_value c.args.rows.now.items c.args.at c.args.row)

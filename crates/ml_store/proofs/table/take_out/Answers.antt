@@ -32,7 +32,8 @@ returns-clause-table c =
     let r : Row = c.deref-2.result.now in
     let read : r ≡ get_or rows c.args.at r = boxed_read boxes c.args.at c.index.result.now r (omega arith) c.index.ensures c.deref-2.ensures in
     let is : get_or (names_in rows) c.args.at (naming_of r) ≡ naming_of r = get_or-map naming_of rows c.args.at r (naming_of r) lt ∙ ap naming_of (sym read) in
-    let by : AreByName (remove (names_in rows) c.args.at) c.take_name.new.ids.items = (rw c.deref.ensures.value at c.take_name.ensures.by_name) c.args.at (naming_of r) (omega arith) (ap (λ (x : Name). x.id) is ∙ sym c.id.ensures) in
+    let by : AreByName (remove (names_in rows) c.args.at) c.take_name.new.ids.items =
+    (rw c.deref.ensures.value at c.take_name.ensures.by_name) c.args.at (naming_of r) (omega arith) (ap (λ (x : Name). x.id) is ∙ sym c.id.ensures) in
     rw (c.remove-2.ensures.items, map_remove box_value boxes c.args.at, c.remove.ensures)
     (table_out rows c.args.numbers.now c.args.ids.now.items c.take_name.new.ids.items c.args.at c.requires.table (numbered_removed rows c.args.at c.requires.table.numbered lt) by)
 

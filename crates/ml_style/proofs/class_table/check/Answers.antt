@@ -14,5 +14,7 @@ returns-then-not-is_less c =
 pub returns : goal.returns
 returns c =
     let less = c.if-not-is_less.ensures in
-    let t : is_at_most c.args.max.now c.args.min.now ≡ false = not_at_most c.args.min.now c.args.max.now less in
-    (rw (known_if c.args.fonts.now c.args.font.now c.find_font.result true c.find_font.ensures c.if-is_none.ensures, t) refl, record { known = is_found c.args.fonts.now c.args.font.now c.find_font.result c.find_font.ensures c.if-is_none.ensures; range = less })
+    let t : is_at_most c.args.max.now c.args.min.now ≡ false = not_at_most c.args.min.now c.args.max.now less in (
+      rw (known_if c.args.fonts.now c.args.font.now c.find_font.result true c.find_font.ensures c.if-is_none.ensures, t) refl,
+      record { known = is_found c.args.fonts.now c.args.font.now c.find_font.result c.find_font.ensures c.if-is_none.ensures; range = less },
+    )

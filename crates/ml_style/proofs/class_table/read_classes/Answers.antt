@@ -18,7 +18,8 @@ loop-k-preserved c =
     let here = at_place c.args.values.now c.loop-k.k c.index-values-k.result (omega arith) c.index-values-k.is in
     record {
       faults = past_faults c.args.version (names_of c.args.fonts.now) c.loop-k.k _ _ (view c.index-values-k.result) here _ c.loop-k.invariant.faults c.in_ok-read_class.ensures.0;
-      classes = rw c.in_ok-push.ensures.ok (one_more_class c.args.version (items_view c.args.values.now) _ _ (view c.index-values-k.result) c.loop-k.classes c.in_ok-read_class.field-0 here c.in_ok-read_class.ensures.1.0 c.loop-k.invariant.classes);
+      classes = rw c.in_ok-push.ensures.ok (one_more_class c.args.version (items_view c.args.values.now) _ _
+          (view c.index-values-k.result) c.loop-k.classes c.in_ok-read_class.field-0 here c.in_ok-read_class.ensures.1.0 c.loop-k.invariant.classes);
       known = rw c.in_ok-push.ensures.ok (All-push (HasFont c.args.fonts.now) c.loop-k.classes c.in_ok-read_class.field-0 c.loop-k.invariant.known c.in_ok-read_class.ensures.1.1);
     }
 

@@ -6,12 +6,17 @@ use Rattle.ml_style.proofs.style_table.read_table.Goals as goal
 
 pub returns-in_err-classes : goal.returns-in_err-classes
 returns-in_err-classes c =
-    rw ((err_from_is_err_and c.from_residual-in_err-classes.result c.from_residual-in_err-classes.ensures.1).1, (err_from_is_err_and c.from_residual-in_err-classes.result c.from_residual-in_err-classes.ensures.1).2)
-    (rw (after_fonts (table_view c.args.table.now) c.in-Some.version c.in_ok-fonts.fonts (sym c.in-Some.ensures.value) c.in_ok-fonts.ensures.fonts.0 c.in_ok-fonts.ensures.fonts.1) c.in_err-classes.ensures.classes)
+    rw (
+      (err_from_is_err_and c.from_residual-in_err-classes.result c.from_residual-in_err-classes.ensures.1).1,
+      (err_from_is_err_and c.from_residual-in_err-classes.result c.from_residual-in_err-classes.ensures.1).2,
+    )
+    (rw (after_fonts (table_view c.args.table.now) c.in-Some.version c.in_ok-fonts.fonts
+    (sym c.in-Some.ensures.value) c.in_ok-fonts.ensures.fonts.0 c.in_ok-fonts.ensures.fonts.1) c.in_err-classes.ensures.classes)
 
 pub returns : goal.returns
 returns c = (
-  after_fonts (table_view c.args.table.now) c.in-Some.version c.in_ok-fonts.fonts (sym c.in-Some.ensures.value) c.in_ok-fonts.ensures.fonts.0 c.in_ok-fonts.ensures.fonts.1 ∙ c.in_ok-classes.ensures.classes.0,
+  after_fonts (table_view c.args.table.now) c.in-Some.version c.in_ok-fonts.fonts
+      (sym c.in-Some.ensures.value) c.in_ok-fonts.ensures.fonts.0 c.in_ok-fonts.ensures.fonts.1 ∙ c.in_ok-classes.ensures.classes.0,
   record {
     version = c.in-Some.version;
     version_is = sym c.in-Some.ensures.value;

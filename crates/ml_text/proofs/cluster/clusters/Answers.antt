@@ -16,5 +16,6 @@ returns-clause-low c =
 
 pub returns-clause-total : goal.returns-clause-total
 returns-clause-total c =
-    of_answer (λ all. advance_sum c.args.font.now c.args.text.now < 18446744073709551616 → sum_by (λ x. x.advance) all ≡ advance_sum c.args.font.now c.args.text.now) c.args.font.now c.args.text.now c.as_str.result.now c.cut.result c.as_str.ensures.bytes
+    of_answer (λ all. advance_sum c.args.font.now c.args.text.now < 18446744073709551616 → sum_by (λ x. x.advance) all ≡ advance_sum c.args.font.now c.args.text.now)
+    c.args.font.now c.args.text.now c.as_str.result.now c.cut.result c.as_str.ensures.bytes
     (clusters_total c.args.font.now c.args.text.now c.as_str.ensures.utf8) c.cut.ensures

@@ -17,5 +17,6 @@ returns c =
     let ft : FitsSigned w64 (pos 2 *ℤ c.args.i) = twice_fits c.args.i c.requires.near in
     let fo : FitsSigned w64 ((pos 2 *ℤ c.args.i) +ℤ pos 1) = odd_fits c.args.i c.requires.near in
     let fp : FitsSigned w64 c.half_of.result = search rules in
-    let fm : FitsSigned w64 (((pos 2 *ℤ c.args.i) +ℤ pos 1) *ℤ c.half_of.result) = rw c.half_of.ensures (middle_fits c.args.i (512 * 2 ^ c.args.z) c.requires.near (half_low c.args.z c.requires.deep)) in
+    let fm : FitsSigned w64 (((pos 2 *ℤ c.args.i) +ℤ pos 1) *ℤ c.half_of.result) =
+    rw c.half_of.ensures (middle_fits c.args.i (512 * 2 ^ c.args.z) c.requires.near (half_low c.args.z c.requires.deep)) in
     simp to_z-of_z (rw c.half_of.ensures (search rules))

@@ -12,4 +12,9 @@ pub returns-else-shows-clause-turned : goal.returns-else-shows-clause-turned
 returns-else-shows-clause-turned c =
     let last = c.in-Some.ensures in
     let key = c.in-Some.key in
-    inr (last.0, (key, last.1), last.2, inr (c.if-shows.ensures, ap (λ l. l.entries) c.promote-there.ensures.entries ∙ promoted_last c.args.held.now.entries last.0 key last.1 c.len-count.ensures.valid.0 last.2))
+    inr (
+      last.0,
+      (key, last.1),
+      last.2,
+      inr (c.if-shows.ensures, ap (λ l. l.entries) c.promote-there.ensures.entries ∙ promoted_last c.args.held.now.entries last.0 key last.1 c.len-count.ensures.valid.0 last.2),
+    )

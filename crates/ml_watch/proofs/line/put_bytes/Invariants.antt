@@ -5,4 +5,5 @@ use Rattle.ml_watch.proofs.line.put_bytes.Given as goal
 
 abbrev pub invariant-loop-byte : goal.invariant-loop-byte
 invariant-loop-byte g l =
-    HeldPuts {E = Unit {0}} (g.K.Sink.written l.fn.sink) (g.K.Sink.written l.sink) l.fn.held l.held (g.K.Sink.faults l.fn.sink) (g.K.Sink.faults l.sink) (flat_map byte_text (take l.byte-index l.bytes)) (Ok tt)
+    HeldPuts {E = Unit {0}} (g.K.Sink.written l.fn.sink) (g.K.Sink.written l.sink) l.fn.held l.held
+    (g.K.Sink.faults l.fn.sink) (g.K.Sink.faults l.sink) (flat_map byte_text (take l.byte-index l.bytes)) (Ok tt)

@@ -11,7 +11,8 @@ use Rattle.ml_cert.proofs.near.Asked.due.Goals as goal
 
 pub loop-k-init : goal.loop-k-init
 loop-k-init c =
-    due_of_none c.args.self.now.labels.now (ends c.args.self.now.slots.now) c.args.self.now.place (SeesStrip c.args.field.now.spots.now c.args.field.now.strips.now 0) (λ j saw. absurd (omega (arith, saw.1)))
+    due_of_none c.args.self.now.labels.now (ends c.args.self.now.slots.now) c.args.self.now.place
+    (SeesStrip c.args.field.now.spots.now c.args.field.now.strips.now 0) (λ j saw. absurd (omega (arith, saw.1)))
 
 pub loop-k-preserved : goal.loop-k-preserved
 loop-k-preserved c =
@@ -20,7 +21,8 @@ loop-k-preserved c =
     let strips = c.args.field.now.strips.now in
     let at = c.loop-k.k in
     let strip : Strip = get_or strips at c.index-field-k.result in
-    due_both self.labels.now (ends self.slots.now) self.place (SeesStrip spots strips at) (HasSpot (slice_range spots strip.from strip.to)) (SeesStrip spots strips (at + 1)) c.loop-k.due c.in_ok-here.here c.soonest-due.result c.loop-k.invariant c.in_ok-here.ensures c.soonest-due.ensures
+    due_both self.labels.now (ends self.slots.now) self.place (SeesStrip spots strips at) (HasSpot (slice_range spots strip.from strip.to))
+    (SeesStrip spots strips (at + 1)) c.loop-k.due c.in_ok-here.here c.soonest-due.result c.loop-k.invariant c.in_ok-here.ensures c.soonest-due.ensures
     (λ j saw. elim (cases_lt saw.0 at) [
       | inl less ↦ inl (saw.0, less, saw.2)
       | inr more ↦

@@ -14,4 +14,5 @@ returns-then-is_away c =
     let none = due_of_none labels (ends self.slots.now) self.place (λ (j : ℕ). ⊥) (λ j saw. saw) in
     due_wider labels (ends self.slots.now) self.place (λ (j : ℕ). ⊥) (HasSpot c.args.spots.now) None none
     (λ j has lt. inr (aside_there known self j lt
-    (strips.none_away labels self.low.now c.args.spots.now c.args.area.now c.requires (ends self.slots.now) (value_of self.until) (λ high u in'. c.is_away.ensures c.if-is_away.true self.low.now high u self.its_area in') j has)))
+    (strips.none_away labels self.low.now c.args.spots.now c.args.area.now c.requires (ends self.slots.now)
+    (value_of self.until) (λ high u in'. c.is_away.ensures c.if-is_away.true self.low.now high u self.its_area in') j has)))

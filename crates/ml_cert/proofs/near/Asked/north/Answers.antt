@@ -20,7 +20,8 @@ loop-right-init c =
     let spots = c.args.spots.now in
     let area = c.args.area.now in
     let strip = c.requires.strip in
-    due_wider labels (ends self.slots.now) self.place (SeesSpot spots 0 c.args.start) (λ (j : ℕ). SeesSpot spots 0 c.args.start j ⊎ SeesSpot spots c.args.start c.args.start j) c.args.before c.requires.before
+    due_wider labels (ends self.slots.now) self.place (SeesSpot spots 0 c.args.start)
+    (λ (j : ℕ). SeesSpot spots 0 c.args.start j ⊎ SeesSpot spots c.args.start c.args.start j) c.args.before c.requires.before
     (λ j saw lt. elim saw [ inl west ↦ inl west | inr east ↦ absurd (omega (arith, east.1, east.2)) ])
 
 pub loop-right-preserved : goal.loop-right-preserved
@@ -33,7 +34,8 @@ loop-right-preserved c =
     let strip = c.requires.strip in
     let right = c.loop-right.right in
     let spot = c.index-spots-right.result in
-    due_with labels (ends self.slots.now) self.place (λ (j : ℕ). SeesSpot spots 0 c.args.start j ⊎ SeesSpot spots c.args.start right j) (λ (j : ℕ). SeesSpot spots 0 c.args.start j ⊎ SeesSpot spots c.args.start (right + 1) j) spot.place c.loop-right.due c.in_ok-due.due c.loop-right.invariant c.in_ok-due.ensures
+    due_with labels (ends self.slots.now) self.place (λ (j : ℕ). SeesSpot spots 0 c.args.start j ⊎ SeesSpot spots c.args.start right j)
+    (λ (j : ℕ). SeesSpot spots 0 c.args.start j ⊎ SeesSpot spots c.args.start (right + 1) j) spot.place c.loop-right.due c.in_ok-due.due c.loop-right.invariant c.in_ok-due.ensures
     (λ j saw. elim saw [
       | inl west ↦ inl (inl west)
       | inr east ↦ elim (strips.north_more labels low spots area strip right c.args.start spot (omega arith) c.index-spots-right.is j east) [ inl old ↦ inl (inr old) | inr same ↦ inr same ]
@@ -58,10 +60,11 @@ returns-then-is_beyond c =
     due_wider labels (ends self.slots.now) self.place (λ (j : ℕ). SeesSpot spots 0 c.args.start j ⊎ SeesSpot spots c.args.start right j) (HasSpot spots) c.loop-right.due c.loop-right.invariant
     (λ j lt less. elim (split spots c.args.start j (strips.sees_whole spots j lt)) [
       | inl west ↦ inl (inl west)
-      | inr east ↦ elim (strips.north_far labels low spots area strip right c.args.start spot (omega arith) c.index-spots-right.is self.area.along self.its_area.along self.until (ends self.slots.now) beyond j east) [
-        | inl old ↦ inl (inr old)
-        | inr none ↦ inr (aside_there known self j less none)
-      ]
+      | inr east ↦ elim (strips.north_far labels low spots area strip right c.args.start spot
+          (omega arith) c.index-spots-right.is self.area.along self.its_area.along self.until (ends self.slots.now) beyond j east) [
+            | inl old ↦ inl (inr old)
+            | inr none ↦ inr (aside_there known self j less none)
+          ]
     ])
 
 pub next_due-requires : goal.next_due-requires
@@ -76,7 +79,8 @@ returns c =
     let area = c.args.area.now in
     let strip = c.requires.strip in
     let all : c.loop-right.right ≡ length spots = omega arith in
-    due_wider labels (ends self.slots.now) self.place (λ (j : ℕ). SeesSpot spots 0 c.args.start j ⊎ SeesSpot spots c.args.start c.loop-right.right j) (HasSpot spots) c.loop-right.due c.loop-right.invariant
+    due_wider labels (ends self.slots.now) self.place (λ (j : ℕ). SeesSpot spots 0 c.args.start j ⊎ SeesSpot spots c.args.start c.loop-right.right j)
+    (HasSpot spots) c.loop-right.due c.loop-right.invariant
     (λ j lt less. elim (split spots c.args.start j (strips.sees_whole spots j lt)) [
       | inl west ↦ inl (inl west)
       | inr east ↦ inl (inr (subst (λ (k : ℕ). SeesSpot spots c.args.start k j) (sym all) east))

@@ -11,7 +11,8 @@ pub loop-left-init : goal.loop-left-init
 loop-left-init c =
     record {
       in_range = omega arith;
-      among = due_of_none c.args.self.now.labels.now (ends c.args.self.now.slots.now) c.args.self.now.place (SeesSpot c.args.spots.now c.args.start c.args.start) (λ j saw. absurd (omega (arith, saw.1, saw.2)));
+      among = due_of_none c.args.self.now.labels.now (ends c.args.self.now.slots.now) c.args.self.now.place
+          (SeesSpot c.args.spots.now c.args.start c.args.start) (λ j saw. absurd (omega (arith, saw.1, saw.2)));
     }
 
 pub loop-left-preserved : goal.loop-left-preserved
@@ -27,7 +28,8 @@ loop-left-preserved c =
     let at_in : left - 1 < length spots = (let r = c.loop-left.invariant.in_range in let s = c.requires.start in omega arith) in
     record {
       in_range = omega (arith, c.loop-left.invariant.in_range);
-      among = due_with labels (ends self.slots.now) self.place (SeesSpot spots left c.args.start) (SeesSpot spots (left - 1) c.args.start) spot.place c.loop-left.due c.in_ok-due.due c.loop-left.invariant.among c.in_ok-due.ensures
+      among = due_with labels (ends self.slots.now) self.place (SeesSpot spots left c.args.start)
+          (SeesSpot spots (left - 1) c.args.start) spot.place c.loop-left.due c.in_ok-due.due c.loop-left.invariant.among c.in_ok-due.ensures
           (strips.south_more labels low spots area strip (left - 1) c.args.start spot at_in c.index-spots-at.is left (omega arith));
     }
 
@@ -50,7 +52,8 @@ returns-then-is_beyond c =
     let fs : FitsSigned w64 spot.y = omega (arith, ints) in
     let beyond = simp to_z-of_z at (rw c.y.ensures at (c.is_beyond.ensures c.if-is_beyond.true)) in
     due_wider labels (ends self.slots.now) self.place (SeesSpot spots left c.args.start) (SeesSpot spots 0 c.args.start) c.loop-left.due c.loop-left.invariant.among
-    (λ j saw lt. elim (strips.south_far labels low spots area strip (left - 1) c.args.start spot at_in c.index-spots-at.is self.area.along self.its_area.along self.until (ends self.slots.now) left (omega arith) s beyond j saw) [
+    (λ j saw lt. elim (strips.south_far labels low spots area strip
+    (left - 1) c.args.start spot at_in c.index-spots-at.is self.area.along self.its_area.along self.until (ends self.slots.now) left (omega arith) s beyond j saw) [
       | inl old ↦ inl old
       | inr none ↦ inr (aside_there known self j lt none)
     ])
@@ -64,4 +67,5 @@ next_due-requires c =
 pub returns : goal.returns
 returns c =
     let none : c.loop-left.left ≡ 0 = omega arith in
-    subst (λ (k : ℕ). IsDueAmong c.args.self.now.labels.now (ends c.args.self.now.slots.now) c.args.self.now.place (SeesSpot c.args.spots.now k c.args.start) c.loop-left.due) none c.loop-left.invariant.among
+    subst (λ (k : ℕ). IsDueAmong c.args.self.now.labels.now (ends c.args.self.now.slots.now) c.args.self.now.place
+    (SeesSpot c.args.spots.now k c.args.start) c.loop-left.due) none c.loop-left.invariant.among

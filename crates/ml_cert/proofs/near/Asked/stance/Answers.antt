@@ -25,7 +25,8 @@ returns-then-is_clear-2 c lt =
     let in' : place < length self.slots.now = (let there = c.requires.there in omega arith) in
     let u = value_of (get_or self.slots.now place c.index-self-place.result).until in
     let clear : AreClear low high u.num u.den = rw (c.num-2.ensures, c.den-2.ensures) at (c.if-is_clear-2.ensures low high self.its_site (c.requires.site low)) in
-    aside_there known self place lt (none_read low self.labels.now self.slots.now place low c.index-self-place.result c.requires.there in' (value_of self.until) (c.ended_labels.ensures low high u (value_of self.until) clear))
+    aside_there known self place lt (none_read low self.labels.now self.slots.now place low c.index-self-place.result c.requires.there in'
+    (value_of self.until) (c.ended_labels.ensures low high u (value_of self.until) clear))
 
 pub returns-in-None : goal.returns-in-None
 returns-in-None c lt =
@@ -34,7 +35,8 @@ returns-in-None c lt =
     let place = c.args.spot.now.place in
     let lengths = self.lengths in
     let in' : place < length self.slots.now = (let there = c.requires.there in omega arith) in
-    aside_there known self place lt (none_read self.low.now self.labels.now self.slots.now place c.index-self-place-2.result c.index-self-place.result c.requires.there in' (value_of self.until) c.in-None.ensures.none)
+    aside_there known self place lt (none_read self.low.now self.labels.now self.slots.now place c.index-self-place-2.result
+    c.index-self-place.result c.requires.there in' (value_of self.until) c.in-None.ensures.none)
 
 pub returns-else-is_less : goal.returns-else-is_less
 returns-else-is_less c =
@@ -44,7 +46,8 @@ returns-else-is_less c =
     let lt : place < self.place = omega (arith, c.if-place-self.false) in
     let lengths = self.lengths in
     let in' : place < length self.slots.now = (let there = c.requires.there in omega arith) in
-    let limit = limit_read self.low.now self.labels.now self.slots.now place c.index-self-place-2.result c.index-self-place.result c.requires.there in' (value_of c.in-Some.limit) c.in-Some.ensures.some in
+    let limit = limit_read self.low.now self.labels.now self.slots.now place c.index-self-place-2.result c.index-self-place.result c.requires.there in'
+    (value_of c.in-Some.limit) c.in-Some.ensures.some in
     let same : IsSame (value_of c.in-Some.limit) (value_of self.until) = omega (arith, c.if-is_less.ensures, c.in-Some.ensures.below.1) in
     let blocker = blocker_there known self place lt limit c.in-Some.ensures.below.0 same in
     (lt, blocker.0, blocker.1)

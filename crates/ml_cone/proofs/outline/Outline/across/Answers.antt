@@ -31,4 +31,5 @@ returns-then-finer-max-clause-whole c a n within from upto over =
       | inl above ↦ inl (omega arith)
       | inr before ↦ inr before
     ] in
-    rw (c.cells_about.ensures, c.meeting_area-area.ensures.area, c.extent.ensures) (kept_about c.args.self.now c.args.label.now a n c.args.upto c.in_ok-finer.finer c.in_ok-finer.ensures.from (omega arith) early upto within over)
+    rw (c.cells_about.ensures, c.meeting_area-area.ensures.area, c.extent.ensures)
+    (kept_about c.args.self.now c.args.label.now a n c.args.upto c.in_ok-finer.finer c.in_ok-finer.ensures.from (omega arith) early upto within over)

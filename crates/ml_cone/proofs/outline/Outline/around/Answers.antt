@@ -23,7 +23,8 @@ pub returns-in-Some-clause-whole : goal.returns-in-Some-clause-whole
 returns-in-Some-clause-whole c a within over =
     let upto = c.in-Some.ensures.upto in
     let low = c.requires in
-    rw (c.cells_about.ensures, c.meeting_area-area.ensures.area, c.extent.ensures) (kept_about c.args.self.now c.args.label.now a c.args.band c.args.band c.in-Some.finer c.in-Some.ensures.from (omega arith) (inl c.in-Some.ensures.upto) (omega arith) within over)
+    rw (c.cells_about.ensures, c.meeting_area-area.ensures.area, c.extent.ensures)
+    (kept_about c.args.self.now c.args.label.now a c.args.band c.args.band c.in-Some.finer c.in-Some.ensures.from (omega arith) (inl c.in-Some.ensures.upto) (omega arith) within over)
 
 pub returns-in-None-clause-whole : goal.returns-in-None-clause-whole
 returns-in-None-clause-whole c a within over = rw (c.hull.ensures.hull) (kept_in_hull c.args.label.now a c.args.band over)

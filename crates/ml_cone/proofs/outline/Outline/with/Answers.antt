@@ -5,7 +5,8 @@ use Rattle.ml_cone.proofs.Outlines.{extent_join, begins_more, one_last}
 use Rattle.ml_cone.proofs.outline.Outline.with.Goals as goal
 
 pub invariant_of-result : goal.invariant_of-result
-invariant_of-result c = record { extent = rw (c.joined.ensures, c.extent.ensures) (extent_join c.args.self.now.reach (reach_of c.args.label.now) c.args.self.now.extent (reach_extent c.args.label.now)) }
+invariant_of-result c =
+    record { extent = rw (c.joined.ensures, c.extent.ensures) (extent_join c.args.self.now.reach (reach_of c.args.label.now) c.args.self.now.extent (reach_extent c.args.label.now)) }
 
 pub returns-clause-new : goal.returns-clause-new
 returns-clause-new c = record {

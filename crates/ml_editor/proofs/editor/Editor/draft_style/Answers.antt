@@ -26,7 +26,8 @@ pub changes_between-requires-clause-new : goal.changes_between-requires-clause-n
 changes_between-requires-clause-new c =
     let rows = c.in_ok-engine.engine.rows in
     known_id c.args.style.now c.as_slice-2.result.now (labels_in rows)
-    (made_anew c.args.style.now c.as_slice-2.result.now c.as_slice.result.now c.in_ok-labels.labels.items c.of_vec.result rows (c.as_slice.ensures ∙ sym c.as_slice-2.ensures) c.in_ok-labels.ensures.ok c.of_vec.ensures c.in_ok-engine.ensures.labels c.in_ok-engine.ensures.settled)
+    (made_anew c.args.style.now c.as_slice-2.result.now c.as_slice.result.now c.in_ok-labels.labels.items c.of_vec.result rows
+    (c.as_slice.ensures ∙ sym c.as_slice-2.ensures) c.in_ok-labels.ensures.ok c.of_vec.ensures c.in_ok-engine.ensures.labels c.in_ok-engine.ensures.settled)
     c.in_ok-engine.ensures.settled.in_order
 
 pub returns-clause-draft : goal.returns-clause-draft
@@ -40,7 +41,8 @@ returns-clause-draft c =
       changes = c.in_ok-changes.changes;
       work = refl;
       label = refl;
-      labels = made_anew c.args.style.now i.features.list c.as_slice.result.now c.in_ok-labels.labels.items c.of_vec.result rows (c.as_slice.ensures ∙ c.in_ok-features.ensures) c.in_ok-labels.ensures.ok c.of_vec.ensures c.in_ok-engine.ensures.labels c.in_ok-engine.ensures.settled;
+      labels = made_anew c.args.style.now i.features.list c.as_slice.result.now c.in_ok-labels.labels.items c.of_vec.result rows
+          (c.as_slice.ensures ∙ c.in_ok-features.ensures) c.in_ok-labels.ensures.ok c.of_vec.ensures c.in_ok-engine.ensures.labels c.in_ok-engine.ensures.settled;
       settled = c.in_ok-engine.ensures.settled;
       are_changes = c.in_ok-changes.ensures;
     })

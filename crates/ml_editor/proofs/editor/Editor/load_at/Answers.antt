@@ -12,7 +12,8 @@ build-requires-clause-differ c =
 
 pub invariant_of-result : goal.invariant_of-result
 invariant_of-result c =
-    first_editing c.args.style c.args.features c.as_slice.result.now c.in_ok-features.features.list c.in_ok-labels.labels.items c.of_vec.result c.in_ok-engine.engine c.in_ok-features.features.room c.args.revision c.requires.low c.requires.differ (omega arith)
+    first_editing c.args.style c.args.features c.as_slice.result.now c.in_ok-features.features.list c.in_ok-labels.labels.items
+    c.of_vec.result c.in_ok-engine.engine c.in_ok-features.features.room c.args.revision c.requires.low c.requires.differ (omega arith)
     c.as_slice.ensures c.in_ok-features.ensures c.in_ok-labels.ensures.ok c.of_vec.ensures c.in_ok-engine.ensures.labels c.in_ok-engine.ensures.settled
 
 pub returns-clause-holds : goal.returns-clause-holds

@@ -19,7 +19,8 @@ reason_of-requires c =
     let f = c.in_ok-feature.feature.now in
     let e = c.self.inside in
     let labels = labels_in e.engine.rows in
-    unlabelled e.style e.features.list labels labels c.self.invariant.labels c.self.invariant.settled.in_order f c.in_ok-feature.ensures.0 (λ h. c.in-None.ensures (h.0, h.1, h.2 ∙ c.in_ok-feature.ensures.1))
+    unlabelled e.style e.features.list labels labels c.self.invariant.labels c.self.invariant.settled.in_order f c.in_ok-feature.ensures.0
+    (λ h. c.in-None.ensures (h.0, h.1, h.2 ∙ c.in_ok-feature.ensures.1))
 
 pub returns-in-Some : goal.returns-in-Some
 returns-in-Some c =

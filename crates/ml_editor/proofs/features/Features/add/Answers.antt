@@ -14,7 +14,8 @@ overflow_add-self-2 c = omega (arith, c.self.invariant.counted, standing_few c.s
 pub invariant_of-self : goal.invariant_of-self
 invariant_of-self c =
     let list = ap (λ s. s.list) c.self.view_is in
-    let is = c.in-Ok-insert.ensures.entries ∙ insert_entry-new nat_eq c.self.inside.places c.self.inside.next (Some c.args.feature) (number_free c.self.inside.next c.self.inside.places.entries c.self.invariant.low) in
+    let is = c.in-Ok-insert.ensures.entries ∙ insert_entry-new nat_eq c.self.inside.places c.self.inside.next
+    (Some c.args.feature) (number_free c.self.inside.next c.self.inside.places.entries c.self.invariant.low) in
     let P : List Feature → Type 0 = λ fs. ¬ (HasFeature fs c.args.feature.id) in
     are_behind c.self.inside.places.entries c.self.inside.names.entries c.self.inside.next c.self.inside.taken c.self.invariant
     c.insert-2.new.self.entries c.args.feature is c.insert.new.self.entries
@@ -25,6 +26,7 @@ invariant_of-self c =
 pub returns : goal.returns
 returns c =
     let list = ap (λ s. s.list) c.self.view_is in
-    let is = c.in-Ok-insert.ensures.entries ∙ insert_entry-new nat_eq c.self.inside.places c.self.inside.next (Some c.args.feature) (number_free c.self.inside.next c.self.inside.places.entries c.self.invariant.low) in
+    let is = c.in-Ok-insert.ensures.entries ∙ insert_entry-new nat_eq c.self.inside.places c.self.inside.next
+    (Some c.args.feature) (number_free c.self.inside.next c.self.inside.places.entries c.self.invariant.low) in
     list_behind c.self.inside.places.entries c.self.inside.names.entries c.self.inside.next c.self.inside.taken c.self.invariant
     c.insert-2.new.self.entries c.args.feature is ∙ ap (λ fs. fs ++ c.args.feature ∷ []) list

@@ -9,7 +9,8 @@ use Rattle.ml_editor.proofs.Numbers.{Place, at_place, by_id, by_values, by_own, 
 use Rattle.ml_editor.proofs.features.Features.get.Goals as goal
 
 -- what a look-up by the id finds among the features
-among : (places : List Place) (now : List Feature) (id : List ℕ) (found : Option Feature) → values_of (standing places) ≡ now → lookup (bytes_eq id) (by_id (standing places)) ≡ found → Finds now id found
+among : (places : List Place) (now : List Feature) (id : List ℕ) (found : Option Feature) →
+    values_of (standing places) ≡ now → lookup (bytes_eq id) (by_id (standing places)) ≡ found → Finds now id found
 among places now id found list is =
     let es = standing places in
     let P : List Feature → Type 0 = λ fs. Finds fs id found in
@@ -17,7 +18,9 @@ among places now id found list is =
     subst P (by_values es ∙ list) (subst Q is (finds id (by_id es) (by_own es)))
 
 -- the place of its number has the feature
-at : (places : List Place) (names : List (List ℕ × ℕ)) (next taken : ℕ) (now : List Feature) (id : List ℕ) (n : ℕ) (found : Option Feature) → AreNumbered places names next taken → values_of (standing places) ≡ now → lookup (bytes_eq id) names ≡ Some n → at_place (lookup (nat_eq n) places) ≡ found → Finds now id found
+at : (places : List Place) (names : List (List ℕ × ℕ)) (next taken : ℕ) (now : List Feature) (id : List ℕ) (n : ℕ) (found : Option Feature) →
+    AreNumbered places names next taken → values_of (standing places) ≡ now →
+    lookup (bytes_eq id) names ≡ Some n → at_place (lookup (nat_eq n) places) ≡ found → Finds now id found
 at places names next taken now id n found are list named is =
     among places now id found list (sym (place_is id n places are.differ (sym (are.found id) ∙ named)) ∙ is)
 

@@ -6,7 +6,8 @@ use Rattle.ml_gaps.proofs.gap.Gap.or_longer.Goals as goal
 
 pub returns-then-is_less-clause-longer : goal.returns-then-is_less-clause-longer
 returns-then-is_less-clause-longer c h =
-    absurd (none_shorter (gap_length c.args.self) (length_of (value_of c.args.from) (value_of c.args.until)) (empty_length (value_of c.args.from) (value_of c.args.until) (omega (arith, c.if-is_less.ensures))) h)
+    absurd (none_shorter (gap_length c.args.self) (length_of (value_of c.args.from) (value_of c.args.until))
+    (empty_length (value_of c.args.from) (value_of c.args.until) (omega (arith, c.if-is_less.ensures))) h)
 
 pub returns-then-is_shorter-clause-kept : goal.returns-then-is_shorter-clause-kept
 unfolding length_of

@@ -11,5 +11,7 @@ returns c =
     let entries = c.self.inside.tree.entries in
     let cells = c.args.cells.now in
     let s = c.args.scale.now in
-    let f : Finds (IsAmongFrom cells s) entries [] c.find_cells_from.new.found = subst (λ (b : List ℕ). Finds (IsAmongFrom cells s) entries b c.find_cells_from.new.found) (c.of_vec-found.ensures ∙ c.in_ok-with_capacity.ensures.items) c.in_ok-find_cells_from.ensures.ok in
-    subst (λ (k : Kept). (n : ℕ) → Contains c.find_cells_from.new.found n ↔ IsNumberOf (IsAmongFrom cells s) k.entries n) c.self.view_is (all_found (IsAmongFrom cells s) entries c.find_cells_from.new.found f)
+    let f : Finds (IsAmongFrom cells s) entries [] c.find_cells_from.new.found = subst (λ (b : List ℕ). Finds (IsAmongFrom cells s) entries b c.find_cells_from.new.found)
+    (c.of_vec-found.ensures ∙ c.in_ok-with_capacity.ensures.items) c.in_ok-find_cells_from.ensures.ok in
+    subst (λ (k : Kept). (n : ℕ) → Contains c.find_cells_from.new.found n ↔ IsNumberOf (IsAmongFrom cells s) k.entries n) c.self.view_is
+    (all_found (IsAmongFrom cells s) entries c.find_cells_from.new.found f)

@@ -10,4 +10,5 @@ returns c =
     let entries = c.self.inside.tree.entries in
     on_ok c.find_cells.result _ _ (λ (f : Finds (IsAmong c.hull.result) entries c.args.out.now c.find_cells.new.found).
     subst (λ (s : Kept). Finds (IsInHull c.args.label.now c.args.band) s.entries c.args.out.now c.find_cells.new.found) c.self.view_is
-    (finds_same (IsAmong c.hull.result) (IsInHull c.args.label.now c.args.band) entries c.args.out.now c.find_cells.new.found f (in_hull c.args.label.now c.args.band c.hull.result c.hull.ensures.hull))) c.find_cells.ensures.ok
+    (finds_same (IsAmong c.hull.result) (IsInHull c.args.label.now c.args.band) entries c.args.out.now c.find_cells.new.found f
+    (in_hull c.args.label.now c.args.band c.hull.result c.hull.ensures.hull))) c.find_cells.ensures.ok

@@ -28,7 +28,8 @@ zero_of : (n : ℕ) → true ≡ (n == 0) → n ≡ 0
 zero_of n e = grind (arith, nat_tests)
 
 -- the new slots with one more, of a number that had none
-module _ (moved : List Moved) (n : ℕ) (slot : Slot) (low : n < 32768) (all : All (λ x. x < 32768) (numbers_of moved)) (differ : AreDifferent (numbers_of moved)) (none : (k : ℕ) → k < length moved → get_or (numbers_of moved) k 0 ≢ n) where
+module _ (moved : List Moved) (n : ℕ) (slot : Slot) (low : n < 32768) (all : All (λ x. x < 32768) (numbers_of moved))
+    (differ : AreDifferent (numbers_of moved)) (none : (k : ℕ) → k < length moved → get_or (numbers_of moved) k 0 ≢ n) where
   abbrev more : List Moved
   more = moved ++ (record { number = n; slot = slot }) ∷ []
 
@@ -82,18 +83,21 @@ invariant_of-self-else-not-is_empty c =
     let n = c.args.number in
     let same : c.args.self.now ≡ moved = sym c.in_ok-widen.ensures ∙ sym c.self-2.view_is in
     let none = none_there moved n c.find-at.result (subst (λ (l : List Moved). IsFoundAt l n c.find-at.result) same c.find-at.ensures) (let t = c.if-at-gt0.false in omega arith) in
-    rw c.in_ok-push.ensures.items (moves_listed moved n c.args.slot c.requires c.self-2.invariant.low c.self-2.invariant.differ none c.self-2.inside.column.items c.self-2.invariant.found (let e = zero_of c.self-2.inside.column.len c.if-not-is_empty.ensures in omega arith))
+    rw c.in_ok-push.ensures.items (moves_listed moved n c.args.slot c.requires c.self-2.invariant.low c.self-2.invariant.differ none
+    c.self-2.inside.column.items c.self-2.invariant.found (let e = zero_of c.self-2.inside.column.len c.if-not-is_empty.ensures in omega arith))
 
 pub returns-then-not-is_empty : goal.returns-then-not-is_empty
 returns-then-not-is_empty c n own =
     let moved = c.self-2.inside.moved.items in
     let same : c.args.self.now ≡ moved = sym c.in_ok-widen.ensures ∙ sym c.self-2.view_is in
-    let none = none_there moved c.args.number c.find-at.result (subst (λ (l : List Moved). IsFoundAt l c.args.number c.find-at.result) same c.find-at.ensures) (let t = c.if-at-gt0.false in omega arith) in
+    let none = none_there moved c.args.number c.find-at.result
+    (subst (λ (l : List Moved). IsFoundAt l c.args.number c.find-at.result) same c.find-at.ensures) (let t = c.if-at-gt0.false in omega arith) in
     rw (c.in_ok-push.ensures.items, same) (slots_more moved c.args.number c.args.slot none n own)
 
 pub returns-else-not-is_empty : goal.returns-else-not-is_empty
 returns-else-not-is_empty c n own =
     let moved = c.self-2.inside.moved.items in
     let same : c.args.self.now ≡ moved = sym c.in_ok-widen.ensures ∙ sym c.self-2.view_is in
-    let none = none_there moved c.args.number c.find-at.result (subst (λ (l : List Moved). IsFoundAt l c.args.number c.find-at.result) same c.find-at.ensures) (let t = c.if-at-gt0.false in omega arith) in
+    let none = none_there moved c.args.number c.find-at.result
+    (subst (λ (l : List Moved). IsFoundAt l c.args.number c.find-at.result) same c.find-at.ensures) (let t = c.if-at-gt0.false in omega arith) in
     rw (c.in_ok-push.ensures.items, same) (slots_more moved c.args.number c.args.slot none n own)

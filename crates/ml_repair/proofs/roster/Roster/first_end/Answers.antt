@@ -14,7 +14,8 @@ returns-in-Some-clause-ends c =
     let least = c.min.ensures in
     rw (← c.self.view_is)
     (ends_from i.come i.at i.gone i.store.now.rows c.min.result c.self.invariant.1 c.self.invariant.2
-    (All-weaker (λ (r : Row). (k : ℕ) → IsLastBand r.label k → c.first_end-first.result ≤ k) (λ (r : Row). (k : ℕ) → IsLastBand r.label k → c.min.result ≤ k) (λ r h k last. (let e = h k last in omega arith)) i.store.now.rows c.first_end-first.ensures.ends)
+    (All-weaker (λ (r : Row). (k : ℕ) → IsLastBand r.label k → c.first_end-first.result ≤ k) (λ (r : Row). (k : ℕ) → IsLastBand r.label k → c.min.result ≤ k)
+    (λ r h k last. (let e = h k last in omega arith)) i.store.now.rows c.first_end-first.ensures.ends)
     (subst (λ (come : Option (Bor Row)). IfSome come (λ it. (k : ℕ) → IsLastBand it.now.label k → c.min.result ≤ k)) (sym c.in-Some.is)
     (λ k last. (let e = last_after row.now.label c.last_band.result k c.last_band.ensures.low c.last_band.ensures.reaches last in omega arith))))
 

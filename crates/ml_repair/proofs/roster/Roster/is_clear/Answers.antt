@@ -16,4 +16,5 @@ returns c holds =
       | else-is_some-via-then-is_some+else-self-before w ↦ (let h = w.if-self-before.false in omega arith)
       | else-is_some-via-else-is_some w ↦ absurd (false≢true (sym w.if-is_some.false ∙ c.is_some.ensures ∙ some))
     ] in
-    rw (← c.self.view_is) (clear_before i.come i.at i.gone i.store.now.rows c.args.label.now c.args.before c.args.band c.args.upto c.args.scale.now c.self.invariant.1 c.self.invariant.2 behind (c.is_clear.ensures holds))
+    rw (← c.self.view_is) (clear_before i.come i.at i.gone i.store.now.rows c.args.label.now c.args.before c.args.band
+    c.args.upto c.args.scale.now c.self.invariant.1 c.self.invariant.2 behind (c.is_clear.ensures holds))

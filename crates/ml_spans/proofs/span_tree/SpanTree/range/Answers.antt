@@ -9,4 +9,5 @@ and_true true = refl
 and_true false = refl
 
 pub returns-clause-members : goal.returns-clause-members
-returns-clause-members g c = rw (← c.self.view_is) (on_ok c.collect.result _ _ (λ is. appended (is_in_range g.K.Key.order c.args.from.now c.args.to.now) _ (λ entry. and_true _) _ _ _ is) c.collect.ensures.ok)
+returns-clause-members g c = rw (← c.self.view_is)
+    (on_ok c.collect.result _ _ (λ is. appended (is_in_range g.K.Key.order c.args.from.now c.args.to.now) _ (λ entry. and_true _) _ _ _ is) c.collect.ensures.ok)

@@ -5,4 +5,5 @@ use Rattle.ml_spans.proofs.Results.{on_ok}
 use Rattle.ml_spans.proofs.span_tree.SpanTree.stab.Goals as goal
 
 pub returns-clause-members : goal.returns-clause-members
-returns-clause-members g c = rw (← c.self.view_is) (on_ok c.collect.result _ _ (λ is. appended (is_stabbed g.K.Key.order g.E.Key.order c.args.from.now c.args.to.now c.args.at.now) _ (λ _. refl) _ _ _ is) c.collect.ensures.ok)
+returns-clause-members g c = rw (← c.self.view_is) (on_ok c.collect.result _ _
+    (λ is. appended (is_stabbed g.K.Key.order g.E.Key.order c.args.from.now c.args.to.now c.args.at.now) _ (λ _. refl) _ _ _ is) c.collect.ensures.ok)

@@ -9,5 +9,9 @@ invariant_of-self c =
     let j = c.self.invariant.2 in
     let k = c.self.invariant.3 in
     let a = c.write_slot.ensures.len in
-    let b = c.write_slot.ensures.capacity in
-    (rw c.write_slot.ensures.rows (table_moved (unboxed c.self.inside.rows.items) c.self.inside.numbers c.self.inside.ids.items c.args.at c.args.slot c.self.invariant.0), i ∙ sym a, omega arith, omega arith)
+    let b = c.write_slot.ensures.capacity in (
+      rw c.write_slot.ensures.rows (table_moved (unboxed c.self.inside.rows.items) c.self.inside.numbers c.self.inside.ids.items c.args.at c.args.slot c.self.invariant.0),
+      i ∙ sym a,
+      omega arith,
+      omega arith,
+    )

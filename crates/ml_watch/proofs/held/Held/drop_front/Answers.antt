@@ -11,7 +11,8 @@ moved_down old new n len le within same copied =
     let c = length-drop n (take len old) in
     same_lists (take (len - n) new) (drop n (take len old)) (omega arith) (λ k d lt.
     let low : k < len - n = omega arith in
-    get_or-take (len - n) new k d low ∙ copied k d (omega arith) (omega arith) ∙ ap (λ (i : ℕ). get_or old i d) (omega arith) ∙ sym (get_or-take len old (n + k) d (omega arith)) ∙ sym (get_or-drop n (take len old) k d))
+    get_or-take (len - n) new k d low ∙ copied k d (omega arith) (omega arith) ∙ ap (λ (i : ℕ). get_or old i d) (omega arith)
+    ∙ sym (get_or-take len old (n + k) d (omega arith)) ∙ sym (get_or-drop n (take len old) k d))
 
 pub returns : goal.returns
 returns c =
