@@ -13,9 +13,10 @@ DEAR_TABLES = (
 # the most that the row tells, of a run or of one edit. The ratio of a row of memory is that of
 # memory.
 OWED: dict[str, tuple[float | None, float | None]] = {
-    "load of 10000 points": (3, None),
-    "load of 32768 points": (3, None),
-    "load of 10000 towns": (3, None),
+    "load of 10000 points": (2, None),
+    "load of 32768 points": (2, None),
+    "load of 10000 towns": (2, None),
+    "load of a generated map of 10000": (2, None),
     "memory of 32768 points": (1.7, None),
     "50 edits of 10000 towns, with load": (3, None),
     "one edit of 32768 cities of one class": (None, 0.05),
@@ -24,10 +25,10 @@ OWED: dict[str, tuple[float | None, float | None]] = {
     "1000 views at 1 to 3000 of a generated map of 10000, with load": (3.5, None),
     "1000 views at 9000 on of a generated map of 10000, with load": (3.5, None),
     "1000 views of 10000 towns, with load": (5, None),
-    "10000 views at 30 of a generated map of 10000, served": (2, None),
-    "10000 views at 1 to 3000 of a generated map of 10000, served": (2, None),
-    "10000 views at 9000 on of a generated map of 10000, served": (2, None),
-    "10000 views of 10000 towns, served": (3, None),
+    "10000 views at 30 of a generated map of 10000, served": (1.6, None),
+    "10000 views at 1 to 3000 of a generated map of 10000, served": (1.6, None),
+    "10000 views at 9000 on of a generated map of 10000, served": (1.6, None),
+    "10000 views of 10000 towns, served": (1.6, None),
     "zoom of a generated map of 10000": (3, None),
     "zoom of 10000 towns": (3, None),
     "follow of a generated map of 10000": (3, None),
@@ -58,8 +59,8 @@ OWED: dict[str, tuple[float | None, float | None]] = {
         for labels in DEAR_TABLES
     },
     "follow of 5000 states of two labels": (3, None),
-    "gen 2000 7": (6, None),
-    "gen 6000 7": (6, None),
+    "gen 2000 7": (3, None),
+    "gen 6000 7": (3, None),
 }
 
 
