@@ -140,8 +140,11 @@ impl Field {
         Ok(())
     }
 
-    /// The first strip from `from` on, or the end of the strips, before which all labels in strips are too far away
-    /// to set a label in the area a limit up to the bound. It goes by whole blocks.
+    /// How far to the east the strips from `from` on may be passed over: no label in those before the result is near
+    /// enough to set a label in the area a limit up to the bound.
+    ///
+    /// It goes by whole blocks, so it may end before a strip that could be passed over too. No clause says how far it
+    /// goes: that matters for time alone.
     pub fn pass_east(&self, from: usize, area: &Area, bound: &Ratio) -> usize
         requires blocks { AreBlocks self.now.strips.items self.now.blocks.items }
         requires within { from ≤ length self.now.strips.items }
@@ -158,7 +161,7 @@ impl Field {
         at
     }
 
-    /// The end of the strips, or of a block, from which on until `until` all labels in strips are too far away.
+    /// The same to the west: no label in the strips from the result on, until `until`, is near enough.
     pub fn pass_west(&self, until: usize, area: &Area, bound: &Ratio) -> usize
         requires blocks { AreBlocks self.now.strips.items self.now.blocks.items }
         requires within { until ≤ length self.now.strips.items }
