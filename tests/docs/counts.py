@@ -180,7 +180,7 @@ def many_parameters_are_told(pages: list[Page], names: Names) -> Iterator[Any]:
                 lines = [line.partition("//")[0] for line in stream]
             many |= {one for one, count in parameters("\n".join(lines)) if count > MOST_PARAMETERS}
     page = page_named(pages, "docs/DECISIONS.md")
-    places = said(page, rf"More than {NUMBERS[MOST_PARAMETERS]} parameters have ([^.]*)\.")
+    places = said(page, rf"More than {NUMBERS[MOST_PARAMETERS]} parameters ha(?:s|ve) ([^.]*)\.")
     if not places:
         yield page.fault(1, "nothing is said of functions of many parameters")
     for line, found in places:

@@ -122,7 +122,7 @@ SPOILS: tuple[Spoil, ...] = (
         "\n`crates.txt`, in the order of the build.\n",
         "crates.txt has",
     ),
-    ("counts", "docs/DECISIONS.md", " and `are_sides_clear` of", " of", "are_sides_clear is not"),
+    ("counts", "docs/DECISIONS.md", "`Label::of` alone", "that of labels alone", "of is not named"),
     ("counts", "docs/DECISIONS.md", "one line has over", "nine lines have over", "long lines: 1"),
     ("counts", "docs/READING.md", "In 16 steps", "In 15 steps", "steps: 16"),
     (

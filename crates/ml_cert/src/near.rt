@@ -16,7 +16,7 @@ use crate::strip::Field;
 use ml_cone::{Label, Site, Slot};
 use ml_conflict::laws::{clear_labels, ended_labels, idle_labels};
 use ml_conflict::{Area, Spot, is_beyond, limit_up_to, south_of};
-use ml_ratio::Ratio;
+use ml_ratio::{Quotient, Ratio};
 
 /// A label at a place of a list, with its site and its end, and all labels with their slots.
 #[derive(Clone, Copy)]
@@ -157,11 +157,11 @@ impl Asked<'_> {
             return Stance::Aside;
         }
         let until = &self.until;
-        if self.site.is_clear(&spot.site, until.num(), until.den()) {
+        if self.site.is_clear(&spot.site, Quotient::of_ratio(until)) {
             return Stance::Aside;
         }
         let other = &self.slots[place].until;
-        if self.site.is_clear(&spot.site, other.num(), other.den()) {
+        if self.site.is_clear(&spot.site, Quotient::of_ratio(other)) {
             return Stance::Aside;
         }
         match limit_up_to(self.low, &self.labels[place], other, until) {

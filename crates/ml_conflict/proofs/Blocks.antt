@@ -9,7 +9,7 @@ use Rattle.ml_cone.specs.declared.label.Label.{Label}
 use Rattle.ml_conflict.specs.Area.{IsInArea}
 use Rattle.ml_conflict.specs.Begin.{SetsNoneUpTo}
 use Rattle.ml_conflict.specs.Field.{HasSpot}
-use Rattle.ml_conflict.specs.Strip.{AreStrips, AreBlocks, AreAway, SeesStrip}
+use Rattle.ml_conflict.specs.Strip.{AreStrips, AreBlocks, AreAway}
 use Rattle.ml_conflict.specs.declared.area.Area.{Area}
 use Rattle.ml_conflict.specs.declared.spot.Spot.{Spot}
 use Rattle.ml_conflict.specs.declared.strip.Strip.{Strip}

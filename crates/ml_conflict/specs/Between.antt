@@ -1,4 +1,4 @@
-use Rattle.std.specs.Prelude.{ℕ, ◌^◌, ◌<◌, ◌≤◌, Option, Some, None, MatchOption, IfSome}
+use Rattle.std.specs.Prelude.{Option, Some, None, MatchOption, IfSome}
 use Rattle.ml_ratio.specs.Fraction.{Fraction, IsLess}
 
 -- An open interval is a lower end and perhaps an upper one. Its ends may be of any kind; `value` gives the fraction that an end stands for.
@@ -20,10 +20,6 @@ LiesIn value (Some i) s = LiesBetween value i s
 -- the lower end lies below the upper one, so that some scale lies between
 abbrev pub LeavesRoom : {A : Type 0} → (A → Fraction) → A × Option A → Type 0
 LeavesRoom value i = MatchOption i.1 (Unit {0}) (λ h. IsLess (value i.0) (value h))
-
--- the numerator is below 2^32, and the denominator at most 1152
-abbrev pub AreLowParts : ℕ → ℕ → Type 0
-AreLowParts num den = (num < 2 ^ 32) × (den ≤ 1152)
 
 -- the lower end is of the kind, and the upper one if there is one
 abbrev pub BothAre : {A : Type 0} → (A → Type 0) → A × Option A → Type 0

@@ -4,12 +4,12 @@ ghost use Rattle.ml_ratio.specs.Fraction.{Fraction, IsLess, IsAtMost};
 ghost use Rattle.ml_cone.specs.Plane.{IsBox};
 ghost use Rattle.ml_cone.specs.Overlap.{BoxOverlaps, Overlap};
 ghost use Rattle.ml_conflict.specs.Between.{IsUnder, LiesIn};
-ghost use Rattle.ml_conflict.specs.Quotient.{worth};
+ghost use Rattle.ml_ratio.specs.Quotient.{worth};
 ghost use Rattle.ml_conflict.specs.Begin.{Begins};
 
-use crate::quotient::Quotient;
 use crate::scales::{Between, boxes_interval};
 use ml_cone::{BoxPx, Label};
+use ml_ratio::Quotient;
 
 // The smaller of `until` and the end, if there is one.
 fn stop(until: Quotient, end: Option<Quotient>) -> Quotient

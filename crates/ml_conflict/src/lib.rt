@@ -8,7 +8,6 @@
 //!   ([`anchor_on`]), and what is too far away for a limit; `field`: labels in order from west to east
 //!   ([`arrange_spots`], [`is_beyond`]), each a `spot` ([`Spot`]);
 //! - [`rivals`]: the list of rivals of a label, and its slot among them ([`evaluate`]);
-//! - `quotient`: fractions that are not reduced, for the comparisons in between;
 //! - [`laws`]: what makes a choice of active ranges the longest.
 #![tactic(auto)]
 
@@ -20,7 +19,6 @@ mod corner;
 mod far;
 mod field;
 pub mod laws;
-mod quotient;
 pub mod rivals;
 mod scales;
 mod spot;

@@ -3,9 +3,8 @@ ghost use Rattle.std.specs.Prelude.{ℕ, ◌≡◌, ◌+◌, ◌<◌, List, leng
 ghost use Rattle.ml_cone.specs.Slots.{Rival, IsSlotAmong};
 
 use crate::block::block;
-use crate::quotient::Quotient;
 use ml_cone::{Label, Slot};
-use ml_ratio::{Ratio, Steps};
+use ml_ratio::{Quotient, Ratio, Steps};
 use std::sync::ledger::Ledger;
 
 /// Labels that may bound another, each with a number and the end until which it is active.

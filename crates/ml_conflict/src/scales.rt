@@ -8,12 +8,12 @@ ghost use Rattle.ml_cone.specs.Plane.{IsWideOffset, IsWideBox, IsBox, SidesMeet}
 ghost use Rattle.ml_ratio.specs.World.{IsInWorld};
 ghost use Rattle.ml_cone.specs.Overlap.{RectanglesMeet, BoxesOverlap};
 ghost use Rattle.ml_cone.specs.declared.label.BoxPx.{BoxPx};
-ghost use Rattle.ml_conflict.specs.Between.{IsUnder, LiesBetween, LiesIn, LeavesRoom, AreLowParts, BothAre};
-ghost use Rattle.ml_conflict.specs.Quotient.{worth, IsLow, HasLowEnds};
+ghost use Rattle.ml_conflict.specs.Between.{IsUnder, LiesBetween, LiesIn, LeavesRoom, BothAre};
+ghost use Rattle.ml_ratio.specs.Quotient.{worth, IsLow, AreLowParts};
+ghost use Rattle.ml_conflict.specs.Quotient.{HasLowEnds};
 
-use crate::quotient::Quotient;
 use ml_cone::{BoxPx, Label, widened};
-use ml_ratio::Ratio;
+use ml_ratio::{Quotient, Ratio};
 
 /// An open interval of fractions: its lower end, and its upper end if it has one.
 pub type Between = (Quotient, Option<Quotient>);

@@ -12,7 +12,7 @@ use crate::gap::Gap;
 use crate::piece::{Piece, larger, smaller};
 use ml_cone::{Label, are_apart};
 use ml_conflict::interval;
-use ml_ratio::{Ratio, Seq};
+use ml_ratio::{Quotient, Ratio, Seq};
 use std::alloc::AllocError;
 
 /// Appends pieces whose union is the scales of the selectable range of `low`, its maximum left out, at
@@ -53,7 +53,7 @@ fn block_range(
     if !from.is_less(&until) {
         return Ok(());
     }
-    if are_apart(low, high, until.num(), until.den()) {
+    if are_apart(low, high, Quotient::of_ratio(&until)) {
         return Ok(());
     }
     for i in 0..low.boxes().len() {

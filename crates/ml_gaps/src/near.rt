@@ -2,7 +2,7 @@
 ghost use Rattle.std.specs.Prelude.{◌+◌, ◌*◌, ◌<◌, ◌≤◌, ◌^◌, ◌⊎◌, ◌≡◌};
 
 use ml_cone::{Label, Site};
-use ml_ratio::Ratio;
+use ml_ratio::{Quotient, Ratio};
 
 /// The site of a label, and a whole number that a range of scales of the label does not go beyond.
 #[derive(Clone, Copy)]
@@ -35,8 +35,7 @@ impl Near {
             IsNearOf a u self.now → IsNearOf b v other.now →
             (s : Fraction) → IsLess s u → IsLess s v → ¬ (Overlap a b s) }
     {
-        self.site
-            .is_apart(&other.site, lesser(self.last, other.last), 1)
+        self.site.is_apart(&other.site, Quotient::new(lesser(self.last, other.last), 1))
     }
 }
 

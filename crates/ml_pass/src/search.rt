@@ -14,7 +14,7 @@ ghost use Rattle.ml_conflict.specs.Area.{IsInArea};
 use ml_cone::{Label, Site, Slot};
 use ml_conflict::laws::{clear_labels, ended_labels, idle_labels};
 use ml_conflict::{Area, Field, Spot, Strip, is_beyond, limit_up_to, south_of};
-use ml_ratio::Ratio;
+use ml_ratio::{Quotient, Ratio};
 use std::alloc::AllocError;
 
 /// A label whose slot is sought, with its site and its area, and all labels, of which those before it have a slot.
@@ -249,11 +249,11 @@ impl Search<'_> {
         if place >= self.slots.len() {
             return Ok(bound);
         }
-        if self.site.is_clear(&spot.site, bound.num(), bound.den()) {
+        if self.site.is_clear(&spot.site, Quotient::of_ratio(&bound)) {
             return Ok(bound);
         }
         let until = &self.slots[place].until;
-        if self.site.is_clear(&spot.site, until.num(), until.den()) {
+        if self.site.is_clear(&spot.site, Quotient::of_ratio(until)) {
             return Ok(bound);
         }
         match limit_up_to(self.low, &self.labels[place], until, &bound) {

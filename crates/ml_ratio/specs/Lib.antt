@@ -10,6 +10,7 @@ pub mod Lines
 pub mod Lists
 pub mod Lowest
 pub mod Number
+pub mod Quotient
 pub mod Ratio
 pub mod RatioExact
 pub mod RatioOrder

@@ -1,5 +1,5 @@
 use Rattle.std.proofs.Common.{arith, length, ap, ◌∙◌}
-use Rattle.ml_conflict.specs.Quotient.{worth}
+use Rattle.ml_ratio.specs.Quotient.{worth}
 use Rattle.ml_cone.specs.Overlap.{BoxOverlaps, Overlap}
 use Rattle.ml_conflict.proofs.Unions.{loop_none, loop_more, loop_all}
 use Rattle.ml_conflict.proofs.begin.begin_all.Goals as goal

@@ -1,6 +1,6 @@
 use Rattle.std.proofs.Common.{take}
 use Rattle.std.specs.Prelude.{Any}
-use Rattle.ml_conflict.specs.Quotient.{worth}
+use Rattle.ml_ratio.specs.Quotient.{worth}
 use Rattle.ml_cone.specs.Overlap.{BoxOverlaps}
 use Rattle.ml_conflict.specs.Begin.{Begins}
 use Rattle.ml_conflict.proofs.begin.begin_all.Given as goal

@@ -1,6 +1,6 @@
 use Rattle.std.proofs.Common.{◌↔◌, None}
 use Rattle.ml_ratio.specs.Fraction.{Fraction, IsLess}
-use Rattle.ml_conflict.specs.Quotient.{worth}
+use Rattle.ml_ratio.specs.Quotient.{worth}
 use Rattle.ml_conflict.specs.Between.{IsUnder, LiesIn}
 use Rattle.ml_conflict.proofs.Openness.{none_bound}
 use Rattle.ml_conflict.proofs.Beginnings.{begins_here, begins_late, begins_never}

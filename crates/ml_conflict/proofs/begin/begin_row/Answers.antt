@@ -1,5 +1,5 @@
 use Rattle.std.proofs.Common.{arith, length, ap, ◌∙◌}
-use Rattle.ml_conflict.specs.Quotient.{worth}
+use Rattle.ml_ratio.specs.Quotient.{worth}
 use Rattle.ml_conflict.specs.Between.{LiesIn}
 use Rattle.ml_cone.specs.Overlap.{BoxesOverlap}
 use Rattle.ml_conflict.proofs.Openness.{begins_like}

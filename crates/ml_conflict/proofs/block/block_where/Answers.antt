@@ -1,6 +1,6 @@
 use Rattle.std.proofs.Common.{◌↔◌, arith}
 use Rattle.ml_ratio.specs.Fraction.{Fraction, value_of, IsLess, IsAtMost}
-use Rattle.ml_conflict.specs.Quotient.{worth}
+use Rattle.ml_ratio.specs.Quotient.{worth}
 use Rattle.ml_conflict.proofs.Limits.{begins_block, block_same, block_none, start_from, clear_allows}
 use Rattle.ml_conflict.proofs.block.block_where.Goals as goal
 

@@ -1,7 +1,7 @@
 use Rattle.std.proofs.Common.{arith}
 use Rattle.ml_ratio.specs.Fraction.{value_of, IsSame, IsLess}
 use Rattle.ml_ratio.proofs.lemmas.Fractions.{at_most_less, less_at_most}
-use Rattle.ml_conflict.specs.Quotient.{worth}
+use Rattle.ml_ratio.specs.Quotient.{worth}
 use Rattle.ml_conflict.proofs.Greedy.{Allows-smaller}
 use Rattle.ml_conflict.proofs.Limits.{limit_same}
 use Rattle.ml_conflict.proofs.block.first_block.Goals as goal

@@ -1,7 +1,7 @@
 use Rattle.std.proofs.Common.{arith}
 use Rattle.ml_ratio.specs.Fraction.{value_of, IsSame, IsLess, IsAtMost}
 use Rattle.ml_ratio.proofs.lemmas.Fractions.{at_most_less, less_at_most, at_most_trans}
-use Rattle.ml_conflict.specs.Quotient.{worth}
+use Rattle.ml_ratio.specs.Quotient.{worth}
 use Rattle.ml_conflict.proofs.Greedy.{Allows-smaller}
 use Rattle.ml_conflict.proofs.Limits.{limit_same, none_of_allowed, none_of_above}
 use Rattle.ml_conflict.proofs.block.limit_up_to.Goals as goal

@@ -1,4 +1,4 @@
-use Rattle.std.proofs.Common.{◌≡◌, ℕ, Bool, true, false, not, arith}
+use Rattle.std.proofs.Common.{◌≡◌, ℕ, Bool, true, false, not, arith, refl}
 use Rattle.std.specs.Prelude.{MatchBool, IsFalse}
 use Rattle.ml_ratio.specs.Fraction.{Fraction, IsLess, IsAtMost}
 use Rattle.ml_ratio.proofs.lemmas.Fractions.{less_at_most}
@@ -6,7 +6,7 @@ use Rattle.ml_cone.specs.Overlap.{Overlap}
 use Rattle.ml_cone.specs.Near.{IsUpTo, AreApart, AreNear}
 use Rattle.ml_cone.specs.declared.label.Label.{Label}
 use Rattle.ml_conflict.specs.Begin.{Clear}
-use Rattle.ml_conflict.specs.Quotient.{worth}
+use Rattle.ml_ratio.specs.Quotient.{worth}
 use Rattle.ml_conflict.proofs.block.may_overlap.Goals as goal
 
 -- labels that are apart up to a fraction overlap nowhere below it
@@ -27,7 +27,7 @@ late_clear low high start last late s scale from less under over =
 
 pub returns-else-are_near-clause-none : goal.returns-else-are_near-clause-none
 returns-else-are_near-clause-none c is =
-    apart_clear c.args.low.now c.args.high.now (worth c.args.start) (worth c.args.last) _ _ c.are_apart.result c.num.ensures c.den.ensures c.are_apart.ensures is
+    apart_clear c.args.low.now c.args.high.now (worth c.args.start) (worth c.args.last) _ _ c.are_apart.result refl refl c.are_apart.ensures is
 
 pub returns-then-not-is_less-clause-none : goal.returns-then-not-is_less-clause-none
 returns-then-not-is_less-clause-none c is = late_clear c.args.low.now c.args.high.now (worth c.args.start) (worth c.args.last) c.if-not-is_less.ensures

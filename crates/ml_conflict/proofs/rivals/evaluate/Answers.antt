@@ -1,5 +1,5 @@
 use Rattle.std.proofs.Common.{◌≡◌, arith, length}
-use Rattle.ml_conflict.specs.Quotient.{worth}
+use Rattle.ml_ratio.specs.Quotient.{worth}
 use Rattle.ml_conflict.proofs.Evaluating.{Evaluated, evaluated_none, evaluated_kept, evaluated_set, evaluated_all}
 use Rattle.ml_conflict.proofs.rivals.evaluate.Goals as goal
 use Rattle.ml_conflict.proofs.rivals.evaluate.Goals.{then-is_less, else-is_less}

@@ -1,5 +1,5 @@
 use Rattle.std.proofs.Common.{◌≡◌, ◌+◌}
-use Rattle.ml_conflict.specs.Quotient.{worth}
+use Rattle.ml_ratio.specs.Quotient.{worth}
 use Rattle.ml_conflict.proofs.Evaluating.{Evaluated}
 use Rattle.ml_conflict.proofs.rivals.evaluate.Given as goal
 

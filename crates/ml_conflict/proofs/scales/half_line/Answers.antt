@@ -1,6 +1,6 @@
 use Rattle.std.proofs.Common.{◌≡◌, ◌*◌, arith, FitsSigned, w64, refl}
 use Rattle.std.proofs.lemmas.Int.{ints, to_z-of_z}
-use Rattle.ml_conflict.specs.Quotient.{worth}
+use Rattle.ml_ratio.specs.Quotient.{worth}
 use Rattle.ml_ratio.proofs.lemmas.Fractions.{zero_below}
 use Rattle.ml_conflict.proofs.HalfLines.{half_up, half_all, half_down}
 use Rattle.ml_conflict.proofs.scales.half_line.Goals as goal

@@ -1,6 +1,6 @@
 use Rattle.std.proofs.Common.{arith}
 use Rattle.ml_ratio.specs.Fraction.{IsLess}
-use Rattle.ml_conflict.specs.Quotient.{worth}
+use Rattle.ml_ratio.specs.Quotient.{worth}
 use Rattle.ml_ratio.proofs.lemmas.Fractions.{less_trans}
 use Rattle.ml_conflict.proofs.scales.kept.Goals as goal
 

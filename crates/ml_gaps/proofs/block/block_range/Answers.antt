@@ -38,7 +38,7 @@ apart_none low high from until apart s any =
 pub returns-then-are_apart-clause-ok : goal.returns-then-are_apart-clause-ok
 returns-then-are_apart-clause-ok c =
     nothing_added (IsPairInRange c.args.low.now c.args.high.now (value_of c.args.from) (value_of c.args.until)) (box_pairs_of c.args.low.now c.args.high.now) c.args.out.now
-    (apart_none c.args.low.now c.args.high.now (value_of c.args.from) (value_of c.args.until) (rw (c.num.ensures, c.den.ensures) at c.if-are_apart.ensures))
+    (apart_none c.args.low.now c.args.high.now (value_of c.args.from) (value_of c.args.until) (rw (c.of_ratio.ensures.num, c.of_ratio.ensures.den) at c.if-are_apart.ensures))
 
 pub loop-i-init : goal.loop-i-init
 loop-i-init c = none_added (IsPairInRange c.args.low.now c.args.high.now (value_of c.args.from) (value_of c.args.until)) c.args.out.now

@@ -11,7 +11,7 @@ returns-then-is_clear c lt =
     let self = c.args.self.now in
     let low = self.low.now in
     let high = get_or self.labels.now c.args.spot.now.place low in
-    let clear : AreClear low high self.until.num self.until.den = rw (c.num.ensures, c.den.ensures) at (c.if-is_clear.ensures low high self.its_site (c.requires.site low)) in
+    let clear : AreClear low high self.until.num self.until.den = rw (c.of_ratio.ensures.num, c.of_ratio.ensures.den) at (c.if-is_clear.ensures low high self.its_site (c.requires.site low)) in
     aside_there known self c.args.spot.now.place lt (c.clear_labels.ensures low high (ends self.slots.now c.args.spot.now.place) (value_of self.until) clear)
 
 pub returns-then-is_clear-2 : goal.returns-then-is_clear-2
@@ -24,7 +24,7 @@ returns-then-is_clear-2 c lt =
     let lengths = self.lengths in
     let in' : place < length self.slots.now = (let there = c.requires.there in omega arith) in
     let u = value_of (get_or self.slots.now place c.index-self-place.result).until in
-    let clear : AreClear low high u.num u.den = rw (c.num-2.ensures, c.den-2.ensures) at (c.if-is_clear-2.ensures low high self.its_site (c.requires.site low)) in
+    let clear : AreClear low high u.num u.den = rw (c.of_ratio-2.ensures.num, c.of_ratio-2.ensures.den) at (c.if-is_clear-2.ensures low high self.its_site (c.requires.site low)) in
     aside_there known self place lt (none_read low self.labels.now self.slots.now place low c.index-self-place.result c.requires.there in'
     (value_of self.until) (c.ended_labels.ensures low high u (value_of self.until) clear))
 

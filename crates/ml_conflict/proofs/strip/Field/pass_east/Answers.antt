@@ -1,4 +1,4 @@
-use Rattle.std.proofs.Common.{◌+◌, ◌≤◌, length, refl, arith}
+use Rattle.std.proofs.Common.{◌+◌, refl, arith}
 use Rattle.ml_ratio.specs.Fraction.{value_of}
 use Rattle.ml_conflict.proofs.Blocks.{away_both}
 use Rattle.ml_conflict.proofs.strip.Field.pass_east.Goals as goal

@@ -1,4 +1,4 @@
-use Rattle.std.proofs.Common.{List, ◌≤◌, length}
+use Rattle.std.proofs.Common.{List, ◌≤◌}
 use Rattle.ml_ratio.specs.Fraction.{value_of}
 use Rattle.ml_cone.specs.declared.label.Label.{Label}
 use Rattle.ml_conflict.specs.Strip.{AreStrips, AreAway}

@@ -19,7 +19,7 @@ returns-then-is_clear c =
     let slots = c.args.self.now.slots.now in
     let place = c.args.spot.now.place in
     let clear : AreClear low (get_or labels place low) c.args.bound.num c.args.bound.den =
-    rw (c.num.ensures, c.den.ensures) at (c.if-is_clear.ensures low (get_or labels place low) c.args.self.now.its_site (c.requires.site low)) in
+    rw (c.of_ratio.ensures.num, c.of_ratio.ensures.den) at (c.if-is_clear.ensures low (get_or labels place low) c.args.self.now.its_site (c.requires.site low)) in
     searched_none low (rivals_in labels slots low) (length slots) (λ j. j ≡ place) (value_of c.args.bound) c.args.places.now.items
     (λ j saw lt. subst (SetsNone low (rivals_in labels slots low) (value_of c.args.bound)) (sym saw)
     (c.clear_labels.ensures low (get_or labels place low) (value_of (get_or slots place no_slot).until) (value_of c.args.bound) clear))
@@ -32,7 +32,7 @@ returns-then-is_clear-2 c =
     let place = c.args.spot.now.place in
     let u = value_of (get_or slots place c.index-self-place.result).until in
     let clear : AreClear low (get_or labels place low) u.num u.den =
-    rw (c.num-2.ensures, c.den-2.ensures) at (c.if-is_clear-2.ensures low (get_or labels place low) c.args.self.now.its_site (c.requires.site low)) in
+    rw (c.of_ratio-2.ensures.num, c.of_ratio-2.ensures.den) at (c.if-is_clear-2.ensures low (get_or labels place low) c.args.self.now.its_site (c.requires.site low)) in
     searched_none low (rivals_in labels slots low) (length slots) (λ j. j ≡ place) (value_of c.args.bound) c.args.places.now.items
     (λ j saw lt. none_there labels slots low place low c.index-self-place.result c.requires.there (omega (arith, c.if-place-self.false))
     (value_of c.args.bound) (c.ended_labels.ensures low (get_or labels place low) u (value_of c.args.bound) clear) j saw)

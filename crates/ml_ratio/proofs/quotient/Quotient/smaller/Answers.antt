@@ -1,7 +1,7 @@
 use Rattle.std.proofs.Common.{arith}
-use Rattle.ml_conflict.specs.Quotient.{worth}
+use Rattle.ml_ratio.specs.Quotient.{worth}
 use Rattle.ml_ratio.proofs.lemmas.Fractions.{below_both, below_both_turned}
-use Rattle.ml_conflict.proofs.quotient.Quotient.smaller.Goals as goal
+use Rattle.ml_ratio.proofs.quotient.Quotient.smaller.Goals as goal
 
 pub returns-then-is_less-clause-same : goal.returns-then-is_less-clause-same
 returns-then-is_less-clause-same c = below_both (worth c.args.self) (worth c.args.other) (omega (arith, c.if-is_less.ensures))

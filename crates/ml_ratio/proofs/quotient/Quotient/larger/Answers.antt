@@ -1,7 +1,7 @@
 use Rattle.std.proofs.Common.{arith}
-use Rattle.ml_conflict.specs.Quotient.{worth}
+use Rattle.ml_ratio.specs.Quotient.{worth}
 use Rattle.ml_ratio.proofs.lemmas.Fractions.{above_both, above_both_turned, from_both, from_both_turned}
-use Rattle.ml_conflict.proofs.quotient.Quotient.larger.Goals as goal
+use Rattle.ml_ratio.proofs.quotient.Quotient.larger.Goals as goal
 
 pub returns-then-is_less-clause-above : goal.returns-then-is_less-clause-above
 returns-then-is_less-clause-above c = above_both (worth c.args.self) (worth c.args.other) (omega (arith, c.if-is_less.ensures))
