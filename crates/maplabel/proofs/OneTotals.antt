@@ -1,5 +1,5 @@
 -- A generated map that is edited comes to one line of totals.
-use Rattle.std.proofs.Common.{◌≡◌, ℕ, ◌*◌, ◌<◌, List, [], ◌∷◌, length, map, get_or, Option, Some, None, refl, sym, ap, subst, ◌∙◌, arith}
+use Rattle.std.proofs.Common.{◌≡◌, ℕ, ◌*◌, ◌<◌, List, [], ◌∷◌, length, map, get_or, Option, Some, None, refl, sym, ap, subst, ◌∙◌}
 use Rattle.std.specs.Prelude.{◌↔◌, MatchOption, sum_by}
 use Rattle.ml_ratio.specs.Fraction.{IsSame, value_of}
 use Rattle.ml_ratio.specs.declared.feature.Feature.{Feature}
@@ -18,7 +18,8 @@ use Rattle.ml_style.specs.StyleTable.{IsStyle}
 use Rattle.ml_style.specs.declared.style.Style.{Style}
 use Rattle.ml_label.specs.Labels.{AreLabelsOf}
 use Rattle.ml_label.proofs.lemmas.SamePlaces.{same_listed}
-use Rattle.ml_view.proofs.lemmas.OneView.{same_ratio, same_view}
+use Rattle.ml_ratio.proofs.lemmas.Intervals.{equal_ratio}
+use Rattle.ml_view.proofs.lemmas.OneView.{same_view}
 use Rattle.ml_repair.specs.Changes.{AreChanges}
 use Rattle.ml_repair.specs.Cost.{IsCost}
 use Rattle.ml_editor.specs.Editing.{IsEditCost, id_of}
@@ -78,7 +79,7 @@ module _ (known : KnownMaps) where
   -- ---- slots with the longest ends
 
   same_ends : (labels : List Label) (slots others : List Slot) → IsLongest labels (ends slots) → IsLongest labels (ends others) → SameEnds labels slots others
-  same_ends labels slots others x y p within = same_ratio (get_or slots p no_slot).until (get_or others p no_slot).until (known.longest labels (ends slots) (ends others) x y p within)
+  same_ends labels slots others x y p within = equal_ratio (get_or slots p no_slot).until (get_or others p no_slot).until (known.longest labels (ends slots) (ends others) x y p within)
 
   places_again : (labels : List Label) (slots others : List Slot) (view : View) (ps qs : List ℕ) →
       SameEnds labels slots others → AreShown labels (ends slots) view ps → AreShown labels (ends others) view qs → ps ≡ qs
@@ -116,7 +117,7 @@ module _ (known : KnownMaps) where
   view_again group v u x y =
       let num : v.scale.num ≡ u.scale.num = x.num_is ∙ sym y.num_is in
       let den : u.scale.den ≡ v.scale.den = y.den_is ∙ sym x.den_is in
-      let scale : v.scale ≡ u.scale = same_ratio v.scale u.scale (ap (λ (n : ℕ). n * u.scale.den) num ∙ ap (λ (n : ℕ). u.scale.num * n) den) in
+      let scale : v.scale ≡ u.scale = equal_ratio v.scale u.scale (ap (λ (n : ℕ). n * u.scale.den) num ∙ ap (λ (n : ℕ). u.scale.num * n) den) in
       same_view v u (x.cx_is ∙ sym y.cx_is) (x.cy_is ∙ sym y.cy_is) (x.w_is ∙ sym y.w_is) (x.h_is ∙ sym y.h_is) scale
 
   shows_again : (t : State) (view : View) (m n : ℕ) → Shows t view m → Shows t view n → m ≡ n

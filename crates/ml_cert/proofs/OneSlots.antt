@@ -16,7 +16,7 @@ use Rattle.ml_cert.specs.SlotLine.{WritesBlocker, IsSlotLine}
 use Rattle.ml_cert.specs.SlotsText.{HaveOwnIds, AreSlotLines, AreGoodBefore, IsFaultyLine, IsSlotsFault, GivesSlots}
 use Rattle.ml_cert.specs.declared.fault.SlotsFault.{SlotsFault}
 use Rattle.ml_cert.specs.declared.fault.SlotsFault.TheVariants.{BadLine, Memory}
-use Rattle.ml_cert.proofs.OneVerdict.{equal_ratio}
+use Rattle.ml_ratio.proofs.lemmas.Intervals.{equal_ratio}
 
 module _ (labels : List Label) (differ : HaveOwnIds labels) (named : IsNoId labels (codes "-")) where
   one_place : (id : List ℕ) (i j : ℕ) → IsPlaceOf labels id i → IsPlaceOf labels id j → i ≡ j

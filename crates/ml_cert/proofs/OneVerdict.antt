@@ -1,12 +1,9 @@
 -- Slots have one verdict.
-use Rattle.std.proofs.Common.{◌≡◌, ℕ, ◌*◌, ◌<◌, List, length, arith, refl, sym, ap, subst, inl, inr}
-use Rattle.std.specs.Ordering.{nat_cmp}
-use Rattle.std.specs.declared.cmp.Ordering.TheVariants.{Equal}
+use Rattle.std.proofs.Common.{◌≡◌, ℕ, ◌<◌, List, length, arith, refl, sym, ap, subst, inl, inr}
 use Rattle.std.proofs.lemmas.Bool.{cases_order}
-use Rattle.std.proofs.lemmas.Bool.Decides.{nat_tests}
-use Rattle.ml_ratio.specs.Fraction.{value_of, IsSame}
-use Rattle.ml_ratio.specs.RatioExact.{ratio_exact}
+use Rattle.ml_ratio.specs.Fraction.{value_of}
 use Rattle.ml_ratio.specs.declared.ratio.Ratio.{Ratio}
+use Rattle.ml_ratio.proofs.lemmas.Intervals.{equal_ratio}
 use Rattle.ml_ratio.proofs.lemmas.Lists.{pick}
 use Rattle.ml_cone.specs.Slots.{ends}
 use Rattle.ml_cone.specs.Sound.{HasGoodEnd, IsCovered, IsSound}
@@ -15,13 +12,6 @@ use Rattle.ml_cone.specs.declared.slot.Slot.{Slot}
 use Rattle.ml_cert.specs.Judged.{AllAllowBefore, IsClash, IsUncovered, IsFirstInQuestion, IsVerdict}
 use Rattle.ml_cert.specs.declared.verdict.Verdict.{Verdict}
 use Rattle.ml_cert.specs.declared.verdict.Verdict.TheVariants.{Best, BadEnd, Clash, Uncovered, BadBlocker}
-
--- fractions in lowest terms that have the same value are the same
-pub equal_ratio : (a b : Ratio) → IsSame (value_of a) (value_of b) → a ≡ b
-equal_ratio a b e = ratio_exact a b (same_cmp (a.num * b.den) (b.num * a.den) e)
-  where
-    same_cmp : (p q : ℕ) → p ≡ q → nat_cmp p q ≡ Equal
-    same_cmp p q e = grind (arith, nat_tests)
 
 module _ (labels : List Label) (slots : List Slot) where
   -- a label that ends below its maximum and is not blocked is not covered

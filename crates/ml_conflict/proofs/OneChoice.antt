@@ -1,27 +1,16 @@
 -- Labels have one list of slots that is the longest choice with its blockers.
-use Rattle.std.proofs.Common.{◌≡◌, ℕ, ◌*◌, ◌<◌, List, length, get_or, Option, Some, None, inl, inr, refl, sym, ap, ◌∙◌, arith}
-use Rattle.std.specs.Ordering.{nat_cmp}
-use Rattle.std.specs.declared.cmp.Ordering.TheVariants.{Equal}
+use Rattle.std.proofs.Common.{◌≡◌, ℕ, ◌<◌, List, length, get_or, Option, Some, None, inl, inr, refl, sym, ap, ◌∙◌, arith}
 use Rattle.std.proofs.lemmas.Bool.{cases_order}
-use Rattle.std.proofs.lemmas.Bool.Decides.{nat_tests}
 use Rattle.std.proofs.lemmas.List.{same_lists, get_or_default}
 use Rattle.ml_ratio.specs.Fraction.{value_of, IsSame}
-use Rattle.ml_ratio.specs.RatioExact.{ratio_exact}
-use Rattle.ml_ratio.specs.declared.ratio.Ratio.{Ratio}
 use Rattle.ml_ratio.proofs.lemmas.Fractions.{at_most_less, less_at_most}
+use Rattle.ml_ratio.proofs.lemmas.Intervals.{equal_ratio}
 use Rattle.ml_ratio.proofs.lemmas.Lists.{pick}
 use Rattle.ml_cone.specs.Choice.{Choice, CoversFrom, Blocks}
 use Rattle.ml_cone.specs.Slots.{IsBlockerBy, AreSlots, ends, no_slot}
 use Rattle.ml_cone.specs.declared.label.Label.{Label}
 use Rattle.ml_cone.specs.declared.slot.Slot.{Slot}
 use Rattle.ml_conflict.proofs.Greedy.{longest_unique}
-
--- fractions in lowest terms that have the same value are the same
-equal_ratio : (a b : Ratio) → IsSame (value_of a) (value_of b) → a ≡ b
-equal_ratio a b e = ratio_exact a b (same_cmp (a.num * b.den) (b.num * a.den) e)
-  where
-    same_cmp : (p q : ℕ) → p ≡ q → nat_cmp p q ≡ Equal
-    same_cmp p q e = grind (arith, nat_tests)
 
 -- a label is blocked alike under choices with the same two ends
 blocks_alike : (labels : List Label) (b c : Choice) (j i : ℕ) → IsSame (b j) (c j) → IsSame (b i) (c i) → Blocks labels b j i → Blocks labels c j i

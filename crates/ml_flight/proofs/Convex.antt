@@ -18,7 +18,7 @@ use Rattle.ml_flight.specs.declared.stay.Stay.{Stay}
 use Rattle.ml_flight.specs.declared.window.Window.{Window}
 use Rattle.ml_ratio.proofs.lemmas.Anys.{any_at}
 use Rattle.ml_flight.proofs.HalfLines.{IsBeyond, side_by_halves}
-use Rattle.ml_flight.proofs.StayFacts.{from_least, from_above}
+use Rattle.ml_ratio.proofs.lemmas.Intervals.{from_least, from_above}
 
 -- an inequality u < v * s that holds at two fractions holds between them
 beyond_between : (u v : ℤ) (s r t : Fraction) → IsAtMost s r → IsAtMost r t → IsBeyond u v s → IsBeyond u v t → IsBeyond u v r

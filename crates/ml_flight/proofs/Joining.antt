@@ -8,7 +8,7 @@ use Rattle.std.proofs.lemmas.List.Quantifiers.{Any-push, all_pairs_push}
 use Rattle.ml_ratio.specs.Fraction.{Fraction, value_of, IsLess}
 use Rattle.ml_flight.specs.Stay.{HasBegun, HoldsScale, HaveScale, IsApart, AreApart, BeginsBy}
 use Rattle.ml_flight.specs.declared.stay.Stay.{Stay}
-use Rattle.ml_flight.proofs.StayFacts.{from_up, not_both, before_else}
+use Rattle.ml_ratio.proofs.lemmas.Intervals.{from_up, not_both, before_else}
 use Rattle.ml_ratio.proofs.lemmas.Anys.{any_of, any_none, any_left, any_push_cases, any_more_cases, any_whole}
 
 -- two stays that meet make one: s lies below the later end

@@ -1,4 +1,3 @@
-mod StayFacts
 mod HalfLines
 mod Joining
 mod Maximal

@@ -9,7 +9,7 @@ use Rattle.ml_ratio.proofs.lemmas.Fractions.{less_at_most, at_most_less, less_tr
 use Rattle.ml_flight.specs.Stay.{HoldsScale, HaveScale}
 use Rattle.ml_flight.specs.Peak.{IsEndOf, IsMark, IsJustAfter}
 use Rattle.ml_flight.specs.declared.stay.Stay.{Stay}
-use Rattle.ml_flight.proofs.StayFacts.{from_least, from_above}
+use Rattle.ml_ratio.proofs.lemmas.Intervals.{from_least, from_above}
 use Rattle.ml_ratio.proofs.lemmas.Anys.{any_at, any_of, any_here, any_there}
 use Rattle.ml_flight.proofs.Opens.{IsOpen}
 

@@ -6,7 +6,7 @@ use Rattle.ml_ratio.proofs.lemmas.Fractions.{less_at_most, at_most_trans, less_i
 use Rattle.ml_flight.specs.Stay.{HoldsScale, HaveScale, AreApart}
 use Rattle.ml_flight.specs.Stays.{IsBetween, AreMaximal}
 use Rattle.ml_flight.specs.declared.stay.Stay.{Stay}
-use Rattle.ml_flight.proofs.StayFacts.{IsFrom, from_least, before_most, not_both, either_way}
+use Rattle.ml_ratio.proofs.lemmas.Intervals.{IsFrom, from_least, before_most, not_both, either_way}
 use Rattle.ml_ratio.proofs.lemmas.Anys.{any_at, any_of}
 
 -- the lower end is held only where it is counted in

@@ -1,18 +1,14 @@
 -- A set of fractions has its maximal intervals in one way, and stays have one peak.
-use Rattle.std.proofs.Common.{◌≡◌, ℕ, suc, ◌*◌, ◌<◌, ◌↔◌, List, [], ◌∷◌, length, get_or, arith, refl, sym, ap, subst, ◌∙◌, Bool, true, false, IsTrue, inl, inr}
+use Rattle.std.proofs.Common.{◌≡◌, suc, ◌*◌, ◌<◌, ◌↔◌, List, [], ◌∷◌, length, get_or, arith, refl, sym, ap, subst, ◌∙◌, Bool, true, false, IsTrue, inl, inr}
 use Rattle.std.specs.Prelude.{All, AllPairs, Any}
-use Rattle.std.specs.Ordering.{nat_cmp}
-use Rattle.std.specs.declared.cmp.Ordering.TheVariants.{Equal}
 use Rattle.std.proofs.Props.{props}
 use mathlib.Core.HLevel.{is_prop→PathP}
-use Rattle.std.proofs.lemmas.Bool.{cases_order, cases_lt}
-use Rattle.std.proofs.lemmas.Bool.Decides.{nat_tests}
+use Rattle.std.proofs.lemmas.Bool.{cases_order}
 use Rattle.std.proofs.lemmas.List.{same_lists, get_or_default}
 use Rattle.std.proofs.lemmas.List.Elements.{All-head, All-tail}
-use Rattle.ml_ratio.specs.Fraction.{Fraction, value_of, IsLess, IsAtMost, IsSame}
-use Rattle.ml_ratio.specs.RatioExact.{ratio_exact}
+use Rattle.ml_ratio.specs.Fraction.{Fraction, value_of, IsLess, IsAtMost}
 use Rattle.ml_ratio.specs.declared.ratio.Ratio.{Ratio}
-use Rattle.ml_ratio.proofs.lemmas.Fractions.{middle, middle_above, middle_below, less_at_most, at_most_less, less_trans}
+use Rattle.ml_ratio.proofs.lemmas.Fractions.{middle, less_at_most, at_most_less}
 use Rattle.ml_ratio.proofs.lemmas.Lists.{pick}
 use Rattle.ml_cone.specs.declared.label.Label.{Label}
 use Rattle.ml_cone.specs.Slots.{no_slot}
@@ -27,14 +23,7 @@ use Rattle.ml_flight.specs.declared.stay.Stay.{Stay}
 use Rattle.ml_flight.specs.declared.window.Window.{Window}
 use Rattle.ml_ratio.proofs.lemmas.Anys.{any_at, any_of, any_cases, any_none}
 use Rattle.ml_flight.proofs.Counting.{true_or_false}
-use Rattle.ml_flight.proofs.StayFacts.{from_least, from_above, from_up}
-
--- fractions in lowest terms that have the same value are the same
-equal_ratio : (a b : Ratio) → IsSame (value_of a) (value_of b) → a ≡ b
-equal_ratio a b e = ratio_exact a b (same_cmp (a.num * b.den) (b.num * a.den) e)
-  where
-    same_cmp : (p q : ℕ) → p ≡ q → nat_cmp p q ≡ Equal
-    same_cmp p q e = grind (arith, nat_tests)
+use Rattle.ml_ratio.proofs.lemmas.Intervals.{equal_ratio, from_up, holds_middle, begins_by, ends_by}
 
 -- ---- one stay
 
@@ -52,61 +41,6 @@ held_between : (a : Stay) (s t r : Fraction) → HoldsScale a s → HoldsScale a
 held_between a s t r hs ht (inl between) = (from_up a.from_in (value_of a.from) s r hs.0 between.0, at_most_less r t (value_of a.to) between.1 ht.1)
 held_between a s t r hs ht (inr between) = (from_up a.from_in (value_of a.from) t r ht.0 between.0, at_most_less r s (value_of a.to) between.1 hs.1)
 
-inside : Stay → Fraction
-inside a = middle (value_of a.from) (value_of a.to)
-
-held_inside : (a : Stay) → HoldsScale a (inside a)
-unfolding inside
-held_inside a = (
-  from_above a.from_in (value_of a.from) (middle (value_of a.from) (value_of a.to)) (middle_above (value_of a.from) (value_of a.to) a.some),
-  middle_below (value_of a.from) (value_of a.to) a.some,
-)
-
--- a stay that holds all that another holds begins no later, and ends no earlier
-begins_by : (a b : Stay) → ((s : Fraction) → HoldsScale a s → HoldsScale b s) → IsAtMost (value_of b.from) (value_of a.from)
-begins_by a b all =
-    elim (cases_lt (a.from.num * b.from.den) (b.from.num * a.from.den)) [
-      | inl less ↦ elim (cases_lt (a.to.num * b.from.den) (b.from.num * a.to.den)) [
-        | inl early ↦
-            let below = middle_below (value_of a.from) (value_of a.to) a.some in
-            let held = all (middle (value_of a.from) (value_of a.to))
-            (from_above a.from_in (value_of a.from) (middle (value_of a.from) (value_of a.to)) (middle_above (value_of a.from) (value_of a.to) a.some), below) in
-            let late = from_least b.from_in (value_of b.from) (middle (value_of a.from) (value_of a.to)) held.0 in
-            let under = less_trans (middle (value_of a.from) (value_of a.to)) (value_of a.to) (value_of b.from) below early in
-            absurd (omega arith)
-        | inr late ↦
-            let below = middle_below (value_of a.from) (value_of b.from) less in
-            let held = all (middle (value_of a.from) (value_of b.from)) (
-              from_above a.from_in (value_of a.from) (middle (value_of a.from) (value_of b.from)) (middle_above (value_of a.from) (value_of b.from) less),
-              less_at_most (middle (value_of a.from) (value_of b.from)) (value_of b.from) (value_of a.to) below late,
-            ) in
-            let after = from_least b.from_in (value_of b.from) (middle (value_of a.from) (value_of b.from)) held.0 in
-            absurd (omega arith)
-      ]
-      | inr more ↦ more
-    ]
-
-ends_by : (a b : Stay) → ((s : Fraction) → HoldsScale a s → HoldsScale b s) → IsAtMost (value_of a.to) (value_of b.to)
-unfolding inside
-ends_by a b all =
-    elim (cases_lt (b.to.num * a.to.den) (a.to.num * b.to.den)) [
-      | inl less ↦ elim (cases_lt (b.to.num * a.from.den) (a.from.num * b.to.den)) [
-        | inl early ↦
-            let held = all (inside a) (held_inside a) in
-            let above : IsLess (value_of a.from) (inside a) = middle_above (value_of a.from) (value_of a.to) a.some in
-            let over = less_trans (value_of b.to) (value_of a.from) (inside a) early above in
-            absurd (let h = held.1 in omega arith)
-        | inr late ↦
-            let above = middle_above (value_of b.to) (value_of a.to) less in
-            let held = all (middle (value_of b.to) (value_of a.to)) (
-              from_above a.from_in (value_of a.from) (middle (value_of b.to) (value_of a.to)) (at_most_less (value_of a.from) (value_of b.to) (middle (value_of b.to) (value_of a.to)) late above),
-              middle_below (value_of b.to) (value_of a.to) less,
-            ) in
-            absurd (let h = held.1 in omega arith)
-      ]
-      | inr more ↦ more
-    ]
-
 same_truth : {P : Type 0} (b c : Bool) → IsTrue b ↔ P → IsTrue c ↔ P → b ≡ c
 same_truth true true h k = refl
 same_truth false false h k = refl
@@ -122,10 +56,10 @@ module _ (S : Fraction → Type 0) where
   one_stay_each a b t first second at_a at_b =
       let there = held_too a b t first second at_a at_b in
       let back = held_too b a t second first at_b at_a in
-      let f0 = begins_by a b there in
-      let f1 = begins_by b a back in
-      let t0 = ends_by a b there in
-      let t1 = ends_by b a back in
+      let f0 = begins_by a.from_in b.from_in (value_of a.from) (value_of a.to) (value_of b.from) (value_of b.to) a.some there in
+      let f1 = begins_by b.from_in a.from_in (value_of b.from) (value_of b.to) (value_of a.from) (value_of a.to) b.some back in
+      let t0 = ends_by a.from_in b.from_in (value_of a.from) (value_of a.to) (value_of b.from) (value_of b.to) a.some there in
+      let t1 = ends_by b.from_in a.from_in (value_of b.from) (value_of b.to) (value_of a.from) (value_of a.to) b.some back in
       let from = equal_ratio a.from b.from (omega arith) in
       let to = equal_ratio a.to b.to (omega arith) in
       let counted : IsTrue a.from_in ↔ S (value_of b.from) = subst (λ (r : Ratio). IsTrue a.from_in ↔ S (value_of r)) from first.from_in in
@@ -136,9 +70,10 @@ module _ (S : Fraction → Type 0) where
   all_found stays others are those k d lt =
       let a : Stay = get_or stays k d in
       let maximal = are.maximal k d lt in
-      let t = inside a in
-      let found = any_at (λ b. HoldsScale b t) others d (those.complete t (maximal.within t (held_inside a))) in
-      any_of (λ b. a ≡ b) others found.0 d found.1 (one_stay_each a (get_or others found.0 d) t maximal (those.maximal found.0 d found.1) (held_inside a) found.2)
+      let t = middle (value_of a.from) (value_of a.to) in
+      let held = holds_middle a.from_in (value_of a.from) (value_of a.to) a.some in
+      let found = any_at (λ b. HoldsScale b t) others d (those.complete t (maximal.within t held)) in
+      any_of (λ b. a ≡ b) others found.0 d found.1 (one_stay_each a (get_or others found.0 d) t maximal (those.maximal found.0 d found.1) held found.2)
 
 -- ---- lists that ascend and have the same elements are the same
 

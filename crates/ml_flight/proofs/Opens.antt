@@ -9,7 +9,7 @@ use Rattle.ml_flight.specs.Stay.{HoldsScale, IsApart, AreApart, begin_of}
 use Rattle.ml_flight.specs.Sweep.{begins_of, ends_of, is_ended, ended}
 use Rattle.ml_flight.specs.declared.place.Place.{Place}
 use Rattle.ml_flight.specs.declared.stay.Stay.{Stay}
-use Rattle.ml_flight.proofs.StayFacts.{before_most, from_up, not_both}
+use Rattle.ml_ratio.proofs.lemmas.Intervals.{before_most, from_up, not_both}
 use Rattle.ml_ratio.proofs.lemmas.Anys.{any_none, any_at, any_here, any_there, any_cases}
 use Rattle.ml_flight.proofs.Places.{UpTo, up_to, up_to_holds, up_to_test, up_to_above, begun_of_place, place_of_begun}
 use Rattle.ml_flight.proofs.Counting.{true_or_false, count_yes, count_no, sum_by-plus, count_by-map, count_by-flat_map}

@@ -4,17 +4,13 @@ use Rattle.std.proofs.Common.{Option, Some, None, inl, inr, refl, sym, ap, subst
 use Rattle.std.specs.Prelude.{All, MatchOption, Result, Ok, Err, IfOk, IfErr, codes, replicate}
 use Rattle.std.proofs.Props.{props}
 use mathlib.Core.HLevel.{is_prop→PathP}
-use Rattle.std.specs.Ordering.{nat_cmp}
-use Rattle.std.specs.declared.cmp.Ordering.TheVariants.{Equal}
 use Rattle.std.proofs.Math.ListN.{get_or-append}
 use Rattle.std.proofs.Math.Seq.{get_or-append_seam, drop-cons}
-use Rattle.std.proofs.lemmas.Bool.Decides.{nat_tests}
 use Rattle.std.proofs.lemmas.List.{same_lists, get_or_default, take-append-drop}
-use Rattle.ml_ratio.specs.Fraction.{value_of, IsLess, IsSame}
+use Rattle.ml_ratio.specs.Fraction.{value_of, IsLess}
 use Rattle.ml_ratio.specs.World.{IsInWorld}
 use Rattle.ml_ratio.specs.Number.{number_up_to}
-use Rattle.ml_ratio.specs.RatioExact.{ratio_exact}
-use Rattle.ml_ratio.specs.declared.ratio.Ratio.{Ratio}
+use Rattle.ml_ratio.proofs.lemmas.Intervals.{equal_ratio}
 use Rattle.ml_ratio.proofs.lemmas.Numerals.{ratio_same}
 use Rattle.ml_ratio.proofs.lemmas.Lists.{pick}
 use Rattle.ml_cone.specs.Places.{IsNoId}
@@ -31,12 +27,6 @@ use Rattle.ml_follow.proofs.Lower.{OneSpelling, OneList}
 use Rattle.ml_follow.proofs.Rows.{the_words, same_id}
 
 -- ---- a line has one reading
-
-equal_ratio : (a b : Ratio) → IsSame (value_of a) (value_of b) → a ≡ b
-equal_ratio a b e = ratio_exact a b (same_cmp (a.num * b.den) (b.num * a.den) e)
-  where
-    same_cmp : (p q : ℕ) → p ≡ q → nat_cmp p q ≡ Equal
-    same_cmp p q e = grind (arith, nat_tests)
 
 -- the first line of a state tells one revision and one number of labels
 pub head_same : (line : List ℕ) (r n s m : ℕ) → ReadsHead line r n → ReadsHead line s m → (r ≡ s) × (n ≡ m)

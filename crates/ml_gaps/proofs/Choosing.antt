@@ -21,7 +21,7 @@ use Rattle.ml_gaps.specs.Piece.{HoldsScale, HaveScale, AddsPieces}
 use Rattle.ml_gaps.specs.declared.gap.Gap.{Gap}
 use Rattle.ml_gaps.specs.declared.piece.Piece.{Piece}
 use Rattle.ml_ratio.proofs.lemmas.Anys.{any_of, any_none, any_left, any_right, any_either}
-use Rattle.ml_gaps.proofs.Swept.{from_above}
+use Rattle.ml_ratio.proofs.lemmas.Intervals.{from_above}
 
 -- ---- pieces in the order in which they begin
 

@@ -1,25 +1,15 @@
 -- Labels have their longest free gaps in one way.
 use Rattle.std.proofs.Common.{◌≡◌, ℕ, zero, suc, ◌+◌, ◌-◌, ◌*◌, ◌<◌, ◌≤◌, List, length, get_or, arith, sym, ap, subst, ◌∙◌}
-use Rattle.std.specs.Ordering.{nat_cmp}
-use Rattle.std.specs.declared.cmp.Ordering.TheVariants.{Equal}
 use Rattle.std.proofs.Math.Nat.{mul-pos, eq_of_mul-eq-mul_right}
-use Rattle.std.proofs.lemmas.Bool.Decides.{nat_tests}
 use Rattle.std.proofs.lemmas.List.{same_lists}
 use Rattle.ml_ratio.specs.Fraction.{Fraction, value_of, IsAtMost, IsSame}
-use Rattle.ml_ratio.specs.RatioExact.{ratio_exact}
 use Rattle.ml_ratio.specs.declared.ratio.Ratio.{Ratio}
+use Rattle.ml_ratio.proofs.lemmas.Intervals.{equal_ratio}
 use Rattle.ml_ratio.proofs.lemmas.Lists.{pick}
 use Rattle.ml_cone.specs.declared.label.Label.{Label}
 use Rattle.ml_gaps.specs.Gap.{length_of}
 use Rattle.ml_gaps.specs.Gaps.{IsFreeOf, IsFreeGap, IsLongestFree, AreGaps}
 use Rattle.ml_gaps.specs.declared.gap.Gap.{Gap}
-
--- fractions in lowest terms that have the same value are the same
-pub equal_ratio : (a b : Ratio) → IsSame (value_of a) (value_of b) → a ≡ b
-equal_ratio a b e = ratio_exact a b (same_cmp (a.num * b.den) (b.num * a.den) e)
-  where
-    same_cmp : (p q : ℕ) → p ≡ q → nat_cmp p q ≡ Equal
-    same_cmp p q e = grind (arith, nat_tests)
 
 -- plain numbers: p/q and r/t are as far above a/b, x and y being the numerators of the differences
 scaled_back : (a b p q r t x y : ℕ) → 0 < b → x + a * q ≡ p * b → y + a * t ≡ r * b → x * (t * b) ≡ y * (q * b) → p * t ≡ r * q

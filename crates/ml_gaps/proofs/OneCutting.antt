@@ -1,28 +1,14 @@
 -- Sets have their pieces in one way.
-use Rattle.std.proofs.Common.{◌≡◌, ◌*◌, ◌<◌, ◌↔◌, List, [], ◌∷◌, arith, refl, sym, ap, subst, ◌∙◌, Bool, true, false, IsTrue}
-use Rattle.std.specs.Prelude.{MatchBool}
+use Rattle.std.proofs.Common.{◌≡◌, ◌<◌, ◌↔◌, List, [], ◌∷◌, arith, refl, sym, ap, subst, ◌∙◌, Bool, true, false, IsTrue}
 use Rattle.std.proofs.Props.{props}
 use mathlib.Core.HLevel.{is_prop→PathP}
-use Rattle.std.proofs.lemmas.Bool.{cases_lt}
-use Rattle.std.proofs.Common.{inl, inr}
-use Rattle.ml_ratio.specs.Fraction.{Fraction, value_of, IsLess, IsAtMost}
+use Rattle.ml_ratio.specs.Fraction.{Fraction, value_of, IsLess}
 use Rattle.ml_ratio.specs.declared.ratio.Ratio.{Ratio}
-use Rattle.ml_ratio.proofs.lemmas.Fractions.{middle, middle_above, middle_below, less_at_most, at_most_less, less_trans}
+use Rattle.ml_ratio.proofs.lemmas.Fractions.{middle}
+use Rattle.ml_ratio.proofs.lemmas.Intervals.{IsFrom, equal_ratio, holds_middle, begins_by, ends_by}
 use Rattle.ml_gaps.specs.Piece.{HoldsScale}
 use Rattle.ml_gaps.specs.Pairs.{ArePiecesOf, none, piece, passed}
 use Rattle.ml_gaps.specs.declared.piece.Piece.{Piece}
-use Rattle.ml_gaps.proofs.OneAnswer.{equal_ratio}
-
-abbrev IsFrom : Bool → Fraction → Fraction → Type 0
-IsFrom b f s = MatchBool b (IsAtMost f s) (IsLess f s)
-
-from_least : (b : Bool) (f s : Fraction) → IsFrom b f s → IsAtMost f s
-from_least true f s h = h
-from_least false f s h = omega arith
-
-from_above : (b : Bool) (f s : Fraction) → IsLess f s → IsFrom b f s
-from_above true f s h = omega arith
-from_above false f s h = h
 
 piece_same : (a b : Piece) → a.from ≡ b.from → a.from_in ≡ b.from_in → a.to ≡ b.to → a ≡ b
 piece_same a b f c t i = record {
@@ -33,60 +19,11 @@ piece_same a b f c t i = record {
   above = is_prop→PathP (λ j. IsTrue (c j) → 0 < (f j).num) (λ j. hlevel props) a.above b.above i;
 }
 
-inside : Piece → Fraction
+abbrev inside : Piece → Fraction
 inside a = middle (value_of a.from) (value_of a.to)
 
 held_inside : (a : Piece) → HoldsScale a (inside a)
-unfolding inside
-held_inside a = (
-  from_above a.from_in (value_of a.from) (middle (value_of a.from) (value_of a.to)) (middle_above (value_of a.from) (value_of a.to) a.some),
-  middle_below (value_of a.from) (value_of a.to) a.some,
-)
-
--- a piece that holds all that another holds begins no later, and ends no earlier
-begins_by : (a b : Piece) → ((s : Fraction) → HoldsScale a s → HoldsScale b s) → IsAtMost (value_of b.from) (value_of a.from)
-begins_by a b all =
-    elim (cases_lt (a.from.num * b.from.den) (b.from.num * a.from.den)) [
-      | inl less ↦ elim (cases_lt (a.to.num * b.from.den) (b.from.num * a.to.den)) [
-        | inl early ↦
-            let below = middle_below (value_of a.from) (value_of a.to) a.some in
-            let held = all (middle (value_of a.from) (value_of a.to))
-            (from_above a.from_in (value_of a.from) (middle (value_of a.from) (value_of a.to)) (middle_above (value_of a.from) (value_of a.to) a.some), below) in
-            let late = from_least b.from_in (value_of b.from) (middle (value_of a.from) (value_of a.to)) held.0 in
-            let under = less_trans (middle (value_of a.from) (value_of a.to)) (value_of a.to) (value_of b.from) below early in
-            absurd (omega arith)
-        | inr late ↦
-            let below = middle_below (value_of a.from) (value_of b.from) less in
-            let held = all (middle (value_of a.from) (value_of b.from)) (
-              from_above a.from_in (value_of a.from) (middle (value_of a.from) (value_of b.from)) (middle_above (value_of a.from) (value_of b.from) less),
-              less_at_most (middle (value_of a.from) (value_of b.from)) (value_of b.from) (value_of a.to) below late,
-            ) in
-            let after = from_least b.from_in (value_of b.from) (middle (value_of a.from) (value_of b.from)) held.0 in
-            absurd (omega arith)
-      ]
-      | inr more ↦ more
-    ]
-
-ends_by : (a b : Piece) → ((s : Fraction) → HoldsScale a s → HoldsScale b s) → IsAtMost (value_of a.to) (value_of b.to)
-ends_by a b all =
-    elim (cases_lt (b.to.num * a.to.den) (a.to.num * b.to.den)) [
-      | inl less ↦ elim (cases_lt (b.to.num * a.from.den) (a.from.num * b.to.den)) [
-        | inl early ↦
-            let above = middle_above (value_of a.from) (value_of a.to) a.some in
-            let held = all (middle (value_of a.from) (value_of a.to))
-            (from_above a.from_in (value_of a.from) (middle (value_of a.from) (value_of a.to)) above, middle_below (value_of a.from) (value_of a.to) a.some) in
-            let over = less_trans (value_of b.to) (value_of a.from) (middle (value_of a.from) (value_of a.to)) early above in
-            absurd (let h = held.1 in omega arith)
-        | inr late ↦
-            let above = middle_above (value_of b.to) (value_of a.to) less in
-            let held = all (middle (value_of b.to) (value_of a.to)) (
-              from_above a.from_in (value_of a.from) (middle (value_of b.to) (value_of a.to)) (at_most_less (value_of a.from) (value_of b.to) (middle (value_of b.to) (value_of a.to)) late above),
-              middle_below (value_of b.to) (value_of a.to) less,
-            ) in
-            absurd (let h = held.1 in omega arith)
-      ]
-      | inr more ↦ more
-    ]
+held_inside a = holds_middle a.from_in (value_of a.from) (value_of a.to) a.some
 
 -- the lower end is held where it is counted in, and only there
 same_begin : (p q : Bool) (f : Fraction) → (IsFrom p f f → IsFrom q f f) → (IsFrom q f f → IsFrom p f f) → p ≡ q
@@ -97,10 +34,10 @@ same_begin false true f there back = absurd (let h = back (omega arith) in omega
 
 one_piece : (a b : Piece) → ((s : Fraction) → HoldsScale a s ↔ HoldsScale b s) → a ≡ b
 one_piece a b same =
-    let f0 = begins_by a b (λ s. (same s).0) in
-    let f1 = begins_by b a (λ s. (same s).1) in
-    let t0 = ends_by a b (λ s. (same s).0) in
-    let t1 = ends_by b a (λ s. (same s).1) in
+    let f0 = begins_by a.from_in b.from_in (value_of a.from) (value_of a.to) (value_of b.from) (value_of b.to) a.some (λ s. (same s).0) in
+    let f1 = begins_by b.from_in a.from_in (value_of b.from) (value_of b.to) (value_of a.from) (value_of a.to) b.some (λ s. (same s).1) in
+    let t0 = ends_by a.from_in b.from_in (value_of a.from) (value_of a.to) (value_of b.from) (value_of b.to) a.some (λ s. (same s).0) in
+    let t1 = ends_by b.from_in a.from_in (value_of b.from) (value_of b.to) (value_of a.from) (value_of a.to) b.some (λ s. (same s).1) in
     let from = equal_ratio a.from b.from (omega arith) in
     let to = equal_ratio a.to b.to (omega arith) in
     let some = a.some in

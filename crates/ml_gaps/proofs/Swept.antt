@@ -1,12 +1,13 @@
 -- The longest range that pieces leave, one piece after another.
-use Rattle.std.proofs.Common.{◌≡◌, ℕ, ◌+◌, ◌*◌, ◌<◌, ◌≤◌, ◌↔◌, List, length, get_or, arith, sym, ◌∙◌, subst, Bool, true, false, ◌⊎◌, inl, inr}
-use Rattle.std.specs.Prelude.{All, AllPairs, MatchBool}
+use Rattle.std.proofs.Common.{◌≡◌, ℕ, ◌+◌, ◌*◌, ◌<◌, ◌≤◌, ◌↔◌, List, length, get_or, arith, sym, ◌∙◌, subst, ◌⊎◌, inl, inr}
+use Rattle.std.specs.Prelude.{All, AllPairs}
 use Rattle.std.proofs.lemmas.Bool.{cases_lt}
 use Rattle.std.proofs.lemmas.List.{get_or_default}
 use Rattle.std.proofs.Math.Nat.{mul-pos}
 use Rattle.ml_ratio.specs.Fraction.{Fraction, value_of, IsLess, IsAtMost, IsSame}
 use Rattle.ml_ratio.specs.declared.ratio.Ratio.{Ratio}
 use Rattle.ml_ratio.proofs.lemmas.Fractions.{less_at_most, at_most_less, at_most_trans, middle, middle_above, middle_below, greater_of}
+use Rattle.ml_ratio.proofs.lemmas.Intervals.{from_least, from_above}
 use Rattle.ml_cone.specs.Range.{ActiveBetween}
 use Rattle.ml_cone.specs.declared.label.Label.{Label}
 use Rattle.ml_gaps.specs.Gap.{length_of, gap_length}
@@ -16,16 +17,6 @@ use Rattle.ml_gaps.specs.declared.gap.Gap.{Gap}
 use Rattle.ml_gaps.specs.declared.piece.Piece.{Piece}
 use Rattle.ml_ratio.proofs.lemmas.Anys.{any_at, any_of}
 use Rattle.ml_gaps.proofs.Lengths.{empty_length, some_length, length_within, none_shorter}
-
--- what a piece holds lies at its lower end or above it
-from_least : (b : Bool) (f s : Fraction) → MatchBool b (IsAtMost f s) (IsLess f s) → IsAtMost f s
-from_least true f s h = h
-from_least false f s h = omega arith
-
--- what lies above a piece's lower end lies from there on, whether that end is counted in or not
-pub from_above : (b : Bool) (f s : Fraction) → IsLess f s → MatchBool b (IsAtMost f s) (IsLess f s)
-from_above true f s h = omega arith
-from_above false f s h = h
 
 -- below both of two
 under_both : (u v : Fraction) → (t : Fraction) × IsAtMost t u × IsAtMost t v × ((x : Fraction) → IsLess x u → IsLess x v → IsLess x t)

@@ -16,7 +16,8 @@ use Rattle.ml_http.specs.Alike.{LookAlike}
 use Rattle.ml_http.specs.Replies.{json_reply}
 use Rattle.ml_http.specs.Routes.{IsTileAsked}
 use Rattle.ml_http.specs.Step.{LinkAnswer, Query, IsTileText, IsTileFor, IsTileAnswer}
-use Rattle.ml_view.proofs.lemmas.OneView.{same_ratio, same_view, one_whole, one_side}
+use Rattle.ml_ratio.proofs.lemmas.Intervals.{equal_ratio}
+use Rattle.ml_view.proofs.lemmas.OneView.{same_view, one_whole, one_side}
 use Rattle.ml_http.proofs.SameReplies.{OneLabel, json_made, same_text}
 use Rattle.ml_http.proofs.SameViews.{OneLongest}
 
@@ -27,7 +28,7 @@ view_of_tile z i j v u p q =
     let nums = p.num_is ∙ sym q.num_is in
     let dens = p.den_is ∙ sym q.den_is in
     let same : IsSame (value_of v.scale) (value_of u.scale) = ap (λ (n : ℕ). n * u.scale.den) nums ∙ ap (λ (n : ℕ). u.scale.num * n) (sym dens) in
-    same_view v u (p.cx_is ∙ sym q.cx_is) (p.cy_is ∙ sym q.cy_is) (p.w_is ∙ sym q.w_is) (p.h_is ∙ sym q.h_is) (same_ratio v.scale u.scale same)
+    same_view v u (p.cx_is ∙ sym q.cx_is) (p.cy_is ∙ sym q.cy_is) (p.w_is ∙ sym q.w_is) (p.h_is ∙ sym q.h_is) (equal_ratio v.scale u.scale same)
 
 -- a tile has one body on maps that look alike
 pub one_body : OneLabel → OneLongest → (s t : State) (key : TileKey) (a b : List ℕ) → LookAlike s t → IsTileText s key a → IsTileText t key b → a ≡ b

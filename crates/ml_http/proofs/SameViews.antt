@@ -17,7 +17,7 @@ use Rattle.ml_answer.specs.View.{Shown}
 use Rattle.ml_answer.specs.MapView.{AreShownRows, shown_of}
 use Rattle.ml_label.proofs.lemmas.SameLists.{here, later}
 use Rattle.ml_label.proofs.lemmas.SamePlaces.{same_listed, place_in}
-use Rattle.ml_view.proofs.lemmas.OneView.{same_ratio}
+use Rattle.ml_ratio.proofs.lemmas.Intervals.{equal_ratio}
 
 -- one longest choice
 abbrev pub OneLongest : Type 0
@@ -38,7 +38,7 @@ module _ (longest : OneLongest) (one other : List Row) (settled_one : IsSettled 
   -- the labels end at the same scales
   pub same_untils : (p : ℕ) → p < length (labels_in one) → (get_or (slots_in one) p no_slot).until ≡ (get_or (slots_in other) p no_slot).until
   same_untils p within =
-      same_ratio _ _ (longest (labels_in one) (ends (slots_in one)) (ends (slots_in other)) settled_one.slots.longest
+      equal_ratio _ _ (longest (labels_in one) (ends (slots_in one)) (ends (slots_in other)) settled_one.slots.longest
       (subst (λ ls. IsLongest ls (ends (slots_in other))) (sym labels) settled_other.slots.longest) p within)
 
   same_ends : (p : ℕ) → p < length (labels_in one) → ends (slots_in one) p ≡ ends (slots_in other) p

@@ -1,17 +1,14 @@
 -- A tile has one view.
-use Rattle.std.proofs.Common.{◌≡◌, ℕ, ◌*◌, ◌^◌, ◌%◌, ◌<◌, ◌≤◌, Bool, true, false, ◌∙◌, ap, sym, subst, arith, rules}
+use Rattle.std.proofs.Common.{◌≡◌, ℕ, ◌*◌, ◌^◌, ◌%◌, ◌<◌, ◌≤◌, Bool, true, false, ◌∙◌, ap, sym, subst, rules}
 use Rattle.std.specs.Prelude.{MatchBool}
 use Rattle.std.specs.Bool.{IsTrue}
-use Rattle.std.specs.Ordering.{nat_cmp}
-use Rattle.std.specs.declared.cmp.Ordering.TheVariants.{Equal}
 use Rattle.std.proofs.lemmas.Bool.{false≢true}
-use Rattle.std.proofs.lemmas.Bool.Decides.{nat_tests}
 use Rattle.std.proofs.Props.{props}
 use mathlib.Core.HLevel.{is_prop→PathP}
 use Rattle.ml_ratio.specs.Fraction.{value_of}
-use Rattle.ml_ratio.specs.RatioExact.{ratio_exact}
 use Rattle.ml_ratio.specs.World.{IsInWorld}
 use Rattle.ml_ratio.specs.declared.ratio.Ratio.{Ratio}
+use Rattle.ml_ratio.proofs.lemmas.Intervals.{equal_ratio}
 use Rattle.ml_cone.specs.Range.{ActiveBetween}
 use Rattle.ml_cone.specs.Shown.{IsInView}
 use Rattle.ml_cone.specs.declared.label.Label.{Label}
@@ -21,11 +18,8 @@ use Rattle.ml_tile.specs.Cache.{ShowsIn}
 use Rattle.ml_tile.specs.Tile.{IsTileView}
 use Rattle.ml_tile.specs.declared.key.TileKey.{TileKey}
 
-same_cmp : (p q : ℕ) → p ≡ q → nat_cmp p q ≡ Equal
-same_cmp p q e = grind (arith, nat_tests)
-
 same_ratio : (a b : Ratio) → a.num ≡ b.num → a.den ≡ b.den → a ≡ b
-same_ratio a b n d = ratio_exact a b (same_cmp (a.num * b.den) (b.num * a.den) (ap (λ (k : ℕ). k * b.den) n ∙ ap (λ (k : ℕ). b.num * k) (sym d)))
+same_ratio a b n d = equal_ratio a b (ap (λ (k : ℕ). k * b.den) n ∙ ap (λ (k : ℕ). b.num * k) (sym d))
 
 -- views with the same parts are the same: each fact of theirs has one proof at most
 by_parts : (v u : View) → v.cx ≡ u.cx → v.cy ≡ u.cy → v.w ≡ u.w → v.h ≡ u.h → v.scale ≡ u.scale → v ≡ u

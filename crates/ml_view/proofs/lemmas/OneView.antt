@@ -1,28 +1,18 @@
 -- Words write one view.
 use Rattle.std.proofs.Common.{◌≡◌, ℕ, ℤ, pos, ◌*◌, ◌^◌, ◌%◌, ◌<◌, ◌≤◌, List, Option, Some, None, sym, ap, ◌∙◌, arith}
-use Rattle.std.specs.Ordering.{nat_cmp}
 use Rattle.std.specs.Prelude.{MatchOption}
-use Rattle.std.specs.declared.cmp.Ordering.TheVariants.{Equal}
 use Rattle.std.proofs.Props.{props}
 use Rattle.std.proofs.Math.Nat.{eq_of_mul-eq-mul_right}
-use Rattle.std.proofs.lemmas.Bool.Decides.{nat_tests}
 use mathlib.Core.HLevel.{is_prop→PathP}
 use Rattle.ml_ratio.specs.Fraction.{value_of, IsSame}
 use Rattle.ml_ratio.specs.Number.{whole_number}
 use Rattle.ml_ratio.specs.Ratio.{IsRatioOf}
-use Rattle.ml_ratio.specs.RatioExact.{ratio_exact}
 use Rattle.ml_ratio.specs.RatioText.{ratio_parts}
 use Rattle.ml_ratio.specs.World.{IsInWorld}
 use Rattle.ml_ratio.specs.declared.ratio.Ratio.{Ratio}
+use Rattle.ml_ratio.proofs.lemmas.Intervals.{equal_ratio}
 use Rattle.ml_cone.specs.declared.view.View.{View}
 use Rattle.ml_view.specs.Words.{WritesView}
-
-same_numbers : (p q : ℕ) → p ≡ q → nat_cmp p q ≡ Equal
-same_numbers p q e = grind (arith, nat_tests)
-
--- equal values are one ratio
-pub same_ratio : (a b : Ratio) → IsSame (value_of a) (value_of b) → a ≡ b
-same_ratio a b e = ratio_exact a b (same_numbers (a.num * b.den) (b.num * a.den) e)
 
 -- a word writes one number, and one fraction
 pub one_whole : (word : Option ℤ) (y z : ℤ) → word ≡ Some y → word ≡ Some z → y ≡ z
@@ -70,4 +60,4 @@ one_view cx cy w h s v u first second =
     (one_whole (whole_number cy) v.cy u.cy first.cy_is.0 second.cy_is.0)
     (one_side (whole_number w) v.w u.w first.w_is.0 second.w_is.0)
     (one_side (whole_number h) v.h u.h first.h_is.0 second.h_is.0)
-    (same_ratio v.scale u.scale (same_value (ratio_parts s) v.scale u.scale first.scale_is.reads second.scale_is.reads))
+    (equal_ratio v.scale u.scale (same_value (ratio_parts s) v.scale u.scale first.scale_is.reads second.scale_is.reads))

@@ -1,7 +1,7 @@
 use Rattle.std.proofs.Common.{arith}
 use Rattle.ml_ratio.specs.Fraction.{IsLess, value_of}
 use Rattle.ml_ratio.proofs.lemmas.Fractions.{less_at_most, at_most_less, less_trans}
-use Rattle.ml_flight.proofs.StayFacts.{from_least, from_above}
+use Rattle.ml_ratio.proofs.lemmas.Intervals.{from_least, from_above}
 use Rattle.ml_flight.proofs.stay.Stay.above.Goals as goal
 
 pub returns-then-is_less : goal.returns-then-is_less
