@@ -1,13 +1,15 @@
 mod Different
 mod Endings
 mod Orders
-mod Turning
+mod Rings
 mod Lists
 mod ByName
 mod Naming
 mod SortedNames
 mod Tables
+mod Shelves
 mod Fresh
+mod Listing
 mod Gathered
 mod Index
 mod Finding

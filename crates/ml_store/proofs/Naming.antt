@@ -4,10 +4,7 @@ use Rattle.std.specs.Prelude.{remove}
 use Rattle.std.proofs.lemmas.List.{get_or_default, get_or-map, length-map}
 use Rattle.ml_store.specs.Rows.{numbers_in, number_at, HaveOwnNumbers}
 use Rattle.ml_store.specs.Names.{Name, naming_of, names_in}
-use Rattle.ml_store.specs.Boxes.{unboxed}
 use Rattle.ml_store.specs.declared.row.Row.{Row}
-use Rattle.std.specs.declared.alloc.Global.{Global}
-use Rattle.std.specs.Prelude.{Box, box_value}
 use Rattle.ml_store.proofs.ByName.{AreUnique}
 use Rattle.ml_ratio.proofs.lemmas.Lists.{contains_map, map_contains, map_remove, removed_gone, same_place}
 use Rattle.std.proofs.lemmas.Simd.{map-map}
@@ -32,10 +29,6 @@ same_name rows at r name differ lt read same there =
     let e : at ≡ k = same_place (numbers_in rows) at k 0 differ (omega arith) (omega arith) (a ∙ same ∙ sym n ∙ sym b) in
     let q : r ≡ s = read ∙ ap (λ i. get_or rows i r) e ∙ get_or_default rows k r s in' ∙ is in
     ap naming_of q ∙ some.2
-
--- what is read from a box
-pub boxed_read : (boxes : List (Box Row Global)) (at : ℕ) (b : Box Row Global) (r : Row) → at < length boxes → b ≡ get_or boxes at b → r ≡ b.value → r ≡ get_or (unboxed boxes) at r
-boxed_read boxes at b r lt read e = e ∙ ap box_value read ∙ sym (get_or-map box_value boxes at b r lt)
 
 -- the number of a row that is read
 pub number_read : (rows : List Row) (at : ℕ) (r : Row) → at < length rows → r ≡ get_or rows at r → number_at rows at ≡ r.number

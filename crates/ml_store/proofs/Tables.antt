@@ -1,12 +1,10 @@
 -- The table as rows come, go and get other slots.
 use Rattle.std.proofs.Common.{◌≡◌, ℕ, zero, suc, ◌<◌, List, [], ◌∷◌, length, get_or, set, Contains, refl, sym, ap, ◌∙◌, arith}
-use Rattle.std.specs.Prelude.{insert, remove, Box, box_value, Option, Some, None, MatchOption}
+use Rattle.std.specs.Prelude.{insert, remove, Option, Some, None, MatchOption}
 use Rattle.ml_store.specs.Numbers.{IsAt}
-use Rattle.std.specs.declared.alloc.Global.{Global}
-use Rattle.std.proofs.lemmas.List.{get_or-map, length-map, map-set}
+use Rattle.std.proofs.lemmas.List.{length-map}
 use Rattle.ml_ratio.specs.Lists.{IsAdded}
 use Rattle.ml_cone.specs.declared.slot.Slot.{Slot}
-use Rattle.ml_store.specs.Boxes.{unboxed}
 use Rattle.ml_store.specs.Rows.{numbers_in, labels_in, HasId, IsFresh, IsNumberOf}
 use Rattle.ml_store.specs.Numbered.{AreNumbered}
 use Rattle.ml_store.specs.Names.{Name, naming_of, names_in, AreByName, HaveId}
@@ -14,21 +12,18 @@ use Rattle.ml_store.specs.Table.{IsTable, IsRowAt, with_slot, slot_at}
 use Rattle.ml_store.specs.declared.row.Row.{Row}
 use Rattle.ml_ratio.proofs.lemmas.Lists.{contains_map, map_contains, map_insert, map_remove, added_insert}
 
--- when a row, its number and its name come in, the numbers are still those of the rows, in their order and in byte order of ids
-pub table_in : (rows : List Row) (numbers ids ids' : List ℕ) (at : ℕ) (r : Row) → IsTable rows numbers ids → AreNumbered (insert rows at r) →
-    ((names : List Name) → IsAdded (naming_of r) (names_in rows) names → AreByName names ids') → IsTable (insert rows at r) (insert numbers at r.number) ids'
-table_in rows numbers ids ids' at r t numbered by = record {
+-- when a row and its name come in, the numbers are still those of the rows in byte order of ids
+pub table_in : (rows : List Row) (ids' : List ℕ) (at : ℕ) (r : Row) → AreNumbered (insert rows at r) →
+    ((names : List Name) → IsAdded (naming_of r) (names_in rows) names → AreByName names ids') → IsTable (insert rows at r) ids'
+table_in rows ids' at r numbered by = record {
   numbered = numbered;
-  numbers_are = ap (λ ns. insert ns at r.number) t.numbers_are ∙ sym (map_insert (λ (s : Row). s.number) rows at r);
   by_name = rw (map_insert naming_of rows at r) (by (insert (names_in rows) at (naming_of r)) (added_insert (names_in rows) at (naming_of r)));
 }
 
--- when a row, its number and its name go, the numbers are still those of the rows, in their order and in byte order of ids
-pub table_out : (rows : List Row) (numbers ids ids' : List ℕ) (at : ℕ) → IsTable rows numbers ids →
-    AreNumbered (remove rows at) → AreByName (remove (names_in rows) at) ids' → IsTable (remove rows at) (remove numbers at) ids'
-table_out rows numbers ids ids' at t numbered by = record {
+-- when a row and its name go, the numbers are still those of the rows in byte order of ids
+pub table_out : (rows : List Row) (ids' : List ℕ) (at : ℕ) → AreNumbered (remove rows at) → AreByName (remove (names_in rows) at) ids' → IsTable (remove rows at) ids'
+table_out rows ids' at numbered by = record {
   numbered = numbered;
-  numbers_are = ap (λ ns. remove ns at) t.numbers_are ∙ sym (map_remove (λ (s : Row). s.number) rows at);
   by_name = rw (map_remove naming_of rows at) by;
 }
 
@@ -62,25 +57,20 @@ length-with_slot [] i slot = refl
 length-with_slot (r ∷ rows) zero slot = refl
 length-with_slot (r ∷ rows) (suc i) slot = ap suc (length-with_slot rows i slot)
 
--- when a row gets another slot, the numbers are still those of the rows, in their order and in byte order of ids
-pub table_moved : (rows : List Row) (numbers ids : List ℕ) (at : ℕ) (slot : Slot) → IsTable rows numbers ids → IsTable (with_slot rows at slot) numbers ids
-table_moved rows numbers ids at slot t = record {
-  numbered = record {
-    few = (let n = length-with_slot rows at slot in let m = t.numbered.few in omega arith);
-    differ = rw (numbers-with_slot rows at slot) t.numbered.differ;
-    low = rw (numbers-with_slot rows at slot) t.numbered.low;
-  };
-  numbers_are = t.numbers_are ∙ sym (numbers-with_slot rows at slot);
-  by_name = rw (names-with_slot rows at slot) t.by_name;
+-- when a row gets another slot, each still has a low number of its own
+pub numbered_moved : (rows : List Row) (at : ℕ) (slot : Slot) → AreNumbered rows → AreNumbered (with_slot rows at slot)
+numbered_moved rows at slot numbered = record {
+  few = (let n = length-with_slot rows at slot in let m = numbered.few in omega arith);
+  differ = rw (numbers-with_slot rows at slot) numbered.differ;
+  low = rw (numbers-with_slot rows at slot) numbered.low;
 }
 
--- the box at a place gets a row with another slot
-pub boxes_moved : (boxes : List (Box Row Global)) (at : ℕ) (b : Box Row Global) (r : Row) (slot : Slot) → at < length boxes → b ≡ get_or boxes at b → r ≡ b.value →
-    unboxed (set boxes at (record b { value = record r { slot = slot } })) ≡ with_slot (unboxed boxes) at slot
-boxes_moved boxes at b r slot lt read is =
-    let n = length-map boxes box_value in
-    let e : r ≡ get_or (unboxed boxes) at r = is ∙ ap box_value read ∙ sym (get_or-map box_value boxes at b r lt) in
-    map-set box_value boxes at (record b { value = record r { slot = slot } }) ∙ with_slot_is (unboxed boxes) at r slot (omega arith) e
+-- when a row gets another slot, the numbers are still those of the rows in byte order of ids
+pub table_moved : (rows : List Row) (ids : List ℕ) (at : ℕ) (slot : Slot) → IsTable rows ids → IsTable (with_slot rows at slot) ids
+table_moved rows ids at slot t = record {
+  numbered = numbered_moved rows at slot t.numbered;
+  by_name = rw (names-with_slot rows at slot) t.by_name;
+}
 
 -- ---- ids of labels and of names
 

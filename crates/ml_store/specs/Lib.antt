@@ -1,10 +1,12 @@
 pub mod Rows
 pub mod Numbered
 pub mod Pairs
+pub mod Tiers
 pub mod Numbers
 pub mod Names
 pub mod Named
 pub mod Boxes
+pub mod Shelf
 pub mod Table
 pub mod Store
 pub mod Search

@@ -2,7 +2,7 @@
 use Rattle.std.specs.Prelude.{ℕ, zero, suc, ◌≡◌, ◌<◌, List, [], ◌∷◌, length, slice_index_or, Option, MatchOption}
 use Rattle.ml_cone.specs.Slots.{no_slot}
 use Rattle.ml_cone.specs.declared.slot.Slot.{Slot}
-use Rattle.ml_store.specs.Rows.{numbers_in, slots_in, number_at, IsFresh}
+use Rattle.ml_store.specs.Rows.{slots_in, number_at, IsFresh}
 use Rattle.ml_store.specs.Numbered.{AreNumbered}
 use Rattle.ml_store.specs.Names.{names_in, AreByName}
 use Rattle.ml_store.specs.declared.row.Row.{Row}
@@ -30,8 +30,7 @@ with_slot [] i slot = []
 with_slot (r ∷ rows) zero slot = record r { slot = slot } ∷ rows
 with_slot (r ∷ rows) (suc i) slot = r ∷ with_slot rows i slot
 
--- the rows are not too many, each with a low number of its own, and the numbers in use are those of the rows, in their order and in byte order of ids
-pub record IsTable (rows : List Row) (numbers ids : List ℕ) : Type 0 where
+-- the rows are not too many, each with a low number of its own, and the numbers stand in byte order of ids too
+pub record IsTable (rows : List Row) (ids : List ℕ) : Type 0 where
   pub numbered : AreNumbered rows
-  pub numbers_are : numbers ≡ numbers_in rows
   pub by_name : AreByName (names_in rows) ids
