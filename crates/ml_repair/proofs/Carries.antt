@@ -1,21 +1,19 @@
 -- How a plan's rows come about, step by step.
-use Rattle.std.proofs.Common.{◌≡◌, ◌≢◌, ℕ, zero, suc, ◌+◌, ◌<◌, ◌≤◌, List, [], ◌∷◌, length, get_or, Contains, inl, inr, refl, sym, ap, ◌∙◌, subst, arith, Bool, true, false, drop}
+use Rattle.std.proofs.Common.{◌≡◌, ℕ, suc, ◌+◌, ◌<◌, ◌≤◌, List, [], ◌∷◌, length, get_or, Contains, inl, inr, refl, sym, ap, ◌∙◌, subst, arith, Bool, true, false}
 use Rattle.std.specs.Prelude.{insert, All, if◌then◌else◌}
 use Rattle.std.specs.Ordering.{is_lt}
 use Rattle.std.proofs.lemmas.Bool.{cases_lt}
-use Rattle.std.proofs.lemmas.List.{get_or_default, get_or-map, length-map}
+use Rattle.std.proofs.lemmas.List.{get_or_default, length-map}
 use Rattle.std.proofs.lemmas.List.Edits.{length-insert, get_or-insert_below, get_or-insert_at, get_or-insert_above}
 use Rattle.ml_cone.specs.Label.{IsLabelList}
 use Rattle.ml_cone.specs.Order.{order_cmp}
 use Rattle.ml_cone.specs.declared.label.Label.{Label}
-use Rattle.ml_cone.specs.declared.slot.Slot.{Slot}
-use Rattle.ml_store.specs.Rows.{numbers_in, labels_in, number_at, HasId, IsFresh, HaveOwnNumbers, AreDifferent}
-use Rattle.ml_store.specs.Table.{IsRowAt, with_slot}
+use Rattle.ml_store.specs.Rows.{numbers_in, labels_in, HasId, AreDifferent}
 use Rattle.ml_store.specs.declared.row.Row.{Row}
 use Rattle.ml_watch.specs.declared.change.Change.{Change}
 use Rattle.ml_store.specs.Rows.{Stored}
 use Rattle.ml_repair.specs.Carry.{CanComeIn, HasRoomIn, gone_count}
-use Rattle.ml_repair.specs.Plan.{Planned, HasRoom, room_of, moved_row, moved_rows, moved_pairs, with_row, rows_with, kept_rows, planned_rows}
+use Rattle.ml_repair.specs.Plan.{Planned, HasRoom, room_of, moved_rows, moved_pairs, with_row, rows_with, kept_rows, planned_rows}
 use Rattle.ml_repair.specs.declared.edit.LabelEdit.{LabelEdit}
 use Rattle.ml_repair.specs.declared.edit.LabelEdit.TheVariants.{Add, Remove, Replace}
 use Rattle.ml_repair.specs.Settled.{IsSettled}
@@ -23,7 +21,7 @@ use Rattle.ml_store.specs.declared.moved.Moved.{Moved}
 use Rattle.ml_repair.proofs.Edited.{remove_insert}
 use Rattle.ml_repair.proofs.Placing.{list_remove}
 use Rattle.ml_repair.proofs.Present.{length-labels}
-use Rattle.ml_ratio.proofs.lemmas.Lists.{map_insert, same_place}
+use Rattle.ml_ratio.proofs.lemmas.Lists.{map_insert}
 
 -- ---- the label that comes
 

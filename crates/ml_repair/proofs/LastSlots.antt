@@ -1,5 +1,5 @@
 -- The new slots that an edit leaves, without those that labels have already.
-use Rattle.std.proofs.Common.{◌≡◌, ◌≢◌, ℕ, suc, ◌+◌, ◌<◌, ◌≤◌, List, [], ◌∷◌, ◌++◌, length, get_or, take, map, Contains, ◌⊎◌, inl, inr, refl, sym, ap, ◌∙◌, subst, arith, length-append}
+use Rattle.std.proofs.Common.{◌≡◌, ◌≢◌, ℕ, suc, ◌+◌, ◌<◌, ◌≤◌, List, [], ◌∷◌, ◌++◌, length, get_or, take, Contains, inl, inr, refl, sym, ap, ◌∙◌, subst, arith, length-append}
 use Rattle.std.specs.Prelude.{◌==◌, not, Bool, true, false, MatchBool, if◌then◌else◌}
 use Rattle.std.proofs.lemmas.Bool.{cases_eq}
 use Rattle.std.proofs.lemmas.List.{get_or_default, get_or-map, get_or-take, length-map, length-take-le, map-append, take_more, take_all, take-map}
@@ -12,7 +12,7 @@ use Rattle.ml_store.specs.declared.moved.Moved.{Moved}
 use Rattle.ml_store.specs.declared.row.Row.{Row}
 use Rattle.ml_store.proofs.lemmas.Moved.{if_same, if_other}
 use Rattle.ml_repair.specs.Moves.{numbers_of}
-use Rattle.ml_repair.specs.Plan.{slot_for, moved_row, moved_rows, IsNewIn, AreNewIn}
+use Rattle.ml_repair.specs.Plan.{slot_for, moved_row, moved_rows, IsNewIn}
 use Rattle.ml_repair.proofs.Moving.{slot_kept, slot_push}
 use Rattle.ml_repair.proofs.OneRow.{one_number}
 

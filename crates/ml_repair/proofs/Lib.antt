@@ -11,6 +11,7 @@ mod Carrying
 mod Enough
 mod Unhit
 mod Repairing
+mod Words
 mod Waking
 mod RepairSteps
 mod Joined

@@ -1,11 +1,10 @@
 -- Later rivals, and labels that wait.
-use Rattle.std.proofs.Common.{◌≡◌, ◌≢◌, ℕ, ◌+◌, ◌<◌, ◌≤◌, ◌⊎◌, Bool, false, List, [], ◌∷◌, ◌++◌, length, get_or, take, max, min, Contains, inl, inr, sym, subst, arith}
+use Rattle.std.proofs.Common.{◌≡◌, ◌≢◌, ℕ, ◌+◌, ◌<◌, ◌≤◌, ◌⊎◌, Bool, false, List, [], ◌∷◌, length, get_or, take, max, min, Contains, inl, inr, sym, subst, arith}
 use Rattle.std.specs.Prelude.{◌↔◌, All, IsTrue}
 use Rattle.std.proofs.lemmas.Bool.{cases_lt, cases_eq}
 use Rattle.std.proofs.lemmas.List.{get_or_default, take_more}
-use Rattle.std.proofs.lemmas.List.Elements.{All-contains, Contains-append_left, Contains-append_right, Contains-append_cases, Contains-push, Contains-push_cases}
+use Rattle.std.proofs.lemmas.List.Elements.{Contains-append_left, Contains-push, Contains-push_cases}
 use Rattle.ml_ratio.specs.Fraction.{Fraction, value_of}
-use Rattle.ml_ratio.specs.declared.ratio.Ratio.{Ratio}
 use Rattle.ml_ratio.specs.Band.{IsInBand}
 use Rattle.ml_cone.specs.Rivals.{AreRivals}
 use Rattle.ml_cone.specs.Cell.{IsLastBand}
@@ -13,11 +12,12 @@ use Rattle.ml_cone.specs.Outline.{LastCell, RivalBand}
 use Rattle.ml_cone.specs.Overlap.{Overlap, BoxesOverlap}
 use Rattle.ml_cone.specs.Slots.{ends}
 use Rattle.ml_cone.specs.declared.label.Label.{Label}
-use Rattle.ml_store.specs.Rows.{labels_in, slots_in}
+use Rattle.ml_store.specs.Rows.{labels_in}
 use Rattle.ml_store.specs.declared.row.Row.{Row}
 use Rattle.ml_repair.specs.Roster.{AreFound, IsFoundAt, AreMet, OverlapsAt}
 use Rattle.ml_repair.specs.Repair.{AreSuspects, IsWokenBy, AreWoken}
 use Rattle.ml_repair.specs.Touched.{IsRivalBefore}
+use Rattle.ml_repair.specs.Waiting.{AllWait}
 use Rattle.ml_repair.proofs.Gathering.{band_from}
 use Rattle.ml_repair.proofs.NearRosters.{EndsFrom, last_after}
 use Rattle.ml_repair.proofs.Present.{length-labels}
@@ -180,6 +180,18 @@ pub idle_more : (labels : List Label) (i : ℕ) (before mid after : List Bool) (
 idle_more labels i before mid after k so_far here others =
     woken_more labels i before (λ m. m < k) (λ m. m < k + 1) k mid after so_far here others
     (λ m h. elim (cases_lt m k) [ inl less ↦ inl less | inr more ↦ inr (omega arith) ]) (λ m h. omega arith) (omega arith)
+
+-- labels that wait are passed over
+pub waiting_more : (labels : List Label) (i : ℕ) (before after : List Bool) (k n : ℕ) → k ≤ n → IsWokenBy labels i (λ m. m < k) before after →
+    AllWait after k n → IsWokenBy labels i (λ m. m < n) before after
+waiting_more labels i before after k n le so_far waits m m_in =
+    let s = so_far m m_in in (
+      λ h. elim (s.0 h) [ inl was ↦ inl was | inr r ↦ inr (omega (arith, r.0), r.1) ],
+      λ h. elim h [
+        | inl was ↦ s.1 (inl was)
+        | inr r ↦ elim (cases_lt m k) [ inl less ↦ s.1 (inr (less, r.1)) | inr more ↦ waits m more r.0 ]
+      ],
+    )
 
 -- all labels, or all suspects, are enough
 pub woken_all : (rows : List Row) (i k : ℕ) (before after : List Bool) → length rows ≤ k → IsWokenBy (labels_in rows) i (λ m. m < k) before after → AreWoken rows i before after

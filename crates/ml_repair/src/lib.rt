@@ -8,8 +8,8 @@
 //!
 //! Within: `gather`, `sought`, `chosen` and `settle` find the rivals of one label and evaluate it, `kept`
 //! where its blocker stays; `wake`, `waiting`, `repair` and `pass` go through the labels that an edit touches;
-//! `roster`, `moves`, `lasting`, `place` and `planning` are what a plan is made of; `carry`, `build`, `shown` and
-//! `read` carry it out, build an engine and tell of its labels.
+//! `roster`, `rows`, `moves`, `lasting`, `place` and `planning` are what a plan is made of; `carry`, `build`,
+//! `shown` and `read` carry it out, build an engine and tell of its labels.
 #![tactic(auto)]
 
 mod build;
@@ -31,6 +31,7 @@ mod read;
 mod repair;
 pub mod room;
 mod roster;
+mod rows;
 mod settle;
 mod shown;
 mod sought;

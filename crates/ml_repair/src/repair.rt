@@ -18,7 +18,7 @@ use crate::kept::settle_again;
 use crate::moves::Moves;
 use crate::roster::Roster;
 use crate::sought::Edited;
-use crate::waiting::{next_waiting, none_waits};
+use crate::waiting::Waiting;
 use crate::wake::{wake, wake_more};
 use ml_cone::Slot;
 use ml_conflict::laws::{carried, rivals_or_free, smaller_ends};
@@ -103,19 +103,19 @@ fn note(
     alloc: Global,
     roster: &Roster<'_>,
     i: usize,
-    waits: &mut Vec<bool>,
+    waiting: &mut Waiting,
     changed: &mut Vec<u32>,
 ) -> Result<(), AllocError>
-    requires one_each { length waits.old.items ≡ length roster.now }
+    requires one_each { length waiting.old ≡ length roster.now }
     requires is_place { i < length roster.now }
     requires low { i < most_labels }
-    ensures one_each { IfOk result (λ _. length waits.new.items ≡ length roster.now) }
+    ensures one_each { IfOk result (λ _. length waiting.new ≡ length roster.now) }
     ensures woken { IfOk result (λ _. (k : ℕ) → k < length roster.now →
-        IsTrue (slice_index_or waits.new.items k false) ↔ (IsTrue
-        (slice_index_or waits.old.items k false) ⊎ IsRivalBefore (labels_in roster.now) i k)) }
+        IsTrue (slice_index_or waiting.new k false) ↔ (IsTrue
+        (slice_index_or waiting.old k false) ⊎ IsRivalBefore (labels_in roster.now) i k)) }
     ensures noted { IfOk result (λ _. changed.new.items ≡ changed.old.items ++ i ∷ []) }
 {
-    wake_more(alloc, roster, changed.len() > FEW_WOKE, i, waits)?;
+    wake_more(alloc, roster, changed.len() > FEW_WOKE, i, waiting)?;
     changed.push(i as u32)?;
     Ok(())
 }
@@ -152,20 +152,20 @@ pub fn repair<L: Ledger>(
     rivals_or_free();
     let many = roster.len();
     let edited = Edited { at, comes };
-    let mut waits = none_waits(alloc, many)?;
+    let mut waiting = Waiting::none(alloc, many)?;
     let mut changed = first_changed(alloc, at, comes)?;
-    wake(alloc, roster, at, &mut waits)?;
+    wake(alloc, roster, at, &mut waiting)?;
     let mut evaluated = if comes { 1 } else { 0 };
     let mut i = at + 1;
     while i < many {
-        if waits[i] {
+        if waiting.has(i) {
             if renew(alloc, roster, moves, &changed, edited, i, steps)? {
-                note(alloc, roster, i, &mut waits, &mut changed)?;
+                note(alloc, roster, i, &mut waiting, &mut changed)?;
             }
             evaluated += 1;
             i += 1;
         } else {
-            i = next_waiting(&waits, i);
+            i = waiting.next(i);
         }
     }
     Ok(evaluated)

@@ -5,6 +5,7 @@ ghost use Rattle.ml_repair.specs.Touched.{IsRivalBefore};
 ghost use Rattle.ml_store.specs.Rows.{labels_in};
 
 use crate::roster::{Roster, no_places};
+use crate::waiting::Waiting;
 use ml_cone::laws::{rivals_overlap, rivals_share};
 use ml_cone::{Label, last_band};
 use ml_conflict::are_rivals;
@@ -58,61 +59,63 @@ fn is_later_rival(roster: &Roster<'_>, i: usize, k: usize) -> bool
 }
 
 // The label at `k` waits from now on, if it is a later rival of that at `i`. One that waits is not asked.
-fn wake_one(roster: &Roster<'_>, i: usize, k: usize, waits: &mut Vec<bool>)
-    requires one_each { length waits.old.items ≡ length roster.now }
+fn wake_one(roster: &Roster<'_>, i: usize, k: usize, waiting: &mut Waiting)
+    requires one_each { length waiting.old ≡ length roster.now }
     requires is_place { i < length roster.now }
     requires k_is_place { k < length roster.now }
-    ensures one_each { length waits.new.items ≡ length roster.now }
-    ensures woken { IsTrue (slice_index_or waits.new.items k false) ↔ (IsTrue
-        (slice_index_or waits.old.items k false) ⊎ IsRivalBefore (labels_in roster.now) i k) }
+    ensures one_each { length waiting.new ≡ length roster.now }
+    ensures woken { IsTrue (slice_index_or waiting.new k false) ↔ (IsTrue
+        (slice_index_or waiting.old k false) ⊎ IsRivalBefore (labels_in roster.now) i k) }
     ensures others { (m : ℕ) → m ≢ k →
-        slice_index_or waits.new.items m false ≡ slice_index_or waits.old.items m false }
+        slice_index_or waiting.new m false ≡ slice_index_or waiting.old m false }
 {
-    if waits[k] {
+    if waiting.has(k) {
         return;
     }
     if is_later_rival(roster, i, k) {
-        waits[k] = true;
+        waiting.wake(k);
     }
 }
 
 // Those of the places whose labels are later rivals of that at `i` wait from now on.
-fn wake_among(roster: &Roster<'_>, places: &[u32], i: usize, waits: &mut Vec<bool>)
-    requires one_each { length waits.old.items ≡ length roster.now }
+fn wake_among(roster: &Roster<'_>, places: &[u32], i: usize, waiting: &mut Waiting)
+    requires one_each { length waiting.old ≡ length roster.now }
     requires is_place { i < length roster.now }
     requires in_roster { All (λ p. p < length roster.now) places.now }
-    ensures one_each { length waits.new.items ≡ length roster.now }
+    ensures one_each { length waiting.new ≡ length roster.now }
     ensures woken { IsWokenBy (labels_in roster.now) i
-        (Contains places.now) waits.old.items waits.new.items }
+        (Contains places.now) waiting.old waiting.new }
 {
     for place in places {
-        wake_one(roster, i, *place as usize, waits);
+        wake_one(roster, i, *place as usize, waiting);
     }
 }
 
 // The later rivals of the label at `i` wait from now on. Each later label that does not wait is asked.
-fn wake_idle(roster: &Roster<'_>, i: usize, waits: &mut Vec<bool>)
-    requires one_each { length waits.old.items ≡ length roster.now }
+fn wake_idle(roster: &Roster<'_>, i: usize, waiting: &mut Waiting)
+    requires one_each { length waiting.old ≡ length roster.now }
     requires is_place { i < length roster.now }
-    ensures one_each { length waits.new.items ≡ length roster.now }
-    ensures woken { AreWoken roster.now i waits.old.items waits.new.items }
+    ensures one_each { length waiting.new ≡ length roster.now }
+    ensures woken { AreWoken roster.now i waiting.old waiting.new }
 {
-    let many = waits.len();
-    for k in (i + 1)..many {
-        wake_one(roster, i, k, waits);
+    let many = waiting.len();
+    let mut k = waiting.next_idle(i + 1);
+    while k < many {
+        wake_one(roster, i, k, waiting);
+        k = waiting.next_idle(k + 1);
     }
 }
 
-// Whether few of the labels from `from` on are idle: fewer than a quarter of some that are spread over them.
-fn are_few_idle(waits: &[bool], from: usize) -> bool
-    requires { from ≤ length waits.now }
+// Whether few of the labels behind that at `i` are idle: fewer than a quarter of some that are spread over them.
+fn are_few_idle(waiting: &Waiting, i: usize) -> bool
+    requires { i < length waiting.now }
 {
-    let later = &waits[from..];
-    let apart = later.len() / ASKED + 1;
+    let many = waiting.len();
+    let mut at = i + 1;
+    let apart = (many - at) / ASKED + 1;
     let mut idle = 0;
-    let mut at = 0;
-    while at < later.len() {
-        if !later[at] {
+    while at < many {
+        if !waiting.has(at) {
             idle += 1;
         }
         at += apart;
@@ -128,16 +131,16 @@ pub fn wake(
     alloc: Global,
     roster: &Roster<'_>,
     i: usize,
-    waits: &mut Vec<bool>,
+    waiting: &mut Waiting,
 ) -> Result<(), AllocError>
-    requires one_each { length waits.old.items ≡ length roster.now }
+    requires one_each { length waiting.old ≡ length roster.now }
     requires is_place { i < length roster.now }
-    ensures one_each { length waits.new.items ≡ length roster.now }
-    ensures woken { IfOk result (λ _. AreWoken roster.now i waits.old.items waits.new.items) }
+    ensures one_each { length waiting.new ≡ length roster.now }
+    ensures woken { IfOk result (λ _. AreWoken roster.now i waiting.old waiting.new) }
 {
     let row = roster.row(i);
     let places = suspects(alloc, roster, &row.label)?;
-    wake_among(roster, places.as_slice(), i, waits);
+    wake_among(roster, places.as_slice(), i, waiting);
     Ok(())
 }
 
@@ -146,16 +149,16 @@ fn wake_near(
     alloc: Global,
     roster: &Roster<'_>,
     i: usize,
-    waits: &mut Vec<bool>,
+    waiting: &mut Waiting,
 ) -> Result<(), AllocError>
-    requires one_each { length waits.old.items ≡ length roster.now }
+    requires one_each { length waiting.old ≡ length roster.now }
     requires is_place { i < length roster.now }
-    ensures one_each { length waits.new.items ≡ length roster.now }
-    ensures woken { IfOk result (λ _. AreWoken roster.now i waits.old.items waits.new.items) }
+    ensures one_each { length waiting.new ≡ length roster.now }
+    ensures woken { IfOk result (λ _. AreWoken roster.now i waiting.old waiting.new) }
 {
     let row = roster.row(i);
     let places = near_suspects(alloc, roster, &row.label)?;
-    wake_among(roster, places.as_slice(), i, waits);
+    wake_among(roster, places.as_slice(), i, waiting);
     Ok(())
 }
 
@@ -169,20 +172,20 @@ pub fn wake_more(
     roster: &Roster<'_>,
     many: bool,
     i: usize,
-    waits: &mut Vec<bool>,
+    waiting: &mut Waiting,
 ) -> Result<(), AllocError>
-    requires one_each { length waits.old.items ≡ length roster.now }
+    requires one_each { length waiting.old ≡ length roster.now }
     requires is_place { i < length roster.now }
-    ensures one_each { length waits.new.items ≡ length roster.now }
-    ensures woken { IfOk result (λ _. AreWoken roster.now i waits.old.items waits.new.items) }
+    ensures one_each { length waiting.new ≡ length roster.now }
+    ensures woken { IfOk result (λ _. AreWoken roster.now i waiting.old waiting.new) }
 {
-    if are_few_idle(waits, i + 1) {
-        wake_idle(roster, i, waits);
+    if are_few_idle(waiting, i) {
+        wake_idle(roster, i, waiting);
         return Ok(());
     }
     if many {
-        wake_near(alloc, roster, i, waits)
+        wake_near(alloc, roster, i, waiting)
     } else {
-        wake(alloc, roster, i, waits)
+        wake(alloc, roster, i, waiting)
     }
 }

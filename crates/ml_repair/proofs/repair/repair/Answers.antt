@@ -1,6 +1,6 @@
 use Rattle.std.proofs.Common.{◌≡◌, ℕ, ◌+◌, ◌-◌, ◌<◌, ◌≤◌, ◌≢◌, arith, get_or, refl, sym, subst, ap, ◌∙◌, length, true, false, inl, inr, replicate}
 use Rattle.std.specs.Prelude.{IsTrue}
-use Rattle.std.proofs.lemmas.List.{get_or_read, get_or-replicate}
+use Rattle.std.proofs.lemmas.List.{get_or-replicate}
 use Rattle.std.proofs.lemmas.List.{length-map}
 use Rattle.ml_store.specs.Rows.{numbers_in, number_at, labels_in}
 use Rattle.ml_store.specs.declared.row.Row.{Row}
@@ -24,10 +24,10 @@ loop-i-init g c =
     let old = present_slots rows c.args.moves.now in
     let many = length-labels rows in
     let at_in : c.args.at < length labels = omega arith in
-    let off : c.in_ok-waits.waits.items ≡ replicate (length rows) false = rw c.len-many.ensures.count at c.in_ok-waits.ensures in
-    let idle : (k : ℕ) → k < length rows → get_or c.in_ok-waits.waits.items k false ≡ false = λ k k_in. rw off (get_or-replicate (length rows) k false false k_in) in
+    let off : c.in_ok-waiting.waiting ≡ replicate (length rows) false = rw c.len-many.ensures.count at c.in_ok-waiting.ensures in
+    let idle : (k : ℕ) → k < length rows → get_or c.in_ok-waiting.waiting k false ≡ false = λ k k_in. rw off (get_or-replicate (length rows) k false false k_in) in
     let start = repairing_start c.rivals_or_free.ensures c.smaller_ends.ensures c.carried.ensures (number_at rows) labels old c.args.at c.args.comes at_in c.requires.was
-    (λ k. IsTrue (get_or c.wake.new.waits.items k false)) c.requires.here
+    (λ k. IsTrue (get_or c.wake.new.waiting k false)) c.requires.here
     (λ k k_in lt.
     let w = c.in_ok-wake.ensures.woken k (omega arith) in
     (λ t. elim (w.0 t) [ inl a ↦ absurd (let e : false ≡ true = sym (idle k (omega arith)) ∙ a in cc) | inr b ↦ b ], λ b. w.1 (inr b))) in
@@ -36,7 +36,7 @@ loop-i-init g c =
         c.len-many.ensures.count,
         record {
           repairing = rw w.evaluated-is (subst (Repairing (number_at rows) labels old c.args.at c.args.comes (c.args.at + 1) old
-              (λ k. IsTrue (get_or c.wake.new.waits.items k false))) (ap first_count w.if-comes.true) start);
+              (λ k. IsTrue (get_or c.wake.new.waiting k false))) (ap first_count w.if-comes.true) start);
           one_wait = c.in_ok-wake.ensures.one_each;
           spent = rw (w.evaluated-is, w.if-comes.true) refl;
           few = rw w.evaluated-is (omega arith);
@@ -49,7 +49,7 @@ loop-i-init g c =
         c.len-many.ensures.count,
         record {
           repairing = rw w.evaluated-is (subst (Repairing (number_at rows) labels old c.args.at c.args.comes (c.args.at + 1) old
-              (λ k. IsTrue (get_or c.wake.new.waits.items k false))) (ap first_count w.if-comes.false) start);
+              (λ k. IsTrue (get_or c.wake.new.waiting k false))) (ap first_count w.if-comes.false) start);
           one_wait = c.in_ok-wake.ensures.one_each;
           spent = rw (w.evaluated-is, w.if-comes.false) refl;
           few = rw w.evaluated-is (omega arith);
@@ -66,7 +66,7 @@ renew-requires-clause-ends g c =
     let many = length-labels rows in
     repairing_ends c.rivals_or_free.ensures c.smaller_ends.ensures c.carried.ensures (number_at rows)
     (labels_in rows) (present_slots rows c.args.moves.now) c.args.at c.args.comes (omega arith) c.requires.was
-    c.loop-i.i (present_slots rows c.loop-i.moves) (λ k. IsTrue (get_or c.loop-i.waits.items k false)) c.loop-i.evaluated c.loop-i.invariant.1.repairing (omega arith)
+    c.loop-i.i (present_slots rows c.loop-i.moves) (λ k. IsTrue (get_or c.loop-i.waiting k false)) c.loop-i.evaluated c.loop-i.invariant.1.repairing (omega arith)
 
 pub renew-requires-clause-known : goal.renew-requires-clause-known
 renew-requires-clause-known g c =
@@ -83,8 +83,8 @@ renew-requires-clause-known g c =
       changed_are = rw c.deref.ensures.value c.loop-i.invariant.1.noted;
     }
 
-pub loop-i-preserved-then-index : goal.loop-i-preserved-then-index
-loop-i-preserved-then-index g c =
+pub loop-i-preserved-then-has : goal.loop-i-preserved-then-has
+loop-i-preserved-then-has g c =
     let rows = c.args.roster.now in
     let labels = labels_in rows in
     let old = present_slots rows c.args.moves.now in
@@ -96,8 +96,7 @@ loop-i-preserved-then-index g c =
     let few = c.loop-i.invariant.1.few in
     let before = c.loop-i.invariant.1.spent in
     let i_in : c.loop-i.i < length labels = omega arith in
-    let read : c.index.result.now ≡ get_or c.loop-i.waits.items c.loop-i.i false = get_or_read c.loop-i.waits.items c.loop-i.i c.index.result.now (omega arith) c.index.ensures false in
-    let waited : get_or c.loop-i.waits.items c.loop-i.i false ≡ true = sym read ∙ c.if-index.true in
+    let waited : get_or c.loop-i.waiting c.loop-i.i false ≡ true = sym c.has.ensures ∙ c.if-has.true in
     let next = present_slots rows c.renew.new.moves in
     let len = length-present rows c.renew.new.moves in
     let spent = c.in_ok-renew.ensures.spent in
@@ -108,12 +107,12 @@ loop-i-preserved-then-index g c =
       | then-branch+in_ok-note w' ↦ (
         c.loop-i.invariant.0,
         record {
-          repairing = rw w'.waits-is
+          repairing = rw w'.waiting-is
               (repairing_moved c.rivals_or_free.ensures c.smaller_ends.ensures c.carried.ensures (number_at rows) labels old c.args.at c.args.comes at_in c.requires.was c.loop-i.i slots
-              (λ k. IsTrue (get_or c.loop-i.waits.items k false)) c.loop-i.evaluated so_far next i_in (omega arith) c.in_ok-renew.ensures.others c.in_ok-renew.ensures.own waited
-              (λ k. IsTrue (get_or w'.note.new.waits.items k false)) (rw w'.if-branch.true at c.in_ok-renew.ensures.moved)
+              (λ k. IsTrue (get_or c.loop-i.waiting k false)) c.loop-i.evaluated so_far next i_in (omega arith) c.in_ok-renew.ensures.others c.in_ok-renew.ensures.own waited
+              (λ k. IsTrue (get_or w'.note.new.waiting k false)) (rw w'.if-branch.true at c.in_ok-renew.ensures.moved)
               (λ k k_in lt. w'.in_ok-note.ensures.woken k (omega arith)));
-          one_wait = rw w'.waits-is w'.in_ok-note.ensures.one_each;
+          one_wait = rw w'.waiting-is w'.in_ok-note.ensures.one_each;
           spent = omega arith;
           few = omega arith;
           far = omega arith;
@@ -127,11 +126,11 @@ loop-i-preserved-then-index g c =
       | else-branch w' ↦ (
         c.loop-i.invariant.0,
         record {
-          repairing = rw w'.waits-is
+          repairing = rw w'.waiting-is
               (repairing_still c.rivals_or_free.ensures c.smaller_ends.ensures c.carried.ensures (number_at rows) labels old c.args.at c.args.comes at_in c.requires.was c.loop-i.i slots
-              (λ k. IsTrue (get_or c.loop-i.waits.items k false)) c.loop-i.evaluated so_far next i_in (omega arith) c.in_ok-renew.ensures.others c.in_ok-renew.ensures.own waited
+              (λ k. IsTrue (get_or c.loop-i.waiting k false)) c.loop-i.evaluated so_far next i_in (omega arith) c.in_ok-renew.ensures.others c.in_ok-renew.ensures.own waited
               (rw w'.if-branch.false at c.in_ok-renew.ensures.moved));
-          one_wait = rw w'.waits-is one_wait;
+          one_wait = rw w'.waiting-is one_wait;
           spent = omega arith;
           few = omega arith;
           far = omega arith;
@@ -157,24 +156,22 @@ loop-i-preserved g c =
     let few = c.loop-i.invariant.1.few in
     let before = c.loop-i.invariant.1.spent in
     let i_in : c.loop-i.i < length labels = omega arith in
-    let read : c.index.result.now ≡ get_or c.loop-i.waits.items c.loop-i.i false = get_or_read c.loop-i.waits.items c.loop-i.i c.index.result.now (omega arith) c.index.ensures false in
-    let idle : NoneWaits c.loop-i.waits.items c.loop-i.i c.next_waiting-i.result = rw c.deref-else-index.ensures.value at c.next_waiting-i.ensures.idle in
-    let size = c.deref-else-index.ensures.value in
-    let within : c.next_waiting-i.result ≤ length rows = (let w = c.next_waiting-i.ensures.within in let e = ap length c.deref-else-index.ensures.value in omega arith) in
-    let behind = c.next_waiting-i.ensures.behind in
-    let on : c.loop-i.i + (c.next_waiting-i.result - c.loop-i.i) ≡ c.next_waiting-i.result = omega arith in (
+    let idle : NoneWaits c.loop-i.waiting c.loop-i.i c.next-i.result = c.next-i.ensures.idle in
+    let within : c.next-i.result ≤ length rows = (let w = c.next-i.ensures.within in omega arith) in
+    let behind = c.next-i.ensures.behind in
+    let on : c.loop-i.i + (c.next-i.result - c.loop-i.i) ≡ c.next-i.result = omega arith in (
       c.loop-i.invariant.0,
       record {
-        repairing = subst (λ (j : ℕ). Repairing (number_at rows) labels old c.args.at c.args.comes j slots (λ k. IsTrue (get_or c.loop-i.waits.items k false)) c.loop-i.evaluated) on
+        repairing = subst (λ (j : ℕ). Repairing (number_at rows) labels old c.args.at c.args.comes j slots (λ k. IsTrue (get_or c.loop-i.waiting k false)) c.loop-i.evaluated) on
             (repairing_skip c.rivals_or_free.ensures c.smaller_ends.ensures c.carried.ensures
-            (number_at rows) labels old c.args.at c.args.comes at_in c.requires.was (c.next_waiting-i.result - c.loop-i.i) c.loop-i.i slots
-            (λ k. IsTrue (get_or c.loop-i.waits.items k false)) c.loop-i.evaluated (omega arith) (λ k a b. idle k a (omega arith)) so_far);
+            (number_at rows) labels old c.args.at c.args.comes at_in c.requires.was (c.next-i.result - c.loop-i.i) c.loop-i.i slots
+            (λ k. IsTrue (get_or c.loop-i.waiting k false)) c.loop-i.evaluated (omega arith) (λ k a b. idle k a (omega arith)) so_far);
         one_wait = one_wait;
         spent = before;
         few = omega arith;
         far = within;
         kept = c.loop-i.invariant.1.kept;
-        noted = noted_skip c.args.at c.args.comes (ends old) (ends slots) c.loop-i.i c.next_waiting-i.result c.loop-i.changed.items behind c.loop-i.invariant.1.noted
+        noted = noted_skip c.args.at c.args.comes (ends old) (ends slots) c.loop-i.i c.next-i.result c.loop-i.changed.items behind c.loop-i.invariant.1.noted
             (λ j from. end_from slots old j (ends slots j) (so_far.rest j from) refl);
       },
     )
@@ -186,7 +183,7 @@ returns-clause-own g c =
     let e : c.loop-i.i ≡ length (labels_in rows) = (let m = c.loop-i.invariant.0 in let far = c.loop-i.invariant.1.far in let done = c.loop-i-test.false in omega arith) in
     repaired_own c.rivals_or_free.ensures c.smaller_ends.ensures c.carried.ensures (number_at rows)
     (labels_in rows) (present_slots rows c.args.moves.now) c.args.at c.args.comes (omega arith) c.requires.was
-    (present_slots rows c.loop-i.moves) (λ k. IsTrue (get_or c.loop-i.waits.items k false)) c.loop-i.evaluated (rw e at c.loop-i.invariant.1.repairing)
+    (present_slots rows c.loop-i.moves) (λ k. IsTrue (get_or c.loop-i.waiting k false)) c.loop-i.evaluated (rw e at c.loop-i.invariant.1.repairing)
 
 pub returns-clause-touched : goal.returns-clause-touched
 returns-clause-touched g c =
@@ -195,4 +192,4 @@ returns-clause-touched g c =
     let e : c.loop-i.i ≡ length (labels_in rows) = (let m = c.loop-i.invariant.0 in let far = c.loop-i.invariant.1.far in let done = c.loop-i-test.false in omega arith) in
     repaired_size c.rivals_or_free.ensures c.smaller_ends.ensures c.carried.ensures (number_at rows)
     (labels_in rows) (present_slots rows c.args.moves.now) c.args.at c.args.comes (omega arith) c.requires.was
-    (present_slots rows c.loop-i.moves) (λ k. IsTrue (get_or c.loop-i.waits.items k false)) c.loop-i.evaluated (rw e at c.loop-i.invariant.1.repairing)
+    (present_slots rows c.loop-i.moves) (λ k. IsTrue (get_or c.loop-i.waiting k false)) c.loop-i.evaluated (rw e at c.loop-i.invariant.1.repairing)

@@ -12,9 +12,9 @@ use Rattle.ml_repair.proofs.Repairing.{Repairing}
 use Rattle.ml_repair.proofs.repair.repair.Given as goal
 
 -- the loop's state, its counter and its steps
-pub record Running (rows : List Row) (old : List Moved) (at : ℕ) (comes : Bool) (i : ℕ) (new : List Moved) (waits : List Bool) (changed : List ℕ) (n before after : ℕ) : Type 0 where
-  pub repairing : Repairing (number_at rows) (labels_in rows) (present_slots rows old) at comes i (present_slots rows new) (λ k. IsTrue (get_or waits k false)) n
-  pub one_wait : length waits ≡ length rows
+pub record Running (rows : List Row) (old : List Moved) (at : ℕ) (comes : Bool) (i : ℕ) (new : List Moved) (waiting : List Bool) (changed : List ℕ) (n before after : ℕ) : Type 0 where
+  pub repairing : Repairing (number_at rows) (labels_in rows) (present_slots rows old) at comes i (present_slots rows new) (λ k. IsTrue (get_or waiting k false)) n
+  pub one_wait : length waiting ≡ length rows
   pub spent : after + (if comes then 1 else 0) ≡ before + n
   pub few : n ≤ i
   pub far : i ≤ length rows
@@ -22,7 +22,7 @@ pub record Running (rows : List Row) (old : List Moved) (at : ℕ) (comes : Bool
   pub noted : AreChanged (ends (present_slots rows old)) (ends (present_slots rows new)) at comes i changed
 
 abbrev pub invariant-loop-i : goal.invariant-loop-i
-invariant-loop-i g l = (l.many ≡ length l.roster) × Running l.roster l.fn.moves l.at l.comes l.i l.moves l.waits.items l.changed.items l.evaluated l.fn.steps l.steps
+invariant-loop-i g l = (l.many ≡ length l.roster) × Running l.roster l.fn.moves l.at l.comes l.i l.moves l.waiting l.changed.items l.evaluated l.fn.steps l.steps
 
 abbrev pub decreases-loop-i : goal.decreases-loop-i
 decreases-loop-i g l = l.many - l.i

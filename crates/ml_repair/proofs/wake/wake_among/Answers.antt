@@ -7,7 +7,7 @@ use Rattle.ml_repair.proofs.wake.wake_among.Goals as goal
 pub loop-place-init : goal.loop-place-init
 loop-place-init c = (
   c.requires.one_each,
-  woken_none (labels_in c.args.roster.now) c.args.i c.args.waits.now.items (Contains (take 0 c.args.places.now)) (λ k h r. let lt : h.0 < 0 = h.1 in omega arith),
+  woken_none (labels_in c.args.roster.now) c.args.i c.args.waiting.now (Contains (take 0 c.args.places.now)) (λ k h r. let lt : h.0 < 0 = h.1 in omega arith),
 )
 
 pub wake_one-requires-clause-k_is_place : goal.wake_one-requires-clause-k_is_place
@@ -16,7 +16,7 @@ wake_one-requires-clause-k_is_place c = c.requires.in_roster c.loop-place.place-
 pub loop-place-preserved : goal.loop-place-preserved
 loop-place-preserved c = (
   c.wake_one.ensures.one_each,
-  among_more (labels_in c.args.roster.now) c.args.i c.args.waits.now.items c.loop-place.waits.items c.wake_one.new.waits.items c.args.places.now c.loop-place.place-index
+  among_more (labels_in c.args.roster.now) c.args.i c.args.waiting.now c.loop-place.waiting c.wake_one.new.waiting c.args.places.now c.loop-place.place-index
       (omega arith) c.loop-place.invariant.1 c.wake_one.ensures.woken c.wake_one.ensures.others,
 )
 

@@ -4,4 +4,4 @@ use Rattle.ml_repair.specs.Repair.{IsWokenBy}
 use Rattle.ml_repair.proofs.wake.wake_among.Given as goal
 
 abbrev pub invariant-loop-place : goal.invariant-loop-place
-invariant-loop-place l = (length l.waits.items ≡ length l.roster) × IsWokenBy (labels_in l.roster) l.i (Contains (take l.place-index l.places)) l.initial.waits.items l.waits.items
+invariant-loop-place l = (length l.waiting ≡ length l.roster) × IsWokenBy (labels_in l.roster) l.i (Contains (take l.place-index l.places)) l.initial.waiting l.waiting

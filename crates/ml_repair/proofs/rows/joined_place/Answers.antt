@@ -1,6 +1,6 @@
 use Rattle.ml_repair.specs.Roster.{left_rows}
 use Rattle.ml_repair.proofs.Rosters.{joined_found}
-use Rattle.ml_repair.proofs.roster.joined_place.Goals as goal
+use Rattle.ml_repair.proofs.rows.joined_place.Goals as goal
 
 pub returns-else-row-number : goal.returns-else-row-number
 returns-else-row-number c =

@@ -1,5 +1,5 @@
 use Rattle.ml_repair.proofs.Rosters.{left_fresh, left_found}
-use Rattle.ml_repair.proofs.roster.left_place.Goals as goal
+use Rattle.ml_repair.proofs.rows.left_place.Goals as goal
 
 pub returns-in-Some : goal.returns-in-Some
 returns-in-Some c = left_found c.args.gone c.args.store.now.rows c.args.number c.in-Some.at c.place_without.result

@@ -1,6 +1,6 @@
 use Rattle.std.proofs.Common.{◌∙◌, arith}
 use Rattle.ml_repair.proofs.Rosters.{left_above, left_length}
-use Rattle.ml_repair.proofs.roster.left_row.Goals as goal
+use Rattle.ml_repair.proofs.rows.left_row.Goals as goal
 
 pub row-requires-else-at-g : goal.row-requires-else-at-g
 row-requires-else-at-g c =
