@@ -11,8 +11,8 @@
 //!
 //! The reader takes one byte at a time: its [`state`], one [`machine`] step, [`brackets`] of lists and
 //! maps, [`members`] of maps, which are kept [`sorted`], [`tokens`], [`strings`] with their 16-bit
-//! [`units`] and [`utf8`] characters, of which a [`tail`] may still be to come. Where a whole token of plain bytes lies ahead,
-//! [`leaps`] takes it at once.
+//! [`units`] and [`utf8`] characters, of which a [`tail`] may still be to come. Where a whole token of
+//! [`plain`] bytes lies ahead, [`leaps`] takes it at once.
 #![tactic(auto)]
 
 mod brackets;
@@ -24,6 +24,7 @@ mod leaps;
 pub mod lent;
 mod machine;
 mod members;
+mod plain;
 pub mod reader;
 mod sorted;
 mod state;

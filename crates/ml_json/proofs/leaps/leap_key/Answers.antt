@@ -1,7 +1,7 @@
-use Rattle.std.proofs.Common.{◌≡◌, ◌∷◌, ◌∙◌, List, Some, ap, sym, subst, inl, inr}
+use Rattle.std.proofs.Common.{◌≡◌, ◌∷◌, ◌∙◌, List, ap, sym, subst, inl, inr}
 use Rattle.ml_json.specs.Machine as m
 use Rattle.ml_json.specs.State.{mode_of, frames_of, members_view}
-use Rattle.ml_json.specs.Leaps.{plain_key, Passes, here}
+use Rattle.ml_json.specs.Leaps.{PlainString, Passes, here}
 use Rattle.ml_json.specs.declared.state.Mode.{Mode}
 use Rattle.ml_json.proofs.FrameLemmas.{frames_push}
 use Rattle.ml_json.proofs.LeapLemmas.{TakesKey, key_leaps}
@@ -10,6 +10,9 @@ use Rattle.ml_json.proofs.leaps.leap_key.Goals as goal
 
 pub returns-in_default : goal.returns-in_default
 returns-in_default c = here
+
+pub returns-in_default-behind : goal.returns-in_default-behind
+returns-in_default-behind c = here
 
 pub returns-in_default-replace : goal.returns-in_default-replace
 returns-in_default-replace c =
@@ -26,10 +29,9 @@ returns c =
       | in-FirstKey w ↦ inl (ap mode_of (was ∙ w.in-FirstKey.is), ap members_view w.members-is ∙ w.no_members-members.ensures)
       | in-Key w ↦ inr (ap mode_of (was ∙ w.in-Key.is) ∙ ap (λ x. m.key (members_view x)) (sym w.members-is))
     ] in
-    let cut : plain_key c.args.bytes.now ≡ Some (c.in-Some.text.now, c.in-Some.rest.now) = sym c.in-Some.ensures.cut in
-    let key : c.text_of-key.result ≡ c.in-Some.text.now = c.text_of-key.ensures in
-    let pushed : frames_of c.push.new.self.items ≡ m.at_key ps c.in-Some.text.now ∷ st =
-    ap frames_of c.in_ok-push.ensures.items ∙ frames_push c.args.frames.now.items _ ∙ ap (λ k. m.at_key ps k ∷ st) key in
-    let passes = key_leaps n ps st takes c.requires c.args.bytes.now c.in-Some.text.now c.in-Some.rest.now cut in
-    subst (λ (x : Mode). Passes (n, st) c.args.bytes.now (mode_of x, frames_of c.push.new.self.items) c.in-Some.rest.now) (sym c.replace.ensures.after)
-    (subst (λ (su : List m.Frame). Passes (n, st) c.args.bytes.now (m.value, su) c.in-Some.rest.now) (sym pushed) passes)
+    let rest = c.in-Some-behind.rest.now in
+    let key = subst (PlainString c.in-Some.key c.args.bytes.now) c.in-Some-behind.ensures c.in-Some.ensures in
+    let pushed : frames_of c.push.new.self.items ≡ m.at_key ps c.in-Some.key ∷ st = ap frames_of c.in_ok-push.ensures.items ∙ frames_push c.args.frames.now.items _ in
+    let passes = key_leaps n ps st takes c.requires c.in-Some.key c.args.bytes.now rest key in
+    subst (λ (x : Mode). Passes (n, st) c.args.bytes.now (mode_of x, frames_of c.push.new.self.items) rest) (sym c.replace.ensures.after)
+    (subst (λ (su : List m.Frame). Passes (n, st) c.args.bytes.now (m.value, su) rest) (sym pushed) passes)
