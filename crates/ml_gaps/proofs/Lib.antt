@@ -10,3 +10,5 @@ mod Blocking
 mod OneCutting
 mod Nears
 mod Strips
+mod Bundling
+mod Gathering

@@ -4,6 +4,7 @@ use Rattle.std.specs.Prelude.{MatchBool}
 use Rattle.std.proofs.Math.Nat.{div-add-mod, mod-lt}
 use Rattle.std.proofs.Math.ListN.{get_or-append}
 use Rattle.std.proofs.lemmas.Bool.{cases_lt}
+use Rattle.std.proofs.lemmas.Int.{ints}
 use Rattle.std.proofs.lemmas.Nat.{mul-le}
 use Rattle.std.proofs.lemmas.List.{get_or_default, get_or_push}
 use Rattle.ml_ratio.specs.Fraction.{Fraction, value_of, IsLess, IsAtMost}
@@ -11,6 +12,9 @@ use Rattle.ml_ratio.proofs.lemmas.Fractions.{less_at_most}
 use Rattle.ml_cone.specs.Near.{AreApart, AreNear}
 use Rattle.ml_cone.specs.Overlap.{Overlap}
 use Rattle.ml_cone.specs.declared.label.Label.{Label}
+use Rattle.ml_conflict.specs.Reach.{Reaches}
+use Rattle.ml_conflict.specs.declared.axis.Axis.{Axis}
+use Rattle.ml_conflict.specs.declared.axis.Axis.TheVariants.{Across, Along}
 use Rattle.ml_gaps.specs.Near.{IsNearOf, AreNears}
 use Rattle.ml_gaps.specs.declared.gap.Gap.{Gap}
 use Rattle.ml_gaps.specs.declared.near.Near.{Near}
@@ -51,6 +55,11 @@ apart_within a b u v p q m one other (inr is) apart s first second over = apart 
 pub apart_of : (a b : Label) (m : ℕ) (is : Bool) → is ≡ true → MatchBool is (AreApart a b m 1) (AreNear a b m 1) → AreApart a b m 1
 apart_of a b m true e h = h
 apart_of a b m false e h = absurd (cc)
+
+-- a label that reaches so many pixels reaches no more than a greater number
+pub reaches_more : (axis : Axis) (a : Label) (r q : ℕ) → r ≤ q → Reaches axis a r → Reaches axis a q
+reaches_more Across a r q le within k d lt = let (from, to) = within k d lt in (omega (arith, ints), omega (arith, ints))
+reaches_more Along a r q le within k d lt = let (from, to) = within k d lt in (omega (arith, ints), omega (arith, ints))
 
 -- labels that reach r pixels reach, up to a fraction, no further toward each other than up to a whole number above it
 pub wide_enough : (r last : ℕ) (until : Fraction) → until.num ≤ last * until.den → 2 * r * until.num ≤ 2 * r * last * until.den

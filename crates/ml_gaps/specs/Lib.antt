@@ -6,3 +6,5 @@ pub mod Longest
 pub mod Pairs
 pub mod Near
 pub mod Strip
+pub mod Bundle
+pub mod Places

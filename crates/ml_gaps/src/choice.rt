@@ -1,5 +1,5 @@
 //! The longest free gap of each label.
-ghost use Rattle.std.specs.Prelude.{ℕ, ◌≡◌, ◌≤◌, ◌<◌, ◌*◌, ◌↔◌, [], length, slice_index_or, IfOk, OnOk};
+ghost use Rattle.std.specs.Prelude.{ℕ, ◌≡◌, ◌≤◌, ◌<◌, ◌*◌, ◌↔◌, [], length, slice_index_or, All, IfOk, OnOk};
 ghost use Rattle.ml_ratio.specs.Fraction.{Fraction, value_of};
 ghost use Rattle.ml_cone.specs.Choice.{ActiveUntil};
 ghost use Rattle.ml_gaps.specs.Blocked.{IsBlocked, IsPairPiece, IsBlockedBy};
@@ -7,16 +7,17 @@ ghost use Rattle.ml_gaps.specs.Gaps.{AreGaps};
 ghost use Rattle.ml_gaps.specs.Longest.{IsLongestOf};
 ghost use Rattle.ml_gaps.specs.Near.{IsNearOf, AreNears};
 ghost use Rattle.ml_gaps.specs.Piece.{HaveScale, AddsPieces};
-ghost use Rattle.ml_gaps.specs.Strip.{AreStrips, AddsStrip};
+ghost use Rattle.ml_gaps.specs.Bundle.{IsBundle, AddsStrip};
+ghost use Rattle.ml_gaps.specs.Places.{AreEnough};
 
 use crate::block::blocked;
 use crate::gap::Gap;
+use crate::index::StripIndex;
 use crate::near::Near;
 use crate::piece::Piece;
 use crate::strip::{Strip, parting_axis};
 use crate::sweep::longest;
 use ml_cone::Label;
-use ml_conflict::{Axis, anchor_on, greatest_reach};
 use ml_ratio::Seq;
 use std::alloc::{AllocError, Global};
 
@@ -33,72 +34,65 @@ pub fn gaps(alloc: Global, labels: &[Label]) -> Result<Seq<Gap>, AllocError>
     ensures { IfOk result (AreGaps labels.now) }
 {
     let axis = parting_axis(labels);
-    let reach = greatest_reach(axis, labels);
+    let mut index = StripIndex::of(alloc, axis, labels)?;
     let mut gaps = Seq::new(alloc);
     let mut nears = Vec::new(alloc);
-    let mut strips = Vec::new(alloc);
+    let mut places = Vec::new(alloc);
     let mut pieces = Vec::new(alloc);
     for label in labels {
+        index.gather(axis, label, &mut places)?;
         let before = Before {
             labels,
             gaps: gaps.as_slice(),
             nears: nears.as_slice(),
-            strips: strips.as_slice(),
+            places: places.as_slice(),
         };
-        pieces = pieces_of(label, axis, &before, pieces)?;
+        pieces = pieces_of(label, &before, pieces)?;
         let gap = longest_of(label, &mut pieces);
         let near = Near::of(label, &gap.until);
-        let strip = Strip::about(label, gaps.len(), &near, axis, reach);
-        add_strip(&mut strips, &gap, strip)?;
+        let strip = Strip::about(label, gaps.len(), &near, axis);
+        add_strip(alloc, &mut index, &gap, strip)?;
         nears.push(near)?;
         gaps.push(gap)?;
+        places.clear();
         pieces.clear();
     }
     Ok(gaps)
 }
 
-// All labels, of which the first have a gap, and what tells which of these lie near. Only those whose gap is not
-// empty have a strip, since the others block nobody.
+// All labels, of which the first have a gap, what tells which of these lie near, and the places of enough of them for
+// one label: the others do not block it.
 #[derive(Clone, Copy)]
 struct Before<'a> {
     labels: &'a [Label],
     gaps: &'a [Gap],
     nears: &'a [Near],
-    strips: &'a [Strip],
+    places: &'a [usize],
 }
 
 // The pieces at which the labels before block the label, in the memory of the ones of another label.
-fn pieces_of(
-    label: &Label,
-    axis: Axis,
-    before: &Before<'_>,
-    room: Vec<Piece>,
-) -> Result<Vec<Piece>, AllocError>
+fn pieces_of(label: &Label, before: &Before<'_>, room: Vec<Piece>) -> Result<Vec<Piece>, AllocError>
     requires few { length before.now.gaps.now ≤ length before.now.labels.now }
     requires nears { AreNears before.now.labels.now before.now.gaps.now before.now.nears.now }
-    requires strips { AreStrips axis label.now before.now.labels.now
-        before.now.gaps.now before.now.strips.now }
+    requires enough { AreEnough label.now before.now.labels.now before.now.gaps.now
+        before.now.places.now }
     requires empty { room.items ≡ [] }
     ensures { IfOk result (λ pieces. (s : Fraction) → HaveScale pieces.items s ↔ IsBlockedBy
         label.now before.now.labels.now before.now.gaps.now (length before.now.gaps.now) s) }
 {
     let own = Near::of(label, &label.max());
-    let coordinate = anchor_on(axis, label);
     let mut pieces = Seq::of_vec(room);
-    for k in 0..before.strips.len() {
-        let strip = &before.strips[k];
-        if !strip.is_past(coordinate) {
-            let j = strip.place;
-            let near = &before.nears[j];
-            add_blocked(
-                label,
-                &own,
-                &before.labels[j],
-                near,
-                &before.gaps[j],
-                &mut pieces,
-            )?;
-        }
+    for k in 0..before.places.len() {
+        let j = before.places[k];
+        let near = &before.nears[j];
+        add_blocked(
+            label,
+            &own,
+            &before.labels[j],
+            near,
+            &before.gaps[j],
+            &mut pieces,
+        )?;
     }
     Ok(pieces.into_vec())
 }
@@ -125,11 +119,19 @@ fn add_blocked(
 }
 
 // The strip about a label comes in, unless the label's gap is empty: then it blocks nobody.
-fn add_strip(strips: &mut Vec<Strip>, gap: &Gap, strip: Strip) -> Result<(), AllocError>
-    ensures { IfOk result (λ _. AddsStrip gap.now strip strips.old.items strips.new.items) }
+fn add_strip(
+    alloc: Global,
+    index: &mut StripIndex,
+    gap: &Gap,
+    strip: Strip,
+) -> Result<(), AllocError>
+    requires { All IsBundle index.old.bundles.items }
+    ensures bundles { OnOk result (All IsBundle index.new.bundles.items) }
+    ensures adds { OnOk result
+        (AddsStrip gap.now strip index.old.bundles.items index.new.bundles.items) }
 {
     if gap.from.is_less(&gap.until) {
-        strips.push(strip)?;
+        index.put(alloc, strip)?;
     }
     Ok(())
 }

@@ -1,66 +1,78 @@
 //! Strips of the world about labels, beyond which these are too far away from another label to block it.
-ghost use Rattle.std.specs.Prelude.{◌≡◌, ◌≤◌, ◌<◌, ◌-◌, ◌^◌, ℕ};
+ghost use Rattle.std.specs.Prelude.{ℕ, ◌≡◌, ◌*◌, ◌≤◌, ◌^◌};
 ghost use Rattle.ml_ratio.specs.World.{IsInWorld};
+ghost use Rattle.ml_conflict.specs.Reach.{Reaches};
 
 use crate::near::Near;
 use ml_cone::Label;
 use ml_conflict::laws::distant_labels;
-use ml_conflict::{Axis, anchor_on, greatest_reach};
+use ml_conflict::{Area, Axis, anchor_on, greatest_reach};
 
-/// A strip of the world about a label: the coordinate of its anchor on an axis, and how far to either side of it
-/// anchors lie whose labels are too far away from it; with the label's place.
-///
-/// Each label asks all strips before it, so they are to lie close together: a way beyond the world is told as the
-/// greatest number of 32 bits.
+/// A strip of the world about a label: the coordinate of its anchor on an axis, how many pixels it reaches from there,
+/// and a whole number that its range of scales does not go beyond; with the label's place.
 #[derive(Clone, Copy)]
 pub struct Strip {
     pub place: usize,
-    at: i32,
-    far: u32,
+    pub at: i64,
+    pub reach: u32,
+    pub last: u64,
     ghost world: { IsInWorld at },
+    ghost low_reach: { reach ≤ 576 },
+    ghost low_last: { last ≤ 2 ^ 32 },
 }
 
 impl Strip {
-    ghost use Rattle.std.specs.Prelude.{MatchBool, unsigned_abs, ◌-ℤ◌};
+    ghost use Rattle.std.specs.Prelude.{IsTrue};
     ghost use Rattle.ml_ratio.specs.Fraction.{Fraction};
-    ghost use Rattle.ml_cone.specs.declared.label.Label.{Label};
-    ghost use Rattle.ml_conflict.specs.Reach.{Reaches};
     ghost use Rattle.ml_gaps.specs.Near.{IsNearOf};
-    ghost use Rattle.ml_gaps.specs.Strip.{IsStripAbout};
+    ghost use Rattle.ml_gaps.specs.Strip.{IsStripAbout, IsPast};
 
-    /// About the label at the place, among labels that reach so many pixels from their anchors on the axis at most.
-    pub fn about(label: &Label, place: usize, near: &Near, axis: Axis, reach: u32) -> Strip
-        requires { reach ≤ 576 }
+    /// About the label at the place, on the axis.
+    pub fn about(label: &Label, place: usize, near: &Near, axis: Axis) -> Strip
         ensures place { result.place ≡ place }
-        ensures far { (until : Fraction) → IsNearOf label.now until near.now →
-            IsStripAbout axis reach label.now until result }
+        ensures about { (until : Fraction) → IsNearOf label.now until near.now →
+            IsStripAbout axis label.now until result }
     {
         distant_labels();
         Strip {
             place,
-            at: anchor_on(axis, label) as i32,
-            far: within_32_bits(2 * reach as u64 * near.last),
+            at: anchor_on(axis, label),
+            reach: reach_on(axis, label),
+            last: near.last,
         }
     }
 
-    /// Whether an anchor at the coordinate lies too far away.
-    pub fn is_past(&self, coordinate: i64) -> bool
-        requires { IsInWorld coordinate }
-        ensures { MatchBool result (self.now.far ≤ unsigned_abs (coordinate -ℤ self.now.at))
-            (unsigned_abs (coordinate -ℤ self.now.at) < self.now.far) }
+    /// Whether a label with its anchor at the coordinate, which reaches so many pixels from there, is too far away.
+    pub fn is_past(&self, at: i64, reach: u32) -> bool
+        requires world { IsInWorld at }
+        requires low { reach ≤ 576 }
+        ensures { IsTrue result → IsPast at reach self.now }
     {
-        self.far as u64 <= (coordinate - self.at as i64).unsigned_abs()
+        way(reach, self.reach, self.last) <= (at - self.at).unsigned_abs()
     }
 }
 
-// The number, or the greatest of 32 bits where that is less.
-fn within_32_bits(number: u64) -> u32
-    ensures { (way : ℕ) → way < 2 ^ 32 - 1 → result ≤ way → number ≤ way }
+/// How far apart on an axis anchors of labels lie that are too far apart to overlap below a whole number, where these
+/// reach at most so many pixels from them.
+pub fn way(one: u32, other: u32, last: u64) -> u64
+    requires low_one { one ≤ 576 }
+    requires low_other { other ≤ 576 }
+    requires low_last { last ≤ 2 ^ 32 }
+    ensures way { (r : ℕ) × (one ≤ r) × (other ≤ r) × (result ≡ 2 * r * last) }
+    ensures low { result ≤ 2 ^ 43 }
 {
-    if number < u32::MAX as u64 {
-        number as u32
-    } else {
-        u32::MAX
+    2 * (one.max(other) as u64) * last
+}
+
+/// How many pixels the label reaches from its anchor on the axis.
+pub fn reach_on(axis: Axis, label: &Label) -> u32
+    ensures reaches { Reaches axis label.now result }
+    ensures low { result ≤ 576 }
+{
+    let area = Area::of(label);
+    match axis {
+        Axis::Across => area.across.reach,
+        Axis::Along => area.along.reach,
     }
 }
 

@@ -3,8 +3,8 @@ use Rattle.ml_ratio.specs.Fraction.{IsLess, value_of}
 use Rattle.ml_ratio.proofs.lemmas.Fractions.{less_at_most}
 use Rattle.ml_gaps.proofs.choice.add_strip.Goals as goal
 
-pub returns-else-is_less : goal.returns-else-is_less
-returns-else-is_less c = inr (
+pub returns-else-is_less-clause-adds : goal.returns-else-is_less-clause-adds
+returns-else-is_less-clause-adds c = inr (
   refl,
   λ s active.
       let from = value_of c.args.gap.now.from in

@@ -1,7 +1,7 @@
-use Rattle.std.proofs.Common.{◌≡◌, ℕ, ◌<◌, [], length, slice_index_or}
-use Rattle.ml_cone.specs.declared.label.Label.{Label}
+use Rattle.std.proofs.Common.{◌≡◌, []}
+use Rattle.std.specs.Prelude.{All}
 use Rattle.ml_gaps.specs.Near.{AreNears}
-use Rattle.ml_gaps.specs.Strip.{AreStrips}
+use Rattle.ml_gaps.specs.Bundle.{IsBundle, AreStrips}
 use Rattle.ml_gaps.proofs.Choosing.{Chosen}
 use Rattle.ml_gaps.proofs.choice.gaps.Given as goal
 
@@ -9,6 +9,8 @@ abbrev pub invariant-loop-label : goal.invariant-loop-label
 invariant-loop-label l = record {
   chosen : Chosen l.labels l.label-index l.gaps;
   empty : l.pieces.items ≡ [];
+  free : l.places.items ≡ [];
   nears : AreNears l.labels l.gaps l.nears.items;
-  strips : (m : ℕ) (d : Label) → m < length l.labels → AreStrips l.axis (slice_index_or l.labels m d) l.labels l.gaps l.strips.items;
+  bundles : All IsBundle l.index.bundles.items;
+  strips : AreStrips l.axis l.labels l.gaps l.index.bundles.items;
 }
