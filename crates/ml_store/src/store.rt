@@ -198,7 +198,7 @@ impl Store {
     /// Makes room for so many labels, entries and pairs.
     ///
     /// # Errors
-    /// Out of memory, which leaves the labels; the room may have grown.
+    /// Out of memory, or more than 32,768 labels, which leaves the labels; the room may have grown.
     pub fn reserve(&mut self, labels: usize, cells: usize, blocks: usize) -> Result<(), AllocError>
         ensures ok { OnOk result
             ((labels ≤ self.new.labels) × (cells ≤ self.new.cells) × (blocks ≤ self.new.blocks)) }
