@@ -1,5 +1,5 @@
 //! The later rivals of a label.
-ghost use Rattle.std.specs.Prelude.{ℕ, ◌≡◌, ◌≢◌, ◌+◌, ◌<◌, ◌≤◌, ◌⊎◌, ◌↔◌, false, IsTrue, List, length, All, Contains, IfOk, slice_index_or};
+ghost use Rattle.std.specs.Prelude.{ℕ, ◌≡◌, ◌≢◌, ◌+◌, ◌<◌, ◌⊎◌, ◌↔◌, false, IsTrue, length, All, Contains, IfOk, slice_index_or};
 ghost use Rattle.ml_repair.specs.Repair.{AreSuspects, IsWokenBy, AreWoken};
 ghost use Rattle.ml_repair.specs.Touched.{IsRivalBefore};
 ghost use Rattle.ml_store.specs.Rows.{labels_in};
@@ -14,6 +14,10 @@ use std::alloc::{AllocError, Global};
 
 // So many labels are asked whether they wait, to tell whether few do not.
 const ASKED: usize = 64;
+
+// Where no more labels than these are left, they are asked one by one: a search may find many more, which come
+// before.
+const FEW_LATER: usize = 64;
 
 // Places, among them those of all rivals of the label: rivals share a cell in the last band of one of them, so the
 // bands of the label's range are searched from that on in which a range ends first.
@@ -138,6 +142,10 @@ pub fn wake(
     ensures one_each { length waiting.new ≡ length roster.now }
     ensures woken { IfOk result (λ _. AreWoken roster.now i waiting.old waiting.new) }
 {
+    if roster.len() - i <= FEW_LATER {
+        wake_idle(roster, i, waiting);
+        return Ok(());
+    }
     let row = roster.row(i);
     let places = suspects(alloc, roster, &row.label)?;
     wake_among(roster, places.as_slice(), i, waiting);
