@@ -1,5 +1,5 @@
 //! An entry put into a tree.
-ghost use Rattle.std.specs.Prelude.{◌≡◌, ℕ, ◌+◌, ◌≤◌, ◌^◌, ◌∷◌, []};
+ghost use Rattle.std.specs.Prelude.{ℕ, ◌+◌, ◌≤◌, ◌^◌};
 ghost use Rattle.ml_spans.specs.Order.{entry_order, IsRising, IsNew};
 ghost use Rattle.ml_ratio.specs.Lists.{IsAdded};
 ghost use Rattle.ml_spans.specs.Sound.{entries, depth, IsSound};
@@ -7,27 +7,9 @@ ghost use Rattle.ml_spans.specs.Sound.{entries, depth, IsSound};
 use crate::change::grow;
 use crate::entry::Entry;
 use crate::key::Key;
-use crate::node::place_of;
-use crate::shape::{Content, Node, Tree};
+use crate::node::{place_of, single};
+use crate::shape::{Node, Tree};
 use std::cmp::Ordering;
-
-// A tree of one node, which holds the entry.
-fn single<K: Key, E: Key, V: Key>(
-    mut node: Box<Node<K, E, V>>,
-    entry: Entry<K, E, V>,
-) -> Tree<K, E, V>
-    ensures entries { entries result ≡ entry ∷ [] }
-    ensures depth { depth result ≡ 1 }
-    ensures sound { IsSound E.order result }
-{
-    node.content = Some(Content {
-        entry,
-        greatest: entry.end,
-    });
-    node.left = Tree::Leaf;
-    node.right = Tree::Leaf;
-    Tree::Fork(1, node)
-}
 
 // Puts the entry in its place in the tree, in the spare node.
 pub(crate) fn put<K: Key, E: Key, V: Key>(

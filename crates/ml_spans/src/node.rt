@@ -1,5 +1,5 @@
-//! A node over two sides, and a node with the sides that it had.
-ghost use Rattle.std.specs.Prelude.{◌≡◌, ◌+◌, ◌≤◌, ◌^◌, max, ◌++◌};
+//! A node alone, over two sides, and with the sides that it had.
+ghost use Rattle.std.specs.Prelude.{◌≡◌, ◌+◌, ◌≤◌, ◌^◌, ◌∷◌, [], max, ◌++◌};
 ghost use Rattle.std.specs.Option.{IsSome};
 ghost use Rattle.std.specs.List.{AllByRecursion};
 ghost use Rattle.ml_spans.specs.Order.{entry_order};
@@ -8,7 +8,7 @@ ghost use Rattle.ml_spans.specs.Sound.{entries, entries_in, depth, IsSound, IsSo
 use crate::ends::keep_greatest;
 use crate::entry::{Entry, compare_entries};
 use crate::key::Key;
-use crate::shape::{Node, Tree};
+use crate::shape::{Content, Node, Tree};
 use std::cmp::Ordering;
 use std::mem;
 
@@ -21,6 +21,24 @@ pub(crate) fn height_of<K: Key, E: Key, V: Key>(tree: &Tree<K, E, V>) -> u32
         Tree::Leaf => 0,
         Tree::Fork(height, _) => *height,
     }
+}
+
+// A tree of one node, which holds the entry.
+pub(crate) fn single<K: Key, E: Key, V: Key>(
+    mut node: Box<Node<K, E, V>>,
+    entry: Entry<K, E, V>,
+) -> Tree<K, E, V>
+    ensures entries { entries result ≡ entry ∷ [] }
+    ensures depth { depth result ≡ 1 }
+    ensures sound { IsSound E.order result }
+{
+    node.content = Some(Content {
+        entry,
+        greatest: entry.end,
+    });
+    node.left = Tree::Leaf;
+    node.right = Tree::Leaf;
+    Tree::Fork(1, node)
 }
 
 // The node over its two sides, with the greatest end that it holds.
