@@ -8,7 +8,9 @@ mod Marking
 mod Moved
 mod Near
 mod Partial
+mod Passes
 mod Places
+mod Placing
 mod Reach
 mod Seen
 mod Sets

@@ -7,3 +7,4 @@ pub mod Column
 pub mod Window
 pub mod Near
 pub mod Marks
+pub mod Radix

@@ -16,6 +16,7 @@ use crate::bands::entries_of;
 use crate::find::{append, append_counted, find_cells, find_cells_from, has_in_cells};
 use crate::keep::{Tree, add_all, drop_all, move_all};
 use crate::marks::{Ends, Marks, mark_all};
+use crate::radix::in_order;
 use crate::window::window_cells;
 use ml_cone::{Cells, Label, Span, View, hull};
 use ml_ratio::{Ratio, Seq, Steps, ascending};
@@ -89,8 +90,7 @@ impl Grid {
             (λ grid. IsPermutation (marked ends.now marks.items) grid.entries) }
         ensures spare { IfOk result (λ grid. grid.spare ≡ 0) }
     {
-        let mut sorted = marks;
-        sorted.sort_unstable();
+        let sorted = in_order(alloc, marks)?;
         let tree = SpanTree::of_read(alloc, ends, sorted.as_slice())?;
         Ok(Grid { tree })
     }

@@ -9,7 +9,8 @@
 //!
 //! Within: [`bands`] has the bands in which a label is kept, and in how many cells; [`keep`] puts a
 //! label's entries in and takes them out, and [`marks`] has numbers for them, of which a grid is made at
-//! once; [`find`] finds the numbers in cells; [`window`] has the cells that meet a window.
+//! once; [`radix`] puts these in order; [`find`] finds the numbers in cells; [`window`] has the cells that
+//! meet a window.
 #![tactic(auto)]
 
 mod bands;
@@ -19,6 +20,7 @@ pub mod grid;
 mod keep;
 pub mod laws;
 mod marks;
+mod radix;
 mod window;
 
 pub use cell::Cell;
