@@ -2,6 +2,7 @@ mod Different
 mod Endings
 mod Orders
 mod Rings
+mod Holes
 mod Lists
 mod ByName
 mod Naming

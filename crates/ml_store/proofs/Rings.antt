@@ -96,7 +96,7 @@ read_order (head ∷ heads) cells k d many turns lt =
 -- ---- places and cells
 
 -- a place in a block whose head is known
-cell_in : (heads : List ℕ) (k b h : ℕ) → k / 128 ≡ b → get_or heads b 0 ≡ h → cell_at heads k ≡ 128 * b + (k % 128 + h) % 128
+pub cell_in : (heads : List ℕ) (k b h : ℕ) → k / 128 ≡ b → get_or heads b 0 ≡ h → cell_at heads k ≡ 128 * b + (k % 128 + h) % 128
 cell_in heads k b h here is =
     let e : get_or heads (k / 128) 0 ≡ h = ap (λ j. get_or heads j 0) here ∙ is in
     omega arith
@@ -256,7 +256,7 @@ head_written cells cell_of heads b h t lt small =
 abbrev pub turned_by : List ℕ → ℕ → ℕ → List ℕ
 turned_by heads b by = set heads b ((get_or heads b 0 + by) % 128)
 
-tiers_turned : (cells cell_of heads : List ℕ) (b by : ℕ) → AreTiers cells cell_of heads → b < 256 → AreTiers cells cell_of (turned_by heads b by)
+pub tiers_turned : (cells cell_of heads : List ℕ) (b by : ℕ) → AreTiers cells cell_of heads → b < 256 → AreTiers cells cell_of (turned_by heads b by)
 tiers_turned cells cell_of heads b by t lt = head_written cells cell_of heads b ((get_or heads b 0 + by) % 128) t lt (omega arith)
 
 length_turned : (cells cell_of heads : List ℕ) (b by : ℕ) → AreTiers cells cell_of heads → b < 256 → length (order_of (turned_by heads b by) cells) ≡ length (order_of heads cells)

@@ -6,10 +6,10 @@
 //!
 //! Within: `table` finds the rows by place, number and id. They stand in `shelf` by number, and `rows` has their
 //! order, which is one of `numbers`; `names` has the order of their ids. Both are kept in `tiers`, in which a
-//! number moves without most of the others, so a row that comes or goes moves few. `entries` and `pairs` are
-//! what belongs to a row in the grid and in the index of blockers; `parts` puts both in and takes them out,
-//! `moving` gives rows other slots, and `searching` looks for labels in the grid. `bulk` and `sorted` have the
-//! same for many rows at once.
+//! number moves through rings of cells (`ring`) without most of the others. So a row that comes or goes moves
+//! few. `entries` and `pairs` are what belongs to a row in the grid and in the index of blockers; `parts` puts
+//! both in and takes them out, `moving` gives rows other slots, and `searching` looks for labels in the grid.
+//! `bulk` and `sorted` have the same for many rows at once.
 #![tactic(auto)]
 
 mod bulk;
@@ -20,6 +20,7 @@ mod names;
 mod numbers;
 mod pairs;
 mod parts;
+mod ring;
 pub mod row;
 mod rows;
 pub mod same;

@@ -1,5 +1,5 @@
 //! Rows that stand by number.
-ghost use Rattle.std.specs.Prelude.{◌≡◌, ◌<◌, ◌≤◌, length, Some, None, IfOk, slice_set};
+ghost use Rattle.std.specs.Prelude.{◌≡◌, ◌<◌, ◌≤◌, length, All, Some, None, IfOk, slice_set};
 ghost use Rattle.ml_ratio.specs.Limits.{most_labels};
 ghost use Rattle.ml_store.specs.Boxes.{unboxed};
 ghost use Rattle.ml_store.specs.Rows.{AreInTurn};
@@ -33,7 +33,8 @@ impl Model for Shelf {
 
 // No row stands anywhere.
 fn empty_places(alloc: Global) -> Result<Vec<Option<Box<Row>>>, AllocError>
-    ensures { IfOk result (λ places. length places.items ≡ most_labels) }
+    ensures many { IfOk result (λ places. length places.items ≡ most_labels) }
+    ensures empty { IfOk result (λ places. All (λ place. place ≡ None) places.items) }
 {
     let mut places = Vec::with_capacity(alloc, MOST_LABELS)?;
     for _ in 0..MOST_LABELS {

@@ -6,14 +6,13 @@ ghost use Rattle.ml_store.specs.Named.{name_of};
 ghost use Rattle.ml_store.specs.Rows.{HaveOwnIds};
 
 use crate::row::Row;
-use ml_ratio::Text;
 use std::alloc::{AllocError, Global};
 
-/// The number of a label, with its id.
+/// The number of a label, with the bytes of its id: slices of bytes are compared at their first bytes without a call.
 #[derive(Clone, Copy)]
 pub struct Named<'a> {
     number: u32,
-    id: &'a Text,
+    id: &'a [u8],
 }
 
 // The rows' numbers and ids.
@@ -24,7 +23,7 @@ fn names_of<'a>(alloc: Global, rows: &'a [Box<Row>]) -> Result<Vec<Named<'a>>, A
     for row in rows {
         names.push(Named {
             number: row.number,
-            id: row.label.id(),
+            id: row.label.id().as_str().as_bytes(),
         })?;
     }
     Ok(names)
@@ -51,6 +50,6 @@ pub fn by_name(alloc: Global, rows: &[Box<Row>]) -> Result<Vec<u32>, AllocError>
     ensures len { IfOk result (λ ids. length ids.items ≡ length rows.now) }
 {
     let mut names = names_of(alloc, rows)?;
-    names.sort_unstable_by(|one, other| one.id.cmp(other.id));
+    names.sort_unstable_by(|one, other| one.id.cmp(&other.id));
     numbers_of(alloc, names.as_slice())
 }

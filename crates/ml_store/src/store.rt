@@ -1,5 +1,5 @@
 //! The live labels with the grid and the index of blockers, which always agree.
-ghost use Rattle.std.specs.Prelude.{ℕ, ◌≡◌, ◌+◌, ◌<◌, ◌≤◌, [], length, insert, remove, OnOk, IfOk, MatchOption, HoldsAt, slice_index_or};
+ghost use Rattle.std.specs.Prelude.{◌≡◌, ◌+◌, ◌<◌, ◌≤◌, [], length, insert, remove, OnOk, IfOk, MatchOption, HoldsAt, slice_index_or};
 ghost use Rattle.ml_ratio.specs.Limits.{most_labels};
 ghost use Rattle.ml_grid.specs.Count.{entry_count};
 ghost use Rattle.ml_store.specs.Moved.{moved_rows, moved_pairs};

@@ -1,5 +1,5 @@
 //! The table of live labels: rows in order, found by number and by id.
-ghost use Rattle.std.specs.Prelude.{ℕ, ◌≡◌, ◌+◌, ◌<◌, ◌≤◌, [], List, length, MatchOption, OnOk, IfOk, HoldsAt, insert, remove, vec_len};
+ghost use Rattle.std.specs.Prelude.{◌≡◌, ◌+◌, ◌<◌, ◌≤◌, [], length, MatchOption, OnOk, OnErr, IfOk, HoldsAt, insert, remove};
 ghost use Rattle.ml_ratio.specs.Limits.{most_labels};
 ghost use Rattle.ml_store.specs.Boxes.{unboxed};
 ghost use Rattle.ml_store.specs.Names.{names_in, HaveId};
@@ -181,6 +181,7 @@ impl Table {
     /// `n` is above 32,768, which leaves the room.
     pub fn reserve(&mut self, n: usize) -> Result<(), AllocError>
         ensures ok { OnOk result (n ≤ self.new.room) }
+        ensures refused { OnErr result (most_labels < n) }
         ensures rows { self.new.rows ≡ self.old.rows }
         ensures room { self.old.room ≤ self.new.room }
     {

@@ -1,15 +1,13 @@
 //! All numbers in an order in which one moves without most of the others.
-ghost use Rattle.std.specs.Prelude.{ℕ, ◌≡◌, ◌+◌, ◌*◌, ◌<◌, ◌≤◌, ◌↔◌, List, length, Contains, IfOk, take, swap, slice_index};
+ghost use Rattle.std.specs.Prelude.{ℕ, ◌≡◌, ◌+◌, ◌*◌, ◌/◌, ◌<◌, ◌≤◌, ◌↔◌, length, Contains, IfOk, take, slice_index};
 ghost use Rattle.ml_ratio.specs.Limits.{most_labels};
 ghost use Rattle.ml_store.specs.Rows.{AreDifferent};
-ghost use Rattle.ml_store.specs.Tiers.{AreAll, AreAscending, LeadsBack, cell_at, shifted};
+ghost use Rattle.ml_store.specs.Tiers.{AreAll, AreAscending, LeadsBack, shifted};
 
+use crate::ring::{BLOCK, carry_back, carry_on, cell_at, pass_back, pass_on, place_at};
 use ml_ratio::MOST_LABELS;
 use std::alloc::{AllocError, Global};
 use std::marker::Model;
-
-// How many cells a block has.
-const BLOCK: usize = 128;
 
 // How many blocks there are.
 const BLOCKS: usize = 256;
@@ -70,46 +68,6 @@ fn write_order(cells: &mut Vec<u16>, cell_of: &mut Vec<u16>, order: &[u32])
     }
 }
 
-// The cell of a place.
-fn cell_at(heads: &[u8], k: usize) -> usize
-    requires heads { length heads.now ≡ 256 }
-    requires place { k < most_labels }
-    ensures cell { result ≡ cell_at heads.now k }
-    ensures within { result < most_labels }
-{
-    k / BLOCK * BLOCK + (k % BLOCK + heads[k / BLOCK] as usize) % BLOCK
-}
-
-// The place of a cell.
-fn place_at(heads: &[u8], cell: usize) -> usize
-    requires heads { length heads.now ≡ 256 }
-    requires turns { (b : ℕ) → b < 256 → slice_index heads.now b < 128 }
-    requires cell { cell < most_labels }
-    ensures cell { cell_at heads.now result ≡ cell }
-    ensures within { result < most_labels }
-{
-    cell / BLOCK * BLOCK + (cell % BLOCK + BLOCK - heads[cell / BLOCK] as usize) % BLOCK
-}
-
-// The numbers of two cells change places.
-fn swap_cells(cells: &mut Vec<u16>, cell_of: &mut Vec<u16>, one: usize, other: usize)
-    requires all_cells { length cells.old.items ≡ most_labels }
-    requires all_numbers { length cell_of.old.items ≡ most_labels }
-    requires told { LeadsBack cells.old.items cell_of.old.items }
-    requires found { LeadsBack cell_of.old.items cells.old.items }
-    requires one { one < most_labels }
-    requires other { other < most_labels }
-    ensures all_numbers { length cell_of.new.items ≡ most_labels }
-    ensures told { LeadsBack cells.new.items cell_of.new.items }
-    ensures found { LeadsBack cell_of.new.items cells.new.items }
-    ensures cells { cells.new.items ≡ swap cells.old.items one other }
-{
-    let number = cells[one] as usize;
-    let mate = cells[other] as usize;
-    cells.swap(one, other);
-    cell_of.swap(number, mate);
-}
-
 impl Tiers {
     /// These numbers come first, in this order, and the others behind, ascending.
     ///
@@ -152,15 +110,54 @@ impl Tiers {
         place_at(&self.heads, self.cell_of[number] as usize)
     }
 
-    // The numbers at two places change places.
-    fn swap(&mut self, one: usize, other: usize)
-        requires one { one < length self.old }
-        requires other { other < length self.old }
-        ensures { self.new ≡ swap self.old one other }
+    // The number at `from` moves back to `to` in its block.
+    fn carry_back(&mut self, from: usize, to: usize)
+        requires from_place { from < length self.old }
+        requires to_place { to ≤ from }
+        requires block { to / 128 ≡ from / 128 }
+        ensures { self.new ≡ shifted self.old from to }
     {
-        let cell = cell_at(&self.heads, one);
-        let mate = cell_at(&self.heads, other);
-        swap_cells(&mut self.cells, &mut self.cell_of, cell, mate);
+        carry_back(&mut self.cells, &mut self.cell_of, &self.heads, from, to);
+    }
+
+    // The number at `from` moves on to `to` in its block.
+    fn carry_on(&mut self, from: usize, to: usize)
+        requires from_place { from ≤ to }
+        requires to_place { to < length self.old }
+        requires block { to / 128 ≡ from / 128 }
+        ensures { self.new ≡ shifted self.old from to }
+    {
+        carry_on(&mut self.cells, &mut self.cell_of, &self.heads, from, to);
+    }
+
+    // The first number of block `from` comes to stand first in block `to`, which is not behind it.
+    fn pass_back(&mut self, from: usize, to: usize)
+        requires from_block { 128 * from < length self.old }
+        requires to_block { to ≤ from }
+        ensures { self.new ≡ shifted self.old (128 * from) (128 * to) }
+    {
+        pass_back(
+            &mut self.cells,
+            &mut self.cell_of,
+            &mut self.heads,
+            from,
+            to,
+        );
+    }
+
+    // The last number of block `from` comes to stand last in block `to`, which is not before it.
+    fn pass_on(&mut self, from: usize, to: usize)
+        requires from_block { from ≤ to }
+        requires to_block { 128 * to < length self.old }
+        ensures { self.new ≡ shifted self.old (128 * from + 127) (128 * to + 127) }
+    {
+        pass_on(
+            &mut self.cells,
+            &mut self.cell_of,
+            &mut self.heads,
+            from,
+            to,
+        );
     }
 
     // The last number of a block comes to stand first in it.
@@ -179,40 +176,58 @@ impl Tiers {
         self.heads[block] = ((self.heads[block] as usize + 1) % BLOCK) as u8;
     }
 
-    // The number at `from` moves to `to`, which is not behind it.
-    fn move_back(&mut self, from: usize, to: usize)
+    // The number at `from` moves to `to` in its block. Where that is more than half of the ring, the ring is turned, and
+    // the number moves the other way around.
+    fn move_within(&mut self, from: usize, to: usize)
+        requires all { length self.old ≡ most_labels }
         requires from_place { from < length self.old }
-        requires to_place { to ≤ from }
+        requires block { to / 128 ≡ from / 128 }
         ensures { self.new ≡ shifted self.old from to }
     {
-        let mut at = from;
-        while to < at {
-            if at % BLOCK == BLOCK - 1 && at - to >= BLOCK - 1 {
-                self.turn_back(at / BLOCK);
-                at -= BLOCK - 1;
-            } else {
-                self.swap(at, at - 1);
-                at -= 1;
-            }
+        let block = from / BLOCK;
+        let first = block * BLOCK;
+        let last = first + BLOCK - 1;
+        if to + BLOCK / 2 < from {
+            self.carry_on(from, last);
+            self.turn_back(block);
+            self.carry_on(first, to);
+        } else if to < from {
+            self.carry_back(from, to);
+        } else if to <= from + BLOCK / 2 {
+            self.carry_on(from, to);
+        } else {
+            self.carry_back(from, first);
+            self.turn_on(block);
+            self.carry_back(last, to);
         }
     }
 
-    // The number at `from` moves to `to`, which is not before it.
-    fn move_on(&mut self, from: usize, to: usize)
-        requires from_place { from ≤ to }
-        requires to_place { to < length self.old }
+    // The number at `from` moves to `to` in a block before its own.
+    fn move_back(&mut self, from: usize, to: usize)
+        requires all { length self.old ≡ most_labels }
+        requires from_place { from < length self.old }
+        requires to_block { to / 128 < from / 128 }
         ensures { self.new ≡ shifted self.old from to }
     {
-        let mut at = from;
-        while at < to {
-            if at % BLOCK == 0 && to - at >= BLOCK - 1 {
-                self.turn_on(at / BLOCK);
-                at += BLOCK - 1;
-            } else {
-                self.swap(at, at + 1);
-                at += 1;
-            }
-        }
+        let block = from / BLOCK;
+        let other = to / BLOCK;
+        self.move_within(from, block * BLOCK);
+        self.pass_back(block, other);
+        self.move_within(other * BLOCK, to);
+    }
+
+    // The number at `from` moves to `to` in a block behind its own.
+    fn move_on(&mut self, from: usize, to: usize)
+        requires all { length self.old ≡ most_labels }
+        requires to_place { to < length self.old }
+        requires from_block { from / 128 < to / 128 }
+        ensures { self.new ≡ shifted self.old from to }
+    {
+        let block = from / BLOCK;
+        let other = to / BLOCK;
+        self.move_within(from, block * BLOCK + BLOCK - 1);
+        self.pass_on(block, other);
+        self.move_within(other * BLOCK + BLOCK - 1, to);
     }
 
     /// The number at `from` moves to `to`, and those between close up behind it.
@@ -221,10 +236,16 @@ impl Tiers {
         requires to_place { to < length self.old }
         ensures { self.new ≡ shifted self.old from to }
     {
-        if from < to {
+        // (what is known of the columns tells that the order has all numbers)
+        let _ = &self.cells;
+        let block = from / BLOCK;
+        let other = to / BLOCK;
+        if other < block {
+            self.move_back(from, to);
+        } else if block < other {
             self.move_on(from, to);
         } else {
-            self.move_back(from, to);
+            self.move_within(from, to);
         }
     }
 }

@@ -14,5 +14,5 @@ loop-row-preserved c =
     let b = c.row-item.result in
     let there = row_there boxes i b (omega arith) c.row-item.is in
     let next = names_next rows i b.value there (box_read boxes i b (omega arith) c.row-item.is) in
-    rw (c.in_ok-push.ensures.items, map-append name_of c.loop-row.names.items, c.id.ensures, c.deref.ensures, c.deref-in-loop-row.ensures)
+    rw (c.in_ok-push.ensures.items, map-append name_of c.loop-row.names.items, c.as_bytes.ensures.value, c.as_str.ensures.bytes, c.id.ensures, c.deref.ensures, c.deref-in-loop-row.ensures)
     (ap (λ (ns : List Name). ns ++ naming_of b.value ∷ []) c.loop-row.invariant ∙ sym next)

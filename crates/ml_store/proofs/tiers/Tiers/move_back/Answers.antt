@@ -1,24 +1,15 @@
-use Rattle.std.proofs.Common.{arith, ◌≡◌, ◌+◌, ◌-◌, ◌*◌, ◌/◌, ◌<◌, ◌∙◌, length, ap}
-use Rattle.ml_store.proofs.Orders.{length-shifted, moved_more, swapped_back}
+use Rattle.std.proofs.Common.{arith, refl, ◌≡◌, ◌*◌, ◌/◌, length}
+use Rattle.ml_store.proofs.Orders.{moved_more}
 use Rattle.ml_store.proofs.tiers.Tiers.move_back.Goals as goal
 
-pub loop-at-preserved-then-at-to : goal.loop-at-preserved-then-at-to
-loop-at-preserved-then-at-to c =
-    let in' : c.loop-at.at < length c.args.self.now = (let a = c.requires.from_place in let b = c.loop-at.invariant.within in omega arith) in
-    record {
-      within = omega arith;
-      beyond = omega arith;
-      moved = moved_more c.args.self.now c.loop-at.self c.turn_back.new.self c.args.from c.loop-at.at (c.loop-at.at - 127) (128 * (c.loop-at.at / 128) + 127) (128 * (c.loop-at.at / 128))
-          c.requires.from_place in' c.loop-at.invariant.moved c.turn_back.ensures (omega arith) (omega arith);
-    }
-
-pub loop-at-preserved : goal.loop-at-preserved
-loop-at-preserved c =
-    let in' : c.loop-at.at < length c.args.self.now = (let a = c.requires.from_place in let b = c.loop-at.invariant.within in omega arith) in
-    let size : length c.loop-at.self ≡ length c.args.self.now = ap length c.loop-at.invariant.moved ∙ length-shifted c.args.self.now c.args.from c.loop-at.at c.requires.from_place in' in
-    record {
-      within = omega arith;
-      beyond = omega arith;
-      moved = moved_more c.args.self.now c.loop-at.self c.swap.new.self c.args.from c.loop-at.at (c.loop-at.at - 1) c.loop-at.at (c.loop-at.at - 1)
-          c.requires.from_place in' c.loop-at.invariant.moved (c.swap.ensures ∙ swapped_back c.loop-at.self c.loop-at.at (omega arith) (omega arith)) (omega arith) (omega arith);
-    }
+pub returns : goal.returns
+returns c =
+    let all : length c.args.self.now ≡ 32768 = c.requires.all in
+    let in' = c.requires.from_place in
+    let block = c.args.from / 128 in
+    let other = c.args.to / 128 in
+    let moved = moved_more c.args.self.now c.move_within.new.self c.pass_back.new.self c.args.from (block * 128) (other * 128) (128 * block)
+    (128 * other)
+    in' (omega arith) c.move_within.ensures c.pass_back.ensures (omega arith) (omega arith) in
+    moved_more c.args.self.now c.pass_back.new.self c.move_within-2.new.self c.args.from (other * 128) c.args.to (other * 128) c.args.to in'
+    (omega arith) moved c.move_within-2.ensures refl refl

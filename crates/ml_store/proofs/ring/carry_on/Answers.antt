@@ -1,0 +1,29 @@
+use Rattle.std.proofs.Common.{arith, refl, ◌≡◌, ◌+◌, ◌/◌}
+use Rattle.ml_store.specs.Tiers.{order_of}
+use Rattle.ml_store.proofs.Rings.{length_tiers}
+use Rattle.ml_store.proofs.Holes.{taken_out, cell_behind, mate_low, carried_on}
+use Rattle.ml_store.proofs.ring.carry_on.Goals as goal
+
+pub loop-init : goal.loop-init
+loop-init c =
+    let a = c.requires.from_place in let b = c.requires.to_place in
+    taken_out c.args.cells.now c.args.cell_of.now c.args.heads.now _ c.cell_at-hole.result c.args.from c.args.from c.requires.tiers (omega arith) refl
+    c.cell_at-hole.ensures.cell refl
+
+pub put-requires-clause-number : goal.put-requires-clause-number
+put-requires-clause-number c =
+    let a = c.requires.from_place in let b = c.requires.to_place in
+    let block : (c.loop.counter + 1) / 128 ≡ c.loop.counter / 128 = (let d = c.requires.block in omega arith) in
+    let next = cell_behind c.args.heads.now c.loop.hole c.loop.counter (c.loop.counter + 1) c.loop.invariant.here refl block in
+    mate_low _ c.loop.cells c.loop.cell_of c.args.heads.now _ c.loop.hole _ c.args.from c.loop.counter (c.loop.counter + 1) c.loop.invariant
+    (omega arith) (λ e. omega arith) next
+
+pub loop-preserved : goal.loop-preserved
+loop-preserved c =
+    let a = c.requires.from_place in let b = c.requires.to_place in
+    let block : (c.loop.counter + 1) / 128 ≡ c.loop.counter / 128 = (let d = c.requires.block in omega arith) in
+    let next = cell_behind c.args.heads.now c.loop.hole c.loop.counter (c.loop.counter + 1) c.loop.invariant.here refl block in
+    rw (c.put.ensures.cells, c.put.ensures.cell_of) (carried_on (order_of c.args.heads.now c.args.cells.now) c.loop.cells c.loop.cell_of
+    c.args.heads.now _ c.loop.hole _ _ c.args.from
+    c.loop.counter (c.loop.counter + 1) c.loop.invariant (length_tiers c.args.cells.now c.args.cell_of.now c.args.heads.now c.requires.tiers)
+    (omega arith) (omega arith) refl next refl)

@@ -1,0 +1,8 @@
+use Rattle.std.proofs.Common.{◌-◌, ◌*◌}
+use Rattle.ml_store.specs.Tiers.{order_of}
+use Rattle.ml_store.proofs.Holes.{IsCarried}
+use Rattle.ml_store.proofs.ring.pass_back.Given as goal
+
+abbrev pub invariant-loop-passed : goal.invariant-loop-passed
+invariant-loop-passed l = IsCarried (order_of l.fn.heads l.fn.cells) l.cells l.cell_of l.heads l.number l.hole (128 * l.from)
+    (128 * (l.from - l.passed))
