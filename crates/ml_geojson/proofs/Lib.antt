@@ -16,3 +16,4 @@ mod Once
 mod Exact
 mod OneFault
 mod SameFeature
+mod TextLemmas

@@ -1,31 +1,27 @@
 -- The text of features reads back as them.
-use Rattle.std.proofs.Common.{◌≡◌, ℕ, zero, suc, ◌<◌, List, [], ◌∷◌, length, map as mapped, get_or, take, Bool, true, false, ◌||◌, Result, Ok, Err, refl, sym, ◌∙◌, subst, arith}
-use Rattle.std.specs.Result.{IfOk}
+use Rattle.std.proofs.Common.{◌≡◌, ℕ, zero, suc, ◌<◌, List, [], ◌∷◌, length, map as mapped, get_or, take, Bool, true, false, ◌||◌, Ok, refl, sym, ◌∙◌, arith}
 use Rattle.std.specs.Str.{bytes_eq}
-use Rattle.std.specs.declared.alloc.AllocError.{AllocError}
 use Rattle.std.proofs.lemmas.List.{length-map}
 use Rattle.std.proofs.lemmas.Slice.Eq.{bytes_eq-Decides}
-use Rattle.ml_json.specs.Tree.{Tree}
 use Rattle.ml_json.specs.Answer.{IsText}
-use Rattle.ml_json.specs.Canonical.{settled, IsPrintable}
+use Rattle.ml_json.specs.Canonical.{settled}
 use Rattle.ml_ratio.specs.declared.feature.Feature.{Feature}
 use Rattle.ml_geojson.specs.Collection.{Parts, own_parts, feature, collection}
 use Rattle.ml_geojson.specs.Ids.{is_among}
 use Rattle.ml_geojson.specs.Map.{ids, AreMadeOf, IsMap, IsFeature, HaveDifferentIds}
 use Rattle.ml_geojson.specs.Text.{feature_tree, collection_tree}
 
-module _ (f : Feature) (tree : Tree) (same : tree ≡ feature_tree f) (prints : IsPrintable (feature_tree f)) (back : feature 0 (settled (feature_tree f)) ≡ Ok (own_parts f)) where
-  -- a feature's text
-  pub feature_written : (result : Result (List ℕ) AllocError) → (IsPrintable tree → IfOk result (λ text. IsText text (settled tree))) → IfOk result (λ text. IsFeature text f)
-  feature_written (Ok text) h = record {
-    tree = settled (feature_tree f);
-    text = subst (λ t. IsText text (settled t)) same (h (subst IsPrintable (sym same) prints));
-    parts = own_parts f;
-    reads = back;
-    named = refl;
-    made = record { shape = refl; props = refl };
-  }
-  feature_written (Err e) h = tt
+-- a feature's text
+pub feature_written : (f : Feature) (text : List ℕ) → IsText text (settled (feature_tree f)) →
+    feature 0 (settled (feature_tree f)) ≡ Ok (own_parts f) → IsFeature text f
+feature_written f text h back = record {
+  tree = settled (feature_tree f);
+  text = h;
+  parts = own_parts f;
+  reads = back;
+  named = refl;
+  made = record { shape = refl; props = refl };
+}
 
 parts_at : (fs : List Feature) (k : ℕ) (p : Parts) (f : Feature) → k < length fs → get_or (mapped own_parts fs) k p ≡ own_parts (get_or fs k f)
 parts_at [] k p f lt = absurd (omega arith)
@@ -60,14 +56,12 @@ module _ (fs : List Feature) (differ : HaveDifferentIds fs) where
   }
 
   -- a collection's text
-  pub collection_written : (tree : Tree) → tree ≡ collection_tree fs → IsPrintable (collection_tree fs) →
-      collection (settled (collection_tree fs)) ≡ Ok (mapped own_parts fs) → (result : Result (List ℕ) AllocError) →
-      (IsPrintable tree → IfOk result (λ text. IsText text (settled tree))) → IfOk result (λ text. IsMap text fs)
-  collection_written tree same prints back (Ok text) h = record {
+  pub collection_written : (text : List ℕ) → IsText text (settled (collection_tree fs)) →
+      collection (settled (collection_tree fs)) ≡ Ok (mapped own_parts fs) → IsMap text fs
+  collection_written text h back = record {
     tree = settled (collection_tree fs);
-    text = subst (λ t. IsText text (settled t)) same (h (subst IsPrintable (sym same) prints));
+    text = h;
     parts = mapped own_parts fs;
     reads = back;
     made = made_of;
   }
-  collection_written tree same prints back (Err e) h = tt

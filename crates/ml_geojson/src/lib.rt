@@ -3,7 +3,7 @@
 //! - [`reader`]: a map file or one feature to features, with [`positions`], [`shapes`],
 //!   [`properties`] and [`parts`] of a feature, [`members`] of JSON maps, the types of geometry
 //!   (`kind`), and the [`ids`] that features get, which they lack as a `draft`;
-//! - [`writer`]: features to text, by way of JSON [`values`];
+//! - [`writer`]: features to [`text`];
 //! - [`fault`]: why bytes are refused;
 //! - [`laws`]: laws over the definitions alone.
 #![tactic(auto)]
@@ -20,7 +20,7 @@ mod positions;
 mod properties;
 pub mod reader;
 mod shapes;
-mod values;
+mod text;
 pub mod writer;
 
 pub use fault::GeoFault;

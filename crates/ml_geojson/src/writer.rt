@@ -4,7 +4,8 @@ ghost use Rattle.ml_geojson.specs.Text.{feature_text, collection_text};
 ghost use Rattle.ml_geojson.specs.Map.{HaveDifferentIds, IsMap, IsFeature};
 
 use crate::laws::trees_read_back;
-use crate::values::{collection_value, feature_value};
+use crate::text::{PutText, put_collection};
+use ml_json::laws::printed_reads_back;
 use ml_ratio::{Feature, Seq};
 use std::alloc::{AllocError, Global};
 
@@ -19,8 +20,10 @@ pub fn write_collection(alloc: Global, features: &Seq<Feature>) -> Result<Seq<u8
     ensures back { IfOk result (λ text. IsMap text features.now) }
 {
     trees_read_back();
-    let value = collection_value(alloc, features.as_slice())?;
-    ml_json::write(alloc, &value)
+    printed_reads_back();
+    let mut out = Vec::new(alloc);
+    put_collection(&mut out, features)?;
+    Ok(Seq::of_vec(out))
 }
 
 /// The canonical text of one feature. Reading it gives the same feature.
@@ -32,6 +35,8 @@ pub fn write_feature(alloc: Global, feature: &Feature) -> Result<Seq<u8>, AllocE
     ensures back { IfOk result (λ text. IsFeature text feature.now) }
 {
     trees_read_back();
-    let value = feature_value(alloc, feature)?;
-    ml_json::write(alloc, &value)
+    printed_reads_back();
+    let mut out = Vec::new(alloc);
+    feature.put_text(&mut out)?;
+    Ok(Seq::of_vec(out))
 }

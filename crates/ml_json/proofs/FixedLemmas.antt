@@ -6,8 +6,10 @@ use Rattle.std.proofs.Math.Nat.{pow-suc, one-le-pow, mul-le-mul_right}
 use Rattle.std.proofs.lemmas.Nat.{mod-mul-add, div-add-mod', mod_below}
 use Rattle.std.proofs.lemmas.Bool.Decides.{nat_tests}
 use Rattle.std.proofs.lemmas.List.Elements.{filter-append}
-use Rattle.std.proofs.lemmas.Fmt.{decimal_by_steps, decimal_is_IsNumeral}
+use Rattle.std.proofs.lemmas.Fmt.{decimal_by_steps, decimal_is_IsNumeral, IsAscii-decimal}
+use Rattle.std.proofs.lemmas.Str.{IsAscii-append}
 use Rattle.std.specs.Fmt.{decimal}
+use Rattle.std.specs.Str.{IsAscii}
 use Rattle.std.specs.Char.{digit_value}
 use Rattle.std.specs.Str.Parse.{digits_value, digits_value_after, starts_with_minus}
 use Rattle.ml_ratio.specs.JsonNumber.{is_between, minus_number, plain_number, IsNumber, Unsigned, no_exponent, fraction, whole, nought, Whole, AllDigits, is_digit}
@@ -199,10 +201,31 @@ text_back (negsuc m) h =
     let within : nat_le (suc m) 2000000000 ≡ true = grind (arith, nat_tests) in
     rw (size, within) refl
 
--- the pieces that are written, one behind another
-pub joined_text : (start : List ℕ) (size : ℕ) → ((start ++ decimal (size / 10000000)) ++ 46 ∷ []) ++ last_digits 7 size ≡ start ++ size_text size
+-- a size's text in two parts, behind a start
+pub joined_text : (start : List ℕ) (size : ℕ) (digits : List ℕ) → digits ≡ last_digits 7 size →
+    (start ++ decimal (size / 10000000)) ++ 46 ∷ digits ≡ start ++ size_text size
 unfolding size_text
-joined_text start size = append_assoc (start ++ decimal (size / 10000000)) (46 ∷ []) (last_digits 7 size) ∙ append_assoc start (decimal (size / 10000000)) (46 ∷ last_digits 7 size)
+joined_text start size digits e =
+    append_assoc start (decimal (size / 10000000)) (46 ∷ digits) ∙ ap (λ s. start ++ (decimal (size / 10000000) ++ 46 ∷ s)) e
+
+more_ascii : (b : ℕ) (bs : List ℕ) → b < 128 → IsAscii bs → IsAscii (b ∷ bs)
+more_ascii b bs h g zero = h
+more_ascii b bs h g (suc i) = g i
+
+digits_ascii : (ds : List ℕ) → AllDigits ds → IsAscii ds
+digits_ascii [] h = λ i. omega arith
+digits_ascii (d ∷ ds) h = let e = h.0 in more_ascii d ds (grind (arith, nat_tests)) (digits_ascii ds h.1)
+
+size_ascii : (n : ℕ) → n < 2 ^ 64 → IsAscii (size_text n)
+unfolding size_text
+size_ascii n h =
+    IsAscii-append (decimal (n / 10000000)) (46 ∷ last_digits 7 n) (IsAscii-decimal (n / 10000000) (omega arith))
+    (more_ascii 46 (last_digits 7 n) (omega arith) (digits_ascii (last_digits 7 n) (all_last 7 n)))
+
+-- the text is ASCII
+pub text_ascii : (v : ℤ) → unsigned_abs v < 2 ^ 64 → IsAscii (e7_text v)
+text_ascii (pos n) h = size_ascii n h
+text_ascii (negsuc n) h = more_ascii 45 (size_text (suc n)) (omega arith) (size_ascii (suc n) h)
 
 -- the text of a number below 0 is a minus and the text of its size
 pub minus_text : (v : ℤ) (size : ℕ) → size ≡ unsigned_abs v → v <ℤ pos 0 → 45 ∷ size_text size ≡ e7_text v

@@ -1,8 +1,9 @@
 //! World coordinates as text.
-ghost use Rattle.std.specs.Prelude.{◌≡◌, ◌+◌, ◌%◌, ◌++◌, ◌∷◌, [], IfOk, OnOk, string_bytes};
+ghost use Rattle.std.specs.Prelude.{◌≡◌, ◌+◌, ◌%◌, ◌++◌, IfOk, OnOk};
 ghost use Rattle.ml_ratio.specs.JsonNumber.{IsNumber};
-ghost use Rattle.ml_json.specs.Fixed.{e7_text, last_digits, ReadsBack};
+ghost use Rattle.ml_json.specs.Fixed.{e7_text, size_text, ReadsBack};
 
+use itoa::Buffer;
 use ml_ratio::Text;
 use std::alloc::{AllocError, Global};
 
@@ -15,35 +16,46 @@ pub fn write_e7(alloc: Global, v: i64) -> Result<Text, AllocError>
     ensures number { IfOk result IsNumber }
     ensures back { IfOk result (ReadsBack v) }
 {
-    let size = v.unsigned_abs();
-    let mut text = String::new(alloc);
+    let mut text = Vec::new(alloc);
+    put_e7(&mut text, v)?;
+    Ok(Text::of_string(unsafe { String::from_utf8_unchecked(text) }))
+}
+
+/// Puts the text of a coordinate behind what was written.
+///
+/// # Errors
+/// Out of memory.
+pub fn put_e7(out: &mut Vec<u8>, v: i64) -> Result<(), AllocError>
+    ensures { OnOk result (out.new.items ≡ out.old.items ++ e7_text v) }
+{
     if v < 0 {
-        text.push('-')?;
+        out.push(b'-')?;
+        put_size(out, v.unsigned_abs())
+    } else {
+        put_size(out, v.unsigned_abs())
     }
-    let whole = size / 10_000_000;
-    text.push_str(whole.to_string(alloc)?.as_str())?;
-    text.push('.')?;
-    push_last_digits(&mut text, size)?;
-    Ok(Text::of_string(text))
 }
 
-// Puts the last seven decimal digits behind the text.
-fn push_last_digits(text: &mut String, number: u64) -> Result<(), AllocError>
-    ensures { OnOk result (string_bytes text.new ≡ string_bytes text.old ++ last_digits 7 number) }
+// Puts the text of a size behind what was written.
+fn put_size(out: &mut Vec<u8>, size: u64) -> Result<(), AllocError>
+    ensures { OnOk result (out.new.items ≡ out.old.items ++ size_text size) }
 {
-    push_digit(text, number / 1_000_000)?;
-    push_digit(text, number / 100_000)?;
-    push_digit(text, number / 10_000)?;
-    push_digit(text, number / 1_000)?;
-    push_digit(text, number / 100)?;
-    push_digit(text, number / 10)?;
-    push_digit(text, number)
+    out.extend_from_slice(Buffer::new().format(size / 10_000_000).as_bytes())?;
+    out.extend_from_slice(&[
+        b'.',
+        last_digit(size / 1_000_000),
+        last_digit(size / 100_000),
+        last_digit(size / 10_000),
+        last_digit(size / 1_000),
+        last_digit(size / 100),
+        last_digit(size / 10),
+        last_digit(size),
+    ])
 }
 
-// Puts the last decimal digit behind the text.
-fn push_digit(text: &mut String, number: u64) -> Result<(), AllocError>
-    ensures { OnOk result
-        (string_bytes text.new ≡ string_bytes text.old ++ (48 + number % 10) ∷ []) }
+// The last decimal digit.
+fn last_digit(number: u64) -> u8
+    ensures { result ≡ 48 + number % 10 }
 {
-    text.push((b'0' + (number % 10) as u8) as char)
+    b'0' + (number % 10) as u8
 }

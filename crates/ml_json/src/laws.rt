@@ -1,12 +1,12 @@
-//! Laws over the definitions alone: what bytes stand for, and what coordinates and members keep when
-//! they are written and read.
+//! Laws over the definitions alone: what bytes stand for, and what trees, coordinates and members keep
+//! when they are written and read.
 ghost use Rattle.std.specs.Prelude.{◌≡◌, ◌≢◌, ℕ, ℤ, List};
 ghost use Rattle.ml_ratio.specs.JsonNumber.{IsNumber};
 ghost use Rattle.ml_ratio.specs.World.{IsInWorld};
 ghost use Rattle.ml_json.specs.Tree.{Tree, Pairs, no_pairs, put_all};
 ghost use Rattle.ml_json.specs.Grammar.{Reads};
 ghost use Rattle.ml_json.specs.Answer.{IsText, Refuses};
-ghost use Rattle.ml_json.specs.Canonical.{IsAscending};
+ghost use Rattle.ml_json.specs.Canonical.{canonical, settled, IsAscending, IsPrintable, HasUtf8};
 ghost use Rattle.ml_json.specs.Fixed.{e7_text, ReadsBack};
 ghost use Rattle.ml_json.specs.declared.value.JsonFault.{JsonFault};
 
@@ -27,6 +27,12 @@ pub fn one_fault()
     ensures { (bytes : List ℕ) (one other : JsonFault) →
         one ≢ JsonFault.Memory → other ≢ JsonFault.Memory →
         Refuses one bytes → Refuses other bytes → one ≡ other }
+{}
+
+/// The text of a tree that can be printed reads as the settled tree.
+pub fn printed_reads_back()
+    ensures { (tree : Tree) →
+        IsPrintable tree → HasUtf8 tree → IsText (canonical tree) (settled tree) }
 {}
 
 /// The text of a coordinate reads as this coordinate.

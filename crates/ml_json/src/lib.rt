@@ -37,8 +37,8 @@ pub mod value;
 pub mod writer;
 
 pub use decimal::{coordinate, e7, whole_part};
-pub use fixed::write_e7;
+pub use fixed::{put_e7, write_e7};
 pub use lent::{Lent, LentPair, LentText};
 pub use reader::{lend, read};
 pub use value::{Json, JsonFault, Pair};
-pub use writer::write;
+pub use writer::{put_string, write};

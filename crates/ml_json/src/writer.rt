@@ -1,5 +1,5 @@
 //! A value to its canonical text.
-ghost use Rattle.std.specs.Prelude.{◌≡◌, ◌<◌, ◌++◌, ◌∷◌, List, ℕ, IfOk, OnOk};
+ghost use Rattle.std.specs.Prelude.{◌≡◌, ◌<◌, ◌++◌, ◌∷◌, List, ℕ, true, IfOk, OnOk};
 ghost use Rattle.std.specs.Str.{IsUtf8};
 ghost use Rattle.ml_json.specs.Answer.{IsText};
 ghost use Rattle.ml_json.specs.Canonical.{canonical, byte_on, bytes_on, string_on, hex_byte, tree_on, rest_on, items_on, members_on, more_on, settled, IsPrintable, IsWritable, HasUtf8, AllHaveUtf8, AllPairsHaveUtf8};
@@ -103,19 +103,53 @@ fn put_member(out: &mut Vec<u8>, pair: &Pair) -> Result<(), AllocError>
     put_value(out, &pair.value)
 }
 
-// Puts a string between quotes behind what was written.
-fn put_string(out: &mut Vec<u8>, text: &Text) -> Result<(), AllocError>
+/// Puts a string between quotes behind what was written.
+///
+/// # Errors
+/// Out of memory.
+pub fn put_string(out: &mut Vec<u8>, text: &Text) -> Result<(), AllocError>
     ensures text { OnOk result
         ((r : List ℕ) → out.new.items ++ r ≡ out.old.items ++ string_on text.now r) }
     ensures utf8 { IsUtf8 text.now }
 {
     let bytes = text.as_str().as_bytes();
     out.push(b'"')?;
+    put_bytes(out, bytes)?;
+    out.push(b'"')?;
+    Ok(())
+}
+
+// Puts a string's bytes behind what was written: at once where no byte is escaped, as in most strings.
+fn put_bytes(out: &mut Vec<u8>, bytes: &[u8]) -> Result<(), AllocError>
+    ensures { OnOk result
+        ((r : List ℕ) → out.new.items ++ r ≡ out.old.items ++ bytes_on bytes.now r) }
+{
+    if are_raw(bytes) {
+        return out.extend_from_slice(bytes);
+    }
     for byte in bytes {
         put_byte(out, *byte)?;
     }
-    out.push(b'"')?;
     Ok(())
+}
+
+// Whether each of the bytes stands for itself.
+fn are_raw(bytes: &[u8]) -> bool
+    ensures { result ≡ true → (r : List ℕ) → bytes_on bytes.now r ≡ bytes.now ++ r }
+{
+    for byte in bytes {
+        if !is_raw(*byte) {
+            return false;
+        }
+    }
+    true
+}
+
+// Whether the byte stands for itself in a string.
+fn is_raw(byte: u8) -> bool
+    ensures { result ≡ true → (r : List ℕ) → byte_on byte r ≡ byte ∷ r }
+{
+    32 <= byte && byte != b'"' && byte != b'\\'
 }
 
 // Puts a byte of a string behind what was written, escaped where it has to be.

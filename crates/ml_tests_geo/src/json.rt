@@ -1,7 +1,10 @@
 //! JSON texts: worked cases and hostile texts, and that calls succeed where memory is ample.
 //! A case is a line, what is given before the arrow and what is wanted behind it.
 use crate::cases::{Subject, each_holds};
-use ml_json::{Json, JsonFault, Lent, coordinate, e7, lend, read, whole_part, write, write_e7};
+use ml_json::{
+    Json, JsonFault, Lent, coordinate, e7, lend, put_e7, put_string, read, whole_part, write,
+    write_e7,
+};
 use ml_ratio::Text;
 use std::alloc::Global;
 use std::process::Abort;
@@ -279,6 +282,23 @@ fn values_have_canonical_texts(rt: HostRuntime) {
     let alloc = rt.alloc();
     each_holds::<OfValue>(&rt, alloc, CANONICAL);
     each_holds::<OfValue>(&rt, alloc, DELETE)
+}
+
+/// Puts the string behind what was written, with memory for it.
+fn put(rt: &impl Abort, alloc: Global, text: &str, out: &mut Vec<u8>) {
+    let text = Text::of(alloc, text).expect(rt, "memory");
+    put_string(out, &text).expect(rt, "memory");
+}
+
+#[test]
+fn strings_and_coordinates_are_put_behind_what_was_written(rt: HostRuntime) {
+    let alloc = rt.alloc();
+    let mut out = Vec::new(alloc);
+    put(&rt, alloc, "Zürich", &mut out);
+    put_e7(&mut out, -85_417_000).expect(&rt, "memory");
+    put(&rt, alloc, "a\\b\"\n", &mut out);
+    put_e7(&mut out, 5).expect(&rt, "memory");
+    assert!(rt; out.as_slice() == r#""Zürich"-8.5417000"a\\b\"\n"0.0000005"#.as_bytes());
 }
 
 /// The text of a value that is lent, if it has one.

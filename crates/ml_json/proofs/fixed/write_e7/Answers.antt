@@ -1,35 +1,33 @@
-use Rattle.std.proofs.Common.{◌≡◌, ◌<◌, ◌/◌, ◌^◌, ◌∙◌, sym, ap, subst, arith, unsigned_abs, [], ◌∷◌, ◌++◌, string_bytes, w64, rules}
-use Rattle.std.proofs.lemmas.Int.{to_z-of_z}
-use Rattle.std.specs.Fmt.{decimal}
+use Rattle.std.proofs.Common.{◌≡◌, ◌<◌, ◌^◌, ◌∙◌, sym, ap, subst, unsigned_abs, ◌++◌, arith, w64, rules}
+use Rattle.std.proofs.lemmas.Int.{ints, to_z-of_z}
+use Rattle.std.proofs.lemmas.Str.{IsUtf8-from_ascii}
+use Rattle.std.specs.Str.{IsUtf8}
 use Rattle.ml_ratio.specs.JsonNumber.{IsNumber}
-use Rattle.ml_json.specs.Fixed.{e7_text, size_text, last_digits, ReadsBack}
-use Rattle.ml_json.proofs.FixedLemmas.{text_number, text_back, joined_text, minus_text, plus_text}
+use Rattle.ml_json.specs.Fixed.{e7_text, ReadsBack}
+use Rattle.ml_json.proofs.FixedLemmas.{text_ascii, text_number, text_back}
 use Rattle.ml_json.proofs.fixed.write_e7.Goals as goal
-use Rattle.ml_json.proofs.fixed.write_e7.Goals.{then-v-lt0+in_ok-push, else-v-lt0}
+
+pub from_utf8_unchecked-requires : goal.from_utf8_unchecked-requires
+from_utf8_unchecked-requires c =
+    let v = c.args.v in
+    let fits = c.ranges.v.sfits in
+    let small : unsigned_abs v < 2 ^ 64 = grind (arith, ints) in
+    let text : c.put_e7.new.out.items ≡ e7_text v =
+    c.in_ok-put_e7.ensures ∙ ap (λ w. c.new-text.result.items ++ e7_text w) (to_z-of_z w64 v (search rules))
+    ∙ ap (λ s. s ++ e7_text v) c.new-text.ensures.items in
+    subst IsUtf8 (sym text) (IsUtf8-from_ascii (e7_text v) (text_ascii v small))
 
 pub returns : goal.returns
 returns c =
-    let size = c.unsigned_abs-size.result in
-    let start = string_bytes c.if-v-lt0.text in
-    let abs : size ≡ unsigned_abs c.args.v = c.unsigned_abs-size.ensures.value ∙ ap unsigned_abs (to_z-of_z w64 c.args.v (search rules)) in
-    let fits : unsigned_abs c.args.v < 2 ^ 64 = omega (arith, abs, c.unsigned_abs-size.ensures.bound) in
-    let whole : c.as_str.result.now ≡ decimal (size / 10000000) = c.as_str.ensures.value ∙ c.in_ok-to_string.ensures.ok in
-    let front : string_bytes c.push_str.new.self ≡ start ++ decimal (size / 10000000) = c.in_ok-push_str.ensures.bytes ∙ ap (λ s. start ++ s) whole in
-    let dot : string_bytes c.push-2.new.self ≡ (start ++ decimal (size / 10000000)) ++ 46 ∷ [] =
-    c.in_ok-push-2.ensures.bytes ∙ ap (λ s. string_bytes c.push_str.new.self ++ s) (c.in_ok-push-2.ensures.ascii (omega arith)) ∙ ap (λ s. s ++ 46 ∷ []) front in
-    let pieces : c.of_string.result ≡ start ++ size_text size = c.of_string.ensures ∙ c.in_ok-push_last_digits.ensures ∙ ap (λ s. s ++ last_digits 7 size) dot ∙ joined_text start size in
-    let signed : start ++ size_text size ≡ e7_text c.args.v = elim c.if-v-lt0.branch [
-      | then-v-lt0+in_ok-push w ↦ (
-          let begun : start ≡ 45 ∷ [] = ap string_bytes w.text-is ∙ w.in_ok-push.ensures.bytes
-          ∙ ap (λ s. string_bytes c.new-text.result ++ s) (w.in_ok-push.ensures.ascii (omega arith)) ∙ ap (λ s. s ++ 45 ∷ []) c.new-text.ensures.bytes in
-          ap (λ s. s ++ size_text size) begun ∙ minus_text c.args.v size abs (search rules))
-      | else-v-lt0 w ↦ (
-          let begun : start ≡ [] = ap string_bytes w.text-is ∙ c.new-text.ensures.bytes in
-          ap (λ s. s ++ size_text size) begun ∙ plus_text c.args.v size abs (search rules))
-    ] in
-    let text : c.of_string.result ≡ e7_text c.args.v = pieces ∙ signed in
+    let v = c.args.v in
+    let fits = c.ranges.v.sfits in
+    let small : unsigned_abs v < 2 ^ 64 = grind (arith, ints) in
+    let text : c.of_string.result ≡ e7_text v =
+    c.of_string.ensures ∙ ap (λ b. b.items) c.from_utf8_unchecked.ensures.value
+    ∙ c.in_ok-put_e7.ensures ∙ ap (λ w. c.new-text.result.items ++ e7_text w) (to_z-of_z w64 v (search rules))
+    ∙ ap (λ s. s ++ e7_text v) c.new-text.ensures.items in
     record {
       ok = text;
-      number = subst IsNumber (sym text) (text_number c.args.v fits);
-      back = subst (ReadsBack c.args.v) (sym text) (text_back c.args.v);
+      number = subst IsNumber (sym text) (text_number v small);
+      back = subst (ReadsBack v) (sym text) (text_back v);
     }
