@@ -131,6 +131,10 @@ impl Search<'_> {
             (length self.now.slots.now) (HasSpot strip.now.spots.items)
             (value_of bound) (value_of next) places.old.items places.new.items) }
     {
+        // (most strips are empty where many labels have one anchor, since few of these are shown)
+        if strip.spots.is_empty() {
+            return Ok(bound);
+        }
         if self.area.is_away(&strip.area, &bound) {
             return Ok(bound);
         }
