@@ -10,6 +10,7 @@ use ml_ratio::Steps;
 use ml_style::Style;
 use std::alloc::{AllocError, Global};
 use std::marker::Brand;
+use std::mem::forget;
 use std::sync::ledger::{Blank, Ledger};
 
 /// Makes a map of so many groups, 1 to 6,000, reads it from its own text, loads it under a style, takes
@@ -51,5 +52,8 @@ fn make_counted<L: Ledger>(
     let mut editor = load_generated(alloc, style, &all)?;
     let order = order_of(alloc, &all, seed)?;
     let each = edit_all(alloc, &mut editor, &order, &mut steps)?;
-    Ok(totals_of(&editor, groups, &each))
+    let totals = totals_of(&editor, groups, &each);
+    // The run ends here, and the system takes back all memory at once.
+    forget(editor);
+    Ok(totals)
 }

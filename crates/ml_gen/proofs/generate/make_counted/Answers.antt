@@ -51,8 +51,8 @@ edit_all-requires g c =
       early = omega (arith, first, order_is, long_again, few);
     }
 
-pub totals_of-requires : goal.totals_of-requires
-totals_of-requires g c =
+pub totals_of-totals-requires : goal.totals_of-totals-requires
+totals_of-totals-requires g c =
     let long_again : length c.deref-2.result.now ≡ c.args.groups = ap (λ (gs : List Group). length gs) (c.deref-2.ensures.value ∙ c.in_ok-all.ensures.groups) ∙ groups_long c.args.groups c.args.seed in
     let in_order : c.deref-3.result.now ≡ order (length c.deref-2.result.now) c.args.seed = c.deref-3.ensures.value ∙ c.in_ok-order.ensures.order in
     let order_is : length c.deref-3.result.now ≡ length c.deref-2.result.now = ap (λ (gs : List Group). length gs) in_order ∙ order_long (length c.deref-2.result.now) c.args.seed in
@@ -77,7 +77,7 @@ returns g c =
           (map goes c.deref-3.result.now ++ map comes c.deref-3.result.now) (turns c.args.groups c.args.seed)
           c.in_ok-each.each.items c.deref-4.result.now c.in_ok-editor.ensures.state.2
           (ap (λ (gs : List Group). map goes gs ++ map comes gs) in_order) (sym c.deref-4.ensures.value) c.in_ok-each.ensures.run;
-      groups = c.totals_of.ensures.groups;
-      numbers = c.totals_of.ensures.numbers;
-      sums = c.totals_of.ensures.sums;
+      groups = c.totals_of-totals.ensures.groups;
+      numbers = c.totals_of-totals.ensures.numbers;
+      sums = c.totals_of-totals.ensures.sums;
     }
