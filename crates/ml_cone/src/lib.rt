@@ -36,7 +36,7 @@ pub use margin::widened;
 pub use order::Order;
 pub use outline::{Outline, last_band};
 pub use overlap::overlaps;
-pub use reach::hull;
+pub use reach::{extent, hull, hull_within};
 pub use same::{are_alike, same_labels, same_spans};
 pub use site::{Site, are_apart};
 pub use slot::{Slot, Span, active};

@@ -31,8 +31,9 @@ fn holding(label: &Label, all: &BoxPx, p: &BoxPx) -> BoxPx
     joined(all, &widened(label, p))
 }
 
-// The least box that holds the anchor and all boxes of the label, widened by its margin.
-pub(crate) fn extent(label: &Label) -> BoxPx
+/// The label's reach: the least box that holds its anchor and all its boxes, each widened by its margin.
+/// It is the same in all bands, so whoever asks for the hulls of many bands computes it once.
+pub fn extent(label: &Label) -> BoxPx
     ensures { result ≡ reach_of label.now }
 {
     let mut all = BoxPx {
@@ -72,12 +73,22 @@ pub fn hull(label: &Label, band: u8) -> Cells
     ensures few_columns { AreFew result.x0 result.x1 }
     ensures few_rows { AreFew result.y0 result.y1 }
 {
-    let all = extent(label);
+    hull_within(label, &extent(label), band)
+}
+
+/// The same as [`hull`], where the label's reach is known already ([`extent`]).
+pub fn hull_within(label: &Label, reach: &BoxPx, band: u8) -> Cells
+    requires reach { reach.now ≡ reach_of label.now }
+    requires low { band ≤ 27 }
+    ensures hull { result ≡ hull_of label.now band }
+    ensures few_columns { AreFew result.x0 result.x1 }
+    ensures few_rows { AreFew result.y0 result.y1 }
+{
     Cells {
         band,
-        x0: column(label.x, all.l, band, band),
-        y0: column(label.y, all.b, band, band),
-        x1: column(label.x, all.r, band, band),
-        y1: column(label.y, all.t, band, band),
+        x0: column(label.x, reach.l, band, band),
+        y0: column(label.y, reach.b, band, band),
+        x1: column(label.x, reach.r, band, band),
+        y1: column(label.y, reach.t, band, band),
     }
 }

@@ -8,6 +8,7 @@ mod Marking
 mod Moved
 mod Near
 mod Partial
+mod Packing
 mod Passes
 mod Places
 mod Placing

@@ -30,6 +30,67 @@ among_at cells h k i low =
     let y = span_in cells.y0 cells.y1 (i % rows) k (mod_below i rows (omega arith)) in
     (x.0, x.1, y.0, y.1)
 
+none_more : (c : ℤ) → (c +ℤ pos 0) ≡ c
+none_more c = omega (arith, ints)
+
+one_more : (c d : ℤ) (n : ℕ) → d ≡ (c +ℤ pos n) → (c +ℤ pos (n + 1)) ≡ (d +ℤ pos 1)
+one_more c d n e = omega (arith, ints)
+
+-- at the first place is the cell of the first column and the first row
+pub first_place : (cells : Cells) → cell_in cells 0 ≡ (record { band = cells.band; x = cells.x0; y = cells.y0 })
+first_place cells =
+    let rows = count_between cells.y0 cells.y1 in
+    let some : 0 < rows = omega arith in
+    let at_x : (cells.x0 +ℤ pos (0 / rows)) ≡ cells.x0 = ap (λ (n : ℕ). cells.x0 +ℤ pos n) (no_rows rows some).0 ∙ none_more cells.x0 in
+    let at_y : (cells.y0 +ℤ pos (0 % rows)) ≡ cells.y0 = ap (λ (n : ℕ). cells.y0 +ℤ pos n) (no_rows rows some).1 ∙ none_more cells.y0 in
+    same_cell _ _ _ _ _ _ refl at_x at_y
+  where
+    no_rows : (rows : ℕ) → 0 < rows → (0 / rows ≡ 0) × (0 % rows ≡ 0)
+    no_rows rows some = (let low = div_below 0 rows 1 some (omega arith) in omega arith, let d = div-add-mod' 0 rows in omega arith)
+
+-- the place behind that of a cell below the last row is the place of the cell above it
+pub place_above : (cells : Cells) (i : ℕ) (c : Cell) → c ≡ cell_in cells i → cells.y0 ≤ℤ cells.y1 → (c.y +ℤ pos 1) ≤ℤ cells.y1 →
+    cell_in cells (i + 1) ≡ (record { band = c.band; x = c.x; y = c.y +ℤ pos 1 })
+place_above cells i c e h low =
+    let rows = count_between cells.y0 cells.y1 in
+    let q = i / rows in
+    let r = i % rows in
+    let x_is : c.x ≡ (cells.x0 +ℤ pos q) = ap (λ (d : Cell). d.x) e in
+    let y_is : c.y ≡ (cells.y0 +ℤ pos r) = ap (λ (d : Cell). d.y) e in
+    let next : r + 1 < rows = row_low cells.y0 cells.y1 c.y r h y_is low in
+    let split : i + 1 ≡ q * rows + (r + 1) = (let d = div-add-mod' i rows in omega arith) in
+    let at_x : (cells.x0 +ℤ pos ((i + 1) / rows)) ≡ c.x = ap (λ (n : ℕ). cells.x0 +ℤ pos (n / rows)) split ∙ ap (λ (n : ℕ). cells.x0 +ℤ pos n) (div-mul-add q rows (r + 1) next) ∙ sym x_is in
+    let at_y : (cells.y0 +ℤ pos ((i + 1) % rows)) ≡ (c.y +ℤ pos 1) =
+    ap (λ (n : ℕ). cells.y0 +ℤ pos (n % rows)) split ∙ ap (λ (n : ℕ). cells.y0 +ℤ pos n) (mod-mul-add q rows (r + 1) next) ∙ one_more cells.y0 c.y r y_is in
+    same_cell _ _ _ _ _ _ (sym (ap (λ (d : Cell). d.band) e)) at_x at_y
+  where
+    row_low : (a b y : ℤ) (r : ℕ) → a ≤ℤ b → y ≡ (a +ℤ pos r) → (y +ℤ pos 1) ≤ℤ b → r + 1 < count_between a b
+    row_low a b y r h e low = omega (arith, ints)
+
+-- the place behind that of a cell of the last row is the place of the first cell of the next column
+pub place_beside : (cells : Cells) (i : ℕ) (c : Cell) → c ≡ cell_in cells i → cells.y0 ≤ℤ cells.y1 → cells.y1 ≤ℤ c.y →
+    cell_in cells (i + 1) ≡ (record { band = c.band; x = c.x +ℤ pos 1; y = cells.y0 })
+place_beside cells i c e h high =
+    let rows = count_between cells.y0 cells.y1 in
+    let q = i / rows in
+    let r = i % rows in
+    let some : 0 < rows = omega arith in
+    let x_is : c.x ≡ (cells.x0 +ℤ pos q) = ap (λ (d : Cell). d.x) e in
+    let y_is : c.y ≡ (cells.y0 +ℤ pos r) = ap (λ (d : Cell). d.y) e in
+    let last : r + 1 ≡ rows = row_last cells.y0 cells.y1 c.y r h y_is high (mod_below i rows some) in
+    let split : i + 1 ≡ (q + 1) * rows + 0 = (let d = div-add-mod' i rows in let m = one_row_more q rows in omega arith) in
+    let at_x : (cells.x0 +ℤ pos ((i + 1) / rows)) ≡ (c.x +ℤ pos 1) =
+    ap (λ (n : ℕ). cells.x0 +ℤ pos (n / rows)) split ∙ ap (λ (n : ℕ). cells.x0 +ℤ pos n) (div-mul-add (q + 1) rows 0 some) ∙ one_more cells.x0 c.x q x_is in
+    let at_y : (cells.y0 +ℤ pos ((i + 1) % rows)) ≡ cells.y0 =
+    ap (λ (n : ℕ). cells.y0 +ℤ pos (n % rows)) split ∙ ap (λ (n : ℕ). cells.y0 +ℤ pos n) (mod-mul-add (q + 1) rows 0 some) ∙ none_more cells.y0 in
+    same_cell _ _ _ _ _ _ (sym (ap (λ (d : Cell). d.band) e)) at_x at_y
+  where
+    row_last : (a b y : ℤ) (r : ℕ) → a ≤ℤ b → y ≡ (a +ℤ pos r) → b ≤ℤ y → r < count_between a b → r + 1 ≡ count_between a b
+    row_last a b y r h e high low = omega (arith, ints)
+
+    one_row_more : (q rows : ℕ) → (q + 1) * rows ≡ q * rows + rows
+    one_row_more q rows = grind arith
+
 -- each cell has a place
 pub place_of_cell : (cells : Cells) (x y : ℤ) → IsAmongCells cells x y → (i : ℕ) × (i < cell_count cells) × (cell_in cells i ≡ (record { band = cells.band; x = x; y = y }))
 place_of_cell cells x y among =

@@ -8,3 +8,5 @@ pub mod Window
 pub mod Near
 pub mod Marks
 pub mod Radix
+pub mod End
+pub mod Packed

@@ -1,9 +1,11 @@
 //! In which bands a label is kept, and in how many cells.
-ghost use Rattle.std.specs.Prelude.{◌≡◌, ◌≤◌, ◌<◌, ◌*◌, ◌+◌, ◌^◌, pos, ◌+ℤ◌, ◌≤ℤ◌};
+ghost use Rattle.std.specs.Prelude.{ℕ, ◌≡◌, ◌≤◌, ◌<◌, ◌*◌, ◌+◌, ◌^◌, pos, ◌+ℤ◌, ◌≤ℤ◌};
+ghost use Rattle.ml_cone.specs.Hull.{reach_of};
 ghost use Rattle.ml_grid.specs.Count.{meets_band, AreUpToNine, count_between, cell_count, cell_in, band_count, entry_count};
+ghost use Rattle.ml_grid.specs.Marks.{IsDigit};
 
 use crate::cell::Cell;
-use ml_cone::{Cells, Label, hull};
+use ml_cone::{BoxPx, Cells, Label, extent, hull_within};
 
 /// How many bands there are: no scale lies above the last.
 pub const BANDS: u8 = 28;
@@ -55,14 +57,48 @@ pub fn cell_at(cells: &Cells, i: usize) -> Cell
     }
 }
 
+/// The first of the cells.
+pub fn first_cell(cells: &Cells) -> Cell
+    ensures { result ≡ cell_in cells.now 0 }
+{
+    Cell {
+        band: cells.band,
+        x: cells.x0,
+        y: cells.y0,
+    }
+}
+
+/// The cell behind this one, column by column, found without a division. Behind the last cell it is one
+/// of the next column, which no mark is made of.
+pub fn cell_after(cells: &Cells, cell: Cell) -> Cell
+    requires rows { cells.now.y0 ≤ℤ cells.now.y1 }
+    requires column { IsDigit cell.x }
+    ensures { (i : ℕ) → cell ≡ cell_in cells.now i → result ≡ cell_in cells.now (i + 1) }
+{
+    if cell.y < cells.y1 {
+        Cell {
+            band: cell.band,
+            x: cell.x,
+            y: cell.y + 1,
+        }
+    } else {
+        Cell {
+            band: cell.band,
+            x: cell.x + 1,
+            y: cells.y0,
+        }
+    }
+}
+
 // How many entries the label has in the band.
-fn entries_in(label: &Label, band: u8) -> usize
-    requires { band < 28 }
+fn entries_in(label: &Label, reach: &BoxPx, band: u8) -> usize
+    requires low { band < 28 }
+    requires reach { reach.now ≡ reach_of label.now }
     ensures count { result ≡ band_count label.now band }
     ensures few { result ≤ 16 }
 {
     if is_kept(label, band) {
-        cells_of(&hull(label, band))
+        cells_of(&hull_within(label, reach, band))
     } else {
         0
     }
@@ -73,9 +109,10 @@ pub fn entries_of(label: &Label) -> usize
     ensures count { result ≡ entry_count label.now }
     ensures few { result ≤ 448 }
 {
+    let reach = extent(label);
     let mut count = 0;
     for band in 0..BANDS {
-        count += entries_in(label, band);
+        count += entries_in(label, &reach, band);
     }
     count
 }

@@ -8,6 +8,7 @@ ghost use Rattle.ml_grid.specs.Column.{IsInColumn, IsInColumnFrom, IsAmongFrom};
 
 use crate::bands::span_len;
 use crate::cell::Cell;
+use crate::end::End;
 use crate::keep::Tree;
 use ml_cone::Cells;
 use ml_ratio::{Ratio, Seq, Steps};
@@ -52,7 +53,7 @@ fn find_column_from(
         (Finds (IsInColumnFrom cells.now x scale.now) tree.now.entries found.old found.new) }
 {
     let (from, to) = column_ends(x, cells);
-    tree.stab(&from, &to, scale, found)
+    tree.stab(&from, &to, &End::of(scale), found)
 }
 
 // Whether an entry in the cells of the column ends at the scale at the earliest.
@@ -60,7 +61,7 @@ fn has_in_column(tree: &Tree, x: i32, cells: &Cells, scale: &Ratio) -> bool
     ensures { IsTrue result ↔ HasEntry (IsInColumnFrom cells.now x scale.now) tree.now.entries }
 {
     let (from, to) = column_ends(x, cells);
-    tree.is_stabbed(&from, &to, scale)
+    tree.is_stabbed(&from, &to, &End::of(scale))
 }
 
 /// Finds the numbers in the cells.

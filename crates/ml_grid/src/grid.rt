@@ -13,6 +13,7 @@ ghost use Rattle.ml_grid.specs.Column.{IsAmongFrom};
 ghost use Rattle.ml_grid.specs.Marks.{marked, end_by};
 
 use crate::bands::entries_of;
+use crate::end::End;
 use crate::find::{append, append_counted, find_cells, find_cells_from, has_in_cells};
 use crate::keep::{Tree, add_all, drop_all, move_all};
 use crate::marks::{Ends, Marks, mark_all};
@@ -172,7 +173,7 @@ impl Grid {
     /// Gives each entry the end that `ends` tells for its label's number, each in its place: for many labels that
     /// costs less than to move one after another. No two entries may be of one cell and one number. It takes no
     /// memory and cannot fail.
-    pub fn renew_ends<F: NextEnd<Ratio, u32>>(&mut self, ends: &F)
+    pub fn renew_ends<F: NextEnd<End, u32>>(&mut self, ends: &F)
         requires { HaveOwnPlaces self.old.entries }
         ensures entries { self.new.entries ≡ map (renewed (F.next ends.now)) self.old.entries }
         ensures spare { self.new.spare ≡ self.old.spare }

@@ -1,6 +1,7 @@
 //! A label's entries, put in, taken out and given another end.
 ghost use Rattle.std.specs.Prelude.{ℕ, ◌≡◌, ◌+◌, ◌<◌, ◌≤◌, ◌≤ℤ◌, ◌↔◌, Contains};
 ghost use Rattle.ml_ratio.specs.declared.ratio.Ratio.{Ratio};
+ghost use Rattle.ml_cone.specs.Hull.{reach_of};
 ghost use Rattle.ml_grid.specs.Count.{AreUpToNine, cell_count, cell_in, band_count, entry_count};
 ghost use Rattle.ml_grid.specs.Entry.{Entry, IsEntryOf, Adds, LosesEntries, Replaces, IsFree, AreEntriesOf};
 ghost use Rattle.ml_grid.specs.Placed.{IsEntryAmong, IsEntryAt};
@@ -8,13 +9,14 @@ ghost use Rattle.ml_spans.specs.Spans.{entry_of};
 
 use crate::bands::{BANDS, cell_at, cells_of, is_kept};
 use crate::cell::Cell;
+use crate::end::End;
 use ml_cone::laws::hulls_are_few;
-use ml_cone::{Cells, Label, hull};
+use ml_cone::{BoxPx, Cells, Label, extent, hull_within};
 use ml_ratio::Ratio;
 use ml_spans::SpanTree;
 
 /// The index below the grid: cells as keys, ends, and the numbers of labels.
-pub type Tree = SpanTree<Cell, Ratio, u32>;
+pub type Tree = SpanTree<Cell, End, u32>;
 
 // Puts in an entry that is not there.
 fn put_in(tree: &mut Tree, number: u32, until: Ratio, cell: Cell)
@@ -23,7 +25,7 @@ fn put_in(tree: &mut Tree, number: u32, until: Ratio, cell: Cell)
     ensures entries { Adds (λ e. e ≡ entry_of cell until number) tree.old.entries tree.new.entries }
     ensures spare { tree.new.spare + 1 ≡ tree.old.spare }
 {
-    tree.insert(cell, until, number);
+    tree.insert(cell, End::of(&until), number);
 }
 
 // Puts in an entry for each of the cells.
@@ -49,7 +51,7 @@ fn take_out(tree: &mut Tree, number: u32, until: Ratio, cell: Cell)
         (λ e. e ≡ entry_of cell until number) tree.old.entries tree.new.entries }
     ensures spare { tree.new.spare ≡ tree.old.spare + 1 }
 {
-    let _there = tree.remove(&cell, &until, &number);
+    let _there = tree.remove(&cell, &End::of(&until), &number);
 }
 
 // Takes out the entry for each of the cells.
@@ -68,8 +70,9 @@ fn drop_cells(tree: &mut Tree, number: u32, until: Ratio, cells: &Cells)
 }
 
 // Puts in the label's entries of the band.
-fn add_band(tree: &mut Tree, number: u32, until: Ratio, label: &Label, band: u8)
+fn add_band(tree: &mut Tree, number: u32, until: Ratio, label: &Label, reach: &BoxPx, band: u8)
     requires low { band < 28 }
+    requires reach { reach.now ≡ reach_of label.now }
     requires room { band_count label.now band ≤ tree.old.spare }
     requires new { (e : Entry) → IsEntryAt number label.now until band e →
         ¬ (Contains tree.old.entries e) }
@@ -79,13 +82,14 @@ fn add_band(tree: &mut Tree, number: u32, until: Ratio, label: &Label, band: u8)
 {
     if is_kept(label, band) {
         hulls_are_few();
-        add_cells(tree, number, until, &hull(label, band));
+        add_cells(tree, number, until, &hull_within(label, reach, band));
     }
 }
 
 // Takes out the label's entries of the band.
-fn drop_band(tree: &mut Tree, number: u32, until: Ratio, label: &Label, band: u8)
+fn drop_band(tree: &mut Tree, number: u32, until: Ratio, label: &Label, reach: &BoxPx, band: u8)
     requires low { band < 28 }
+    requires reach { reach.now ≡ reach_of label.now }
     requires there { (e : Entry) → IsEntryAt number label.now until band e →
         Contains tree.old.entries e }
     ensures entries { LosesEntries
@@ -94,7 +98,7 @@ fn drop_band(tree: &mut Tree, number: u32, until: Ratio, label: &Label, band: u8
 {
     if is_kept(label, band) {
         hulls_are_few();
-        drop_cells(tree, number, until, &hull(label, band));
+        drop_cells(tree, number, until, &hull_within(label, reach, band));
     }
 }
 
@@ -105,8 +109,9 @@ pub fn add_all(tree: &mut Tree, number: u32, until: Ratio, label: &Label)
     ensures entries { Adds (IsEntryOf number label.now until) tree.old.entries tree.new.entries }
     ensures spare { tree.new.spare + entry_count label.now ≡ tree.old.spare }
 {
+    let reach = extent(label);
     for band in 0..BANDS {
-        add_band(tree, number, until, label, band);
+        add_band(tree, number, until, label, &reach, band);
     }
 }
 
@@ -117,8 +122,9 @@ pub fn drop_all(tree: &mut Tree, number: u32, until: Ratio, label: &Label)
         (IsEntryOf number label.now until) tree.old.entries tree.new.entries }
     ensures spare { tree.new.spare ≡ tree.old.spare + entry_count label.now }
 {
+    let reach = extent(label);
     for band in 0..BANDS {
-        drop_band(tree, number, until, label, band);
+        drop_band(tree, number, until, label, &reach, band);
     }
 }
 
@@ -130,7 +136,9 @@ fn move_one(tree: &mut Tree, number: u32, from: &Ratio, to: &Ratio, cell: Cell)
         (λ e. e ≡ entry_of cell to.now number) tree.old.entries tree.new.entries }
     ensures spare { tree.new.spare ≡ tree.old.spare }
 {
-    let _there = tree.set_end(&cell, from, &number, to);
+    let old = End::of(from);
+    let new = End::of(to);
+    let _there = tree.set_end(&cell, &old, &number, &new);
 }
 
 // Gives the entry for each of the cells another end.
@@ -150,8 +158,17 @@ fn move_cells(tree: &mut Tree, number: u32, from: &Ratio, to: &Ratio, cells: &Ce
 }
 
 // Gives the label's entries of the band another end.
-fn move_band(tree: &mut Tree, number: u32, from: &Ratio, to: &Ratio, label: &Label, band: u8)
+fn move_band(
+    tree: &mut Tree,
+    number: u32,
+    from: &Ratio,
+    to: &Ratio,
+    label: &Label,
+    reach: &BoxPx,
+    band: u8,
+)
     requires low { band < 28 }
+    requires reach { reach.now ≡ reach_of label.now }
     requires there { (e : Entry) → IsEntryAt number label.now from.now band e →
         Contains tree.old.entries e }
     requires alone { (e : Entry) → Contains tree.old.entries e →
@@ -162,7 +179,7 @@ fn move_band(tree: &mut Tree, number: u32, from: &Ratio, to: &Ratio, label: &Lab
 {
     if is_kept(label, band) {
         hulls_are_few();
-        move_cells(tree, number, from, to, &hull(label, band));
+        move_cells(tree, number, from, to, &hull_within(label, reach, band));
     }
 }
 
@@ -173,7 +190,8 @@ pub fn move_all(tree: &mut Tree, number: u32, label: &Label, from: &Ratio, to: &
         (IsEntryOf number label.now to.now) tree.old.entries tree.new.entries }
     ensures spare { tree.new.spare ≡ tree.old.spare }
 {
+    let reach = extent(label);
     for band in 0..BANDS {
-        move_band(tree, number, from, to, label, band);
+        move_band(tree, number, from, to, label, &reach, band);
     }
 }

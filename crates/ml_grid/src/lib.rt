@@ -4,7 +4,8 @@
 //! hull. So two labels that overlap at a scale share a cell in that scale's band, and a window meets a
 //! cell of each label that it shows.
 //!
-//! - [`grid`]: the grid itself ([`Grid`]); [`cell`]: a cell as a key of the index below it;
+//! - [`grid`]: the grid itself ([`Grid`]); [`cell`]: a cell as a key of the index below it, and [`end`]: an end in
+//!   it ([`End`]);
 //! - [`laws`]: that no rival and no shown label is missed.
 //!
 //! Within: [`bands`] has the bands in which a label is kept, and in how many cells; [`keep`] puts a
@@ -15,6 +16,7 @@
 
 mod bands;
 pub mod cell;
+pub mod end;
 mod find;
 pub mod grid;
 mod keep;
@@ -24,5 +26,6 @@ mod radix;
 mod window;
 
 pub use cell::Cell;
+pub use end::End;
 pub use grid::Grid;
 pub use marks::{Ends, Marks};

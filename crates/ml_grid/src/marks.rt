@@ -5,17 +5,18 @@
 //! one comparison tells two marks apart: so the marks of many labels take little room, and are put in order
 //! several times as fast as their entries.
 ghost use Rattle.std.specs.Prelude.{◌≡◌, ◌<◌, ◌≤◌, ◌^◌, ◌*◌, ◌+◌, pos, negsuc, ◌+ℤ◌, ◌-ℤ◌, ◌≤ℤ◌, ℕ, OnOk, Contains, slice_index_or};
-ghost use Rattle.ml_cone.specs.Hull.{hull_of};
+ghost use Rattle.ml_cone.specs.Hull.{reach_of};
 ghost use Rattle.ml_spans.specs.Spans.{entry_of};
 ghost use Rattle.ml_grid.specs.Count.{AreUpToNine, cell_in, cell_count};
 ghost use Rattle.ml_grid.specs.Entry.{Entry as GridEntry, IsEntryOf, Adds, IsFree, AreApart};
 ghost use Rattle.ml_grid.specs.Marks.{cell_marked, number_marked, end_by, marked, IsDigit, AreDigits};
 ghost use Rattle.ml_grid.specs.Placed.{IsEntryAmong, IsEntryAt};
 
-use crate::bands::{BANDS, cell_at, cells_of, is_kept};
+use crate::bands::{BANDS, cell_after, cells_of, first_cell, is_kept};
 use crate::cell::Cell;
+use crate::end::End;
 use ml_cone::laws::{hulls_are_few, reach_is_least};
-use ml_cone::{Cells, Label, hull};
+use ml_cone::{BoxPx, Cells, Label, extent, hull_within};
 use ml_ratio::Ratio;
 use ml_spans::{Entry, Reads};
 use std::alloc::AllocError;
@@ -32,17 +33,17 @@ pub struct Ends {
     pub other: Ratio,
 }
 
-impl Reads<u64, Cell, Ratio, u32> for Ends {
+impl Reads<u64, Cell, End, u32> for Ends {
     ghost use Rattle.ml_grid.specs.Marks.{entry_marked};
 
     ghost entry = { entry_marked };
 
-    fn read(&self, mark: &u64) -> Entry<Cell, Ratio, u32> {
+    fn read(&self, mark: &u64) -> Entry<Cell, End, u32> {
         let number = number_of(*mark);
         Entry {
             key: cell_of(*mark),
             value: number,
-            end: end_of(self, number),
+            end: End::of(&end_of(self, number)),
         }
     }
 }
@@ -140,8 +141,10 @@ fn mark_cells(marks: &mut Marks, number: u32, cells: &Cells, ends: &Ends) -> Res
         (Adds (IsEntryAmong number (end_by ends.now number) cells.now (cell_count cells.now))
         (marked ends.now marks.old.items) (marked ends.now marks.new.items)) }
 {
-    for i in 0..cells_of(cells) {
-        mark_one(marks, number, cell_at(cells, i), ends)?;
+    let mut cell = first_cell(cells);
+    for _i in 0..cells_of(cells) {
+        mark_one(marks, number, cell, ends)?;
+        cell = cell_after(cells, cell);
     }
     Ok(())
 }
@@ -151,10 +154,12 @@ fn mark_band(
     marks: &mut Marks,
     number: u32,
     label: &Label,
+    reach: &BoxPx,
     band: u8,
     ends: &Ends,
 ) -> Result<(), AllocError>
     requires low { band < 28 }
+    requires reach { reach.now ≡ reach_of label.now }
     requires number { number < 2 ^ 15 }
     requires apart { AreApart (marked ends.now marks.old.items) }
     requires new { (e : GridEntry) → IsEntryAt number label.now (end_by ends.now number) band e →
@@ -166,7 +171,7 @@ fn mark_band(
     if is_kept(label, band) {
         hulls_are_few();
         reach_is_least();
-        mark_cells(marks, number, &hull(label, band), ends)
+        mark_cells(marks, number, &hull_within(label, reach, band), ends)
     } else {
         Ok(())
     }
@@ -189,8 +194,9 @@ pub fn mark_all(
     ensures entries { OnOk result (Adds (IsEntryOf number label.now (end_by ends.now number))
         (marked ends.now marks.old.items) (marked ends.now marks.new.items)) }
 {
+    let reach = extent(label);
     for band in 0..BANDS {
-        mark_band(marks, number, label, band, ends)?;
+        mark_band(marks, number, label, &reach, band, ends)?;
     }
     Ok(())
 }

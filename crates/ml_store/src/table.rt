@@ -14,7 +14,8 @@ use crate::row::Row;
 use crate::rows::Rows;
 use crate::sorted::by_name;
 use ml_cone::Slot;
-use ml_ratio::{MOST_LABELS, Ratio, Text};
+use ml_grid::End;
+use ml_ratio::{MOST_LABELS, Text};
 use ml_spans::NextEnd;
 use std::alloc::{AllocError, Global};
 use std::marker::Model;
@@ -193,14 +194,14 @@ impl Table {
     }
 }
 
-impl NextEnd<Ratio, u32> for Table {
+impl NextEnd<End, u32> for Table {
     ghost use Rattle.ml_store.specs.Moved.{end_in};
 
     ghost next = { λ table. end_in table.rows };
 
-    fn next_end(&self, number: &u32, end: Ratio) -> Ratio {
+    fn next_end(&self, number: &u32, end: End) -> End {
         match self.rows.find(*number) {
-            Some(row) => row.slot.until,
+            Some(row) => End::of(&row.slot.until),
             None => end,
         }
     }

@@ -11,11 +11,11 @@ use Rattle.ml_grid.proofs.find.find_column_from.Goals as goal
 pub returns : goal.returns
 returns c =
     let ends = c.column_ends.ensures in
-    let test : Entry → Bool = is_stabbed cell_cmp ratio_cmp c.column_ends.result.0 c.column_ends.result.1 c.args.scale.now in
+    let test : Entry → Bool = is_stabbed cell_cmp ratio_cmp c.column_ends.result.0 c.column_ends.result.1 c.of.result in
     record {
       ok = on_ok c.stab.result _ _
           (finds_tested test
           (IsInColumnFrom c.args.cells.now c.args.x c.args.scale.now) c.args.tree.now.entries c.args.found.now c.stab.new.out
-          (λ e. rw (ends.first, ends.last, to_z-of_z w32 c.args.x c.ranges.x) (column_from_tests c.args.cells.now c.args.x c.args.scale.now e)))
+          (λ e. rw (c.of.ensures, ends.first, ends.last, to_z-of_z w32 c.args.x c.ranges.x) (column_from_tests c.args.cells.now c.args.x c.args.scale.now e)))
           c.stab.ensures.members;
     }

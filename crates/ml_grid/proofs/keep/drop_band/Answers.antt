@@ -18,7 +18,7 @@ drop_cells-requires-clause-there c =
     λ i low. c.requires.there (entry_of (cell_in (hull_of a k) i) c.args.until c.args.number)
     ((at_is_placed c.hulls_are_few.ensures c.args.number a c.args.until k c.requires.low (sym c.if-is_kept.ensures)
     (entry_of (cell_in (hull_of a k) i) c.args.until c.args.number)).1 (i, low, refl)) in
-    subst (λ (s : Cells). (i : ℕ) → i < cell_count s → Contains c.args.tree.now.entries (entry_of (cell_in s i) c.args.until c.args.number)) (sym c.hull.ensures.hull) there
+    subst (λ (s : Cells). (i : ℕ) → i < cell_count s → Contains c.args.tree.now.entries (entry_of (cell_in s i) c.args.until c.args.number)) (sym c.hull_within.ensures.hull) there
 
 pub returns-then-is_kept-clause-entries : goal.returns-then-is_kept-clause-entries
 returns-then-is_kept-clause-entries c =
@@ -26,14 +26,14 @@ returns-then-is_kept-clause-entries c =
     let k = c.args.band in
     let h : LosesEntries (IsEntryAmong c.args.number c.args.until (hull_of a k) (cell_count (hull_of a k))) c.args.tree.now.entries c.drop_cells.new.tree.entries =
     subst (λ (s : Cells). LosesEntries (IsEntryAmong c.args.number c.args.until s (cell_count s)) c.args.tree.now.entries c.drop_cells.new.tree.entries)
-    c.hull.ensures.hull c.drop_cells.ensures.entries in
+    c.hull_within.ensures.hull c.drop_cells.ensures.entries in
     drops_same (IsEntryAmong c.args.number c.args.until (hull_of a k) (cell_count (hull_of a k))) (IsEntryAt c.args.number a c.args.until k) c.args.tree.now.entries c.drop_cells.new.tree.entries h
     (at_is_placed c.hulls_are_few.ensures c.args.number a c.args.until k c.requires.low (sym c.if-is_kept.ensures))
 
 pub returns-then-is_kept-clause-spare : goal.returns-then-is_kept-clause-spare
 returns-then-is_kept-clause-spare c =
     let n = count_met c.args.label.now c.args.band (sym c.if-is_kept.ensures) in
-    let m = ap cell_count c.hull.ensures.hull in
+    let m = ap cell_count c.hull_within.ensures.hull in
     let r = c.drop_cells.ensures.spare in omega arith
 
 pub returns-else-is_kept-clause-entries : goal.returns-else-is_kept-clause-entries

@@ -13,11 +13,11 @@ use Rattle.ml_grid.proofs.Reach.{hull_digits, hull_low}
 use Rattle.ml_grid.proofs.marks.mark_band.Goals as goal
 
 pub mark_cells-requires-clause-band : goal.mark_cells-requires-clause-band
-mark_cells-requires-clause-band c = subst (λ (s : Cells). s.band ≤ 27) (sym c.hull.ensures.hull) (hull_low c.args.label.now c.args.band c.requires.low)
+mark_cells-requires-clause-band c = subst (λ (s : Cells). s.band ≤ 27) (sym c.hull_within.ensures.hull) (hull_low c.args.label.now c.args.band c.requires.low)
 
 pub mark_cells-requires-clause-digits : goal.mark_cells-requires-clause-digits
 mark_cells-requires-clause-digits c =
-    subst AreDigits (sym c.hull.ensures.hull) (hull_digits c.args.label.now (c.reach_is_least.ensures c.args.label.now) c.args.band)
+    subst AreDigits (sym c.hull_within.ensures.hull) (hull_digits c.args.label.now (c.reach_is_least.ensures c.args.label.now) c.args.band)
 
 pub mark_cells-requires-clause-new : goal.mark_cells-requires-clause-new
 mark_cells-requires-clause-new c =
@@ -29,7 +29,7 @@ mark_cells-requires-clause-new c =
     ((at_is_placed c.hulls_are_few.ensures c.args.number a (end_by c.args.ends.now c.args.number) k c.requires.low (sym c.if-is_kept.ensures)
     (entry_of (cell_in (hull_of a k) i) (end_by c.args.ends.now c.args.number) c.args.number)).1 (i, low, refl)) in
     subst (λ (s : Cells). (i : ℕ) → i < cell_count s → ¬ (Contains (marked c.args.ends.now c.args.marks.now.items) (entry_of (cell_in s i) (end_by c.args.ends.now c.args.number) c.args.number)))
-    (sym c.hull.ensures.hull) new
+    (sym c.hull_within.ensures.hull) new
 
 pub returns-then-is_kept-clause-entries : goal.returns-then-is_kept-clause-entries
 returns-then-is_kept-clause-entries c =
@@ -40,7 +40,7 @@ returns-then-is_kept-clause-entries c =
     let h : Adds (IsEntryAmong c.args.number (end_by c.args.ends.now c.args.number) (hull_of a k) (cell_count (hull_of a k)))
     (marked c.args.ends.now c.args.marks.now.items) (marked c.args.ends.now c.mark_cells.new.marks.items) =
     subst (λ (s : Cells). Adds (IsEntryAmong c.args.number (end_by c.args.ends.now c.args.number) s (cell_count s))
-    (marked c.args.ends.now c.args.marks.now.items) (marked c.args.ends.now c.mark_cells.new.marks.items)) c.hull.ensures.hull added in
+    (marked c.args.ends.now c.args.marks.now.items) (marked c.args.ends.now c.mark_cells.new.marks.items)) c.hull_within.ensures.hull added in
     adds_same (IsEntryAmong c.args.number (end_by c.args.ends.now c.args.number) (hull_of a k) (cell_count (hull_of a k))) (IsEntryAt c.args.number a
     (end_by c.args.ends.now c.args.number) k) (marked c.args.ends.now c.args.marks.now.items) (marked c.args.ends.now c.mark_cells.new.marks.items) h
     (at_is_placed c.hulls_are_few.ensures c.args.number a (end_by c.args.ends.now c.args.number) k c.requires.low (sym c.if-is_kept.ensures)))

@@ -5,7 +5,7 @@ use Rattle.ml_cone.specs.Cells.{cell_at}
 use Rattle.ml_cone.specs.Hull.{reach_of, hull_of, IsStretch}
 use Rattle.ml_cone.specs.declared.label.BoxPx.{BoxPx}
 use Rattle.ml_cone.proofs.Hulls.{reach_extent, few_columns}
-use Rattle.ml_cone.proofs.reach.hull.Goals as goal
+use Rattle.ml_cone.proofs.reach.hull_within.Goals as goal
 
 -- both ends of a stretch are in reach
 reaches : (l r : ℤ) → IsStretch l r → IsReach l × IsReach r
@@ -22,19 +22,19 @@ column_back x u v r k fx fu fr e d = let h = simp to_z-of_z at e in to_z-of_z w3
 
 pub column-requires-clause-u_in_reach : goal.column-requires-clause-u_in_reach
 column-requires-clause-u_in_reach c =
-    back c.extent-all.result.l (reach_of c.args.label.now).l (search rules) (ap (λ (p : BoxPx). p.l) c.extent-all.ensures) (reaches _ _ (reach_extent c.args.label.now).wide).0
+    back c.args.reach.now.l (reach_of c.args.label.now).l (search rules) (ap (λ (p : BoxPx). p.l) c.requires.reach) (reaches _ _ (reach_extent c.args.label.now).wide).0
 
 pub column-requires-2-clause-u_in_reach : goal.column-requires-2-clause-u_in_reach
 column-requires-2-clause-u_in_reach c =
-    back c.extent-all.result.b (reach_of c.args.label.now).b (search rules) (ap (λ (p : BoxPx). p.b) c.extent-all.ensures) (reaches _ _ (reach_extent c.args.label.now).high).0
+    back c.args.reach.now.b (reach_of c.args.label.now).b (search rules) (ap (λ (p : BoxPx). p.b) c.requires.reach) (reaches _ _ (reach_extent c.args.label.now).high).0
 
 pub column-requires-3-clause-u_in_reach : goal.column-requires-3-clause-u_in_reach
 column-requires-3-clause-u_in_reach c =
-    back c.extent-all.result.r (reach_of c.args.label.now).r (search rules) (ap (λ (p : BoxPx). p.r) c.extent-all.ensures) (reaches _ _ (reach_extent c.args.label.now).wide).1
+    back c.args.reach.now.r (reach_of c.args.label.now).r (search rules) (ap (λ (p : BoxPx). p.r) c.requires.reach) (reaches _ _ (reach_extent c.args.label.now).wide).1
 
 pub column-requires-4-clause-u_in_reach : goal.column-requires-4-clause-u_in_reach
 column-requires-4-clause-u_in_reach c =
-    back c.extent-all.result.t (reach_of c.args.label.now).t (search rules) (ap (λ (p : BoxPx). p.t) c.extent-all.ensures) (reaches _ _ (reach_extent c.args.label.now).high).1
+    back c.args.reach.now.t (reach_of c.args.label.now).t (search rules) (ap (λ (p : BoxPx). p.t) c.requires.reach) (reaches _ _ (reach_extent c.args.label.now).high).1
 
 pub returns-clause-hull : goal.returns-clause-hull
 unfolding hull_of
@@ -42,10 +42,10 @@ returns-clause-hull c =
     let a = c.args.label.now in
     let r = reach_of a in
     let k = c.args.band in
-    let x0 = column_back a.x c.extent-all.result.l r.l c.column.result k (search rules) (search rules) (search rules) c.column.ensures (ap (λ (p : BoxPx). p.l) c.extent-all.ensures) in
-    let y0 = column_back a.y c.extent-all.result.b r.b c.column-2.result k (search rules) (search rules) (search rules) c.column-2.ensures (ap (λ (p : BoxPx). p.b) c.extent-all.ensures) in
-    let x1 = column_back a.x c.extent-all.result.r r.r c.column-3.result k (search rules) (search rules) (search rules) c.column-3.ensures (ap (λ (p : BoxPx). p.r) c.extent-all.ensures) in
-    let y1 = column_back a.y c.extent-all.result.t r.t c.column-4.result k (search rules) (search rules) (search rules) c.column-4.ensures (ap (λ (p : BoxPx). p.t) c.extent-all.ensures) in
+    let x0 = column_back a.x c.args.reach.now.l r.l c.column.result k (search rules) (search rules) (search rules) c.column.ensures (ap (λ (p : BoxPx). p.l) c.requires.reach) in
+    let y0 = column_back a.y c.args.reach.now.b r.b c.column-2.result k (search rules) (search rules) (search rules) c.column-2.ensures (ap (λ (p : BoxPx). p.b) c.requires.reach) in
+    let x1 = column_back a.x c.args.reach.now.r r.r c.column-3.result k (search rules) (search rules) (search rules) c.column-3.ensures (ap (λ (p : BoxPx). p.r) c.requires.reach) in
+    let y1 = column_back a.y c.args.reach.now.t r.t c.column-4.result k (search rules) (search rules) (search rules) c.column-4.ensures (ap (λ (p : BoxPx). p.t) c.requires.reach) in
     rw (x0, y0, x1, y1) refl
 
 pub returns-clause-few_columns : goal.returns-clause-few_columns
@@ -53,8 +53,8 @@ returns-clause-few_columns c =
     let a = c.args.label.now in
     let r = reach_of a in
     let k = c.args.band in
-    let x0 = column_back a.x c.extent-all.result.l r.l c.column.result k (search rules) (search rules) (search rules) c.column.ensures (ap (λ (p : BoxPx). p.l) c.extent-all.ensures) in
-    let x1 = column_back a.x c.extent-all.result.r r.r c.column-3.result k (search rules) (search rules) (search rules) c.column-3.ensures (ap (λ (p : BoxPx). p.r) c.extent-all.ensures) in
+    let x0 = column_back a.x c.args.reach.now.l r.l c.column.result k (search rules) (search rules) (search rules) c.column.ensures (ap (λ (p : BoxPx). p.l) c.requires.reach) in
+    let x1 = column_back a.x c.args.reach.now.r r.r c.column-3.result k (search rules) (search rules) (search rules) c.column-3.ensures (ap (λ (p : BoxPx). p.r) c.requires.reach) in
     rw (x0, x1) (few_columns a.x r.l r.r k (reach_extent a).wide)
 
 pub returns-clause-few_rows : goal.returns-clause-few_rows
@@ -62,6 +62,6 @@ returns-clause-few_rows c =
     let a = c.args.label.now in
     let r = reach_of a in
     let k = c.args.band in
-    let y0 = column_back a.y c.extent-all.result.b r.b c.column-2.result k (search rules) (search rules) (search rules) c.column-2.ensures (ap (λ (p : BoxPx). p.b) c.extent-all.ensures) in
-    let y1 = column_back a.y c.extent-all.result.t r.t c.column-4.result k (search rules) (search rules) (search rules) c.column-4.ensures (ap (λ (p : BoxPx). p.t) c.extent-all.ensures) in
+    let y0 = column_back a.y c.args.reach.now.b r.b c.column-2.result k (search rules) (search rules) (search rules) c.column-2.ensures (ap (λ (p : BoxPx). p.b) c.requires.reach) in
+    let y1 = column_back a.y c.args.reach.now.t r.t c.column-4.result k (search rules) (search rules) (search rules) c.column-4.ensures (ap (λ (p : BoxPx). p.t) c.requires.reach) in
     rw (y0, y1) (few_columns a.y r.b r.t k (reach_extent a).high)

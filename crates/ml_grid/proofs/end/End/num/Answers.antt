@@ -1,0 +1,6 @@
+use Rattle.std.proofs.Common.{ap}
+use Rattle.ml_ratio.specs.declared.ratio.Ratio.{Ratio}
+use Rattle.ml_grid.proofs.end.End.num.Goals as goal
+
+pub returns : goal.returns
+returns c = ap (λ (r : Ratio). r.num) c.self.view_is
