@@ -6,7 +6,8 @@ ghost use Rattle.ml_repair.specs.Moves.{numbers_of};
 ghost use Rattle.ml_repair.specs.Plan.{slot_for};
 ghost use Rattle.ml_repair.specs.Repair.{Stands, ReachesBand, AreReaching, IsClear, AreEnoughFor, AreSifted};
 ghost use Rattle.ml_store.specs.Table.{IsRowAt};
-ghost use Rattle.ml_ratio.specs.Fraction.{value_of, IsLess, IsAtMost};
+ghost use Rattle.ml_ratio.specs.Fraction.{Fraction, value_of, IsLess, IsAtMost};
+ghost use Rattle.ml_conflict.specs.Begin.{SetsNoneUpTo};
 ghost use Rattle.ml_ratio.specs.declared.ratio.Ratio.{Ratio};
 ghost use Rattle.ml_cone.specs.declared.slot.Slot.{Slot};
 
@@ -14,9 +15,10 @@ use crate::chosen::present_slot;
 use crate::moves::Moves;
 use crate::roster::no_places;
 use crate::sought::{Edited, Sought};
-use ml_cone::Label;
+use ml_cone::{Label, Site};
+use ml_conflict::laws::clear_labels;
 use ml_conflict::limit_up_to;
-use ml_ratio::{Ratio, Seq, ascending};
+use ml_ratio::{Quotient, Ratio, Seq, ascending};
 use ml_store::Moved;
 use std::alloc::{AllocError, Global};
 
@@ -99,6 +101,17 @@ fn is_clear(sought: &Sought<'_>, band: u8) -> bool
         .is_clear(sought.low, sought.place, band, (band + 3).min(27), &scale)
 }
 
+// Whether the label is so far from that which is sought that it sets it no limit up to the bound. Its site tells
+// that sooner than its boxes.
+fn is_far(sought: &Sought<'_>, label: &Label, bound: &Ratio) -> bool
+    ensures { IsTrue result → (until : Fraction) →
+        SetsNoneUpTo sought.now.low.now label.now until (value_of bound.now) }
+{
+    clear_labels();
+    let own = &sought.site;
+    own.is_clear(&Site::of(label), Quotient::of_ratio(bound))
+}
+
 // A place comes in where it stands before the label and its label sets a limit up to the bound; that limit
 // is the bound from then on.
 fn sift_one(
@@ -113,6 +126,9 @@ fn sift_one(
 {
     if stands(sought.edited, sought.place, place as usize) {
         let row = sought.roster.row(place as usize);
+        if is_far(sought, &row.label, &bound) {
+            return Ok(bound);
+        }
         let until = present_slot(sought.roster, sought.moves, place as usize).until;
         match limit_up_to(sought.low, &row.label, &until, &bound) {
             Some(limit) => {

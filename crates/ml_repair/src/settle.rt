@@ -11,8 +11,8 @@ use crate::gather::gather;
 use crate::moves::Moves;
 use crate::roster::Roster;
 use crate::sought::{Edited, Sought};
-use ml_cone::Slot;
 use ml_cone::laws::{bound_overlaps, rivals_overlap};
+use ml_cone::{Site, Slot};
 use ml_conflict::evaluate;
 use ml_conflict::laws::{allowed_up_to, blocking, carried, joined, rivals_or_free, smaller_ends};
 use ml_ratio::Steps;
@@ -53,6 +53,7 @@ pub fn settle<L: Ledger>(
         roster,
         moves,
         low,
+        site: Site::of(low),
         edited,
         many,
         place: i,

@@ -53,19 +53,20 @@ fn near_suspects(alloc: Global, roster: &Roster<'_>, label: &Label) -> Result<Se
     Ok(places)
 }
 
-// Whether the label at `k` is a later rival of that at `i`.
-fn is_later_rival(roster: &Roster<'_>, i: usize, k: usize) -> bool
-    requires is_place { i < length roster.now }
+// Whether the label at `k` is a later rival of that at `i`, which is `own`.
+fn is_later_rival(roster: &Roster<'_>, own: &Label, i: usize, k: usize) -> bool
+    requires own { (d : Label) → slice_index_or (labels_in roster.now) i d ≡ own.now }
     requires k_is_place { k < length roster.now }
     ensures { IsTrue result ↔ IsRivalBefore (labels_in roster.now) i k }
 {
-    i < k && are_rivals(&roster.row(k).label, &roster.row(i).label)
+    i < k && are_rivals(&roster.row(k).label, own)
 }
 
-// The label at `k` waits from now on, if it is a later rival of that at `i`. One that waits is not asked.
-fn wake_one(roster: &Roster<'_>, i: usize, k: usize, waiting: &mut Waiting)
+// The label at `k` waits from now on, if it is a later rival of that at `i`, which is `own`. One that waits is
+// not asked.
+fn wake_one(roster: &Roster<'_>, own: &Label, i: usize, k: usize, waiting: &mut Waiting)
     requires one_each { length waiting.old ≡ length roster.now }
-    requires is_place { i < length roster.now }
+    requires own { (d : Label) → slice_index_or (labels_in roster.now) i d ≡ own.now }
     requires k_is_place { k < length roster.now }
     ensures one_each { length waiting.new ≡ length roster.now }
     ensures woken { IsTrue (slice_index_or waiting.new k false) ↔ (IsTrue
@@ -76,7 +77,7 @@ fn wake_one(roster: &Roster<'_>, i: usize, k: usize, waiting: &mut Waiting)
     if waiting.has(k) {
         return;
     }
-    if is_later_rival(roster, i, k) {
+    if is_later_rival(roster, own, i, k) {
         waiting.wake(k);
     }
 }
@@ -90,8 +91,9 @@ fn wake_among(roster: &Roster<'_>, places: &[u32], i: usize, waiting: &mut Waiti
     ensures woken { IsWokenBy (labels_in roster.now) i
         (Contains places.now) waiting.old waiting.new }
 {
+    let own = &roster.row(i).label;
     for place in places {
-        wake_one(roster, i, *place as usize, waiting);
+        wake_one(roster, own, i, *place as usize, waiting);
     }
 }
 
@@ -102,10 +104,11 @@ fn wake_idle(roster: &Roster<'_>, i: usize, waiting: &mut Waiting)
     ensures one_each { length waiting.new ≡ length roster.now }
     ensures woken { AreWoken roster.now i waiting.old waiting.new }
 {
+    let own = &roster.row(i).label;
     let many = waiting.len();
     let mut k = waiting.next_idle(i + 1);
     while k < many {
-        wake_one(roster, i, k, waiting);
+        wake_one(roster, own, i, k, waiting);
         k = waiting.next_idle(k + 1);
     }
 }

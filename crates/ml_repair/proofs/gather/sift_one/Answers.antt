@@ -9,6 +9,10 @@ use Rattle.ml_repair.proofs.gather.sift_one.Goals as goal
 pub returns-else-stands : goal.returns-else-stands
 returns-else-stands c = sifted_apart c.args.sought.now c.args.place c.args.bound c.args.out.now (λ s. let e = c.stands.ensures.1 s in absurd (let no = c.if-stands.false in false≢true (sym no ∙ e)))
 
+pub returns-then-is_far : goal.returns-then-is_far
+returns-then-is_far c =
+    sifted_idle c.args.sought.now c.args.place c.args.bound c.args.out.now (λ d. rw (c.row-row.ensures.label d) (c.is_far.ensures c.if-is_far.true _))
+
 pub returns-in_ok-push-in-Some : goal.returns-in_ok-push-in-Some
 returns-in_ok-push-in-Some c =
     let r = c.row-row.result.now in
