@@ -1,5 +1,5 @@
 -- Tiles that go, and those that stay.
-use Rattle.std.proofs.Common.{◌≡◌, ◌≢◌, ℕ, ◌+◌, ◌<◌, List, [], ◌∷◌, ◌++◌, length, take, get_or, Contains, ◌⊎◌, inl, inr, refl, sym, ap, subst, ◌∙◌, Option, Some, None}
+use Rattle.std.proofs.Common.{◌≡◌, ◌≢◌, ℕ, ◌+◌, ◌<◌, List, [], ◌∷◌, ◌++◌, length, take, get_or, Contains, ◌⊎◌, inl, inr, refl, sym, ap, subst, ◌∙◌, Option, Some, None, arith}
 use Rattle.std.specs.Prelude.{◌↔◌}
 use Rattle.std.proofs.lemmas.List.{take_more}
 use Rattle.ml_cone.specs.declared.label.Label.{Label}
@@ -59,6 +59,14 @@ drops_same P Q old new same drops = record { tiles = loses_same P Q old.tiles ne
 -- by a rule that holds of no tile none goes
 pub drops_none : (P : TileKey → Type 0) (old : Cache) → ((key : TileKey) → ¬ (P key)) → Drops P old old
 drops_none P old none = record { tiles = loses_none P old.tiles none; hits = refl; skips = refl }
+
+loses_of_none : (P : TileKey → Type 0) (old : List HeldTile) → length old ≡ 0 → Loses P old old
+loses_of_none P [] none = refl
+loses_of_none P (tile ∷ old) none = absurd (omega arith)
+
+-- where there are no tiles none goes, whatever the rule
+pub drops_of_none : (P : TileKey → Type 0) (old : Cache) → length old.tiles ≡ 0 → Drops P old old
+drops_of_none P old none = record { tiles = loses_of_none P old.tiles none; hits = refl; skips = refl }
 
 -- where some tiles go by one rule and then some by another, just those go of which either holds
 pub drops_both : (P Q : TileKey → Type 0) (a b c : Cache) → Drops P a b → Drops Q b c → Drops (λ key. P key ⊎ Q key) a c

@@ -36,6 +36,10 @@ fn forget_shown(editor: &Editor, tiles: &mut Tiles, ready: &Ready, id: &Text)
         (rows_after ready.now.work editor.now.engine.rows) ready.now.changes)
         tiles.old tiles.new }
 {
+    // (then the labels of the changes need not be looked up, of which there may be thousands)
+    if tiles.len() == 0 {
+        return;
+    }
     for change in ready.changes().as_slice() {
         forget_change(editor, tiles, ready, id, change);
     }
